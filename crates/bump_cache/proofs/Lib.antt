@@ -1,4 +1,4 @@
-mod Openings
-mod HitLemmas
-mod Keys
-mod Tending
+pub mod PairLemmas
+pub mod Telling
+pub mod Openings
+pub mod HeldLemmas

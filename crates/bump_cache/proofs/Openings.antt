@@ -1,29 +1,36 @@
 -- What a cache is opened with.
-use Rattle.std.proofs.Common.{◌≡◌, ℕ, Bool, List, [], ◌∷◌, Some, None, All, replicate, slice_get, refl, sym, ap, ◌∙◌, subst}
+use Rattle.std.proofs.Common.{◌≡◌, ℕ, List, [], ◌∷◌, Some, None, All, slice_get, refl, sym, ap, ◌∙◌, subst}
 use Rattle.bump_rules.specs.declared.configs.ClassConfig.{ClassConfig}
 use Rattle.bump_rules.specs.declared.configs.Config.{Config}
 use Rattle.bump_class.specs.Books.{BookView, new_book}
 use Rattle.bump_steps.specs.Rule.{class_parts, worker_parts}
 use Rattle.bump_parts.specs.Workers.{worker_parts_of, worker_rings, WorkerState}
 use Rattle.bump_parts.specs.Parting.{new_books}
+use Rattle.cache_readers.specs.Readers.{ReaderView}
 use Rattle.bump_cache.specs.Configs.{IsStoreOf}
 use Rattle.bump_cache.specs.Opening.{CacheBlankView, AreNewReaders, reader_rings}
-use Rattle.bump_cache.specs.Readers.{ReaderView, new_readers}
-use Rattle.cache_index.specs.Tables.{Table}
-use Rattle.cache_shelf.specs.Shelves.{IsShelf}
-use Rattle.cache_shelf.proofs.Shelving.{shelf_new}
+use Rattle.bump_cache.specs.Readers.{new_readers}
 
--- the only Book of a store of one class, and an index of as many chunks, make a Shelf
-pub opened_shelf : {K V : Type 0} (same : K → K → Bool) (books : List BookView) (classes : List ClassConfig)
-    (one : ClassConfig) (fresh workers : ℕ) (book : BookView) (table : Table K V) → classes ≡ one ∷ []
-    → books ≡ new_books (class_parts fresh 0 0 classes) classes workers → slice_get books 0 ≡ Some book
-    → table ≡ replicate one.chunks None → IsShelf same book table
-opened_shelf {K} {V} same books classes one fresh workers book table is made at empty =
+-- the only Book of a store of one class is a new one
+pub one_book : (books : List BookView) (classes : List ClassConfig) (one : ClassConfig) (fresh workers : ℕ)
+    (book : BookView) → classes ≡ one ∷ [] → books ≡ new_books (class_parts fresh 0 0 classes) classes workers
+    → slice_get books 0 ≡ Some book
+    → new_book (record {
+      class = 0;
+      first = 0;
+      count = one.chunks;
+      fresh = fresh;
+      history = [];
+      labels = [];
+      words = [];
+      applying = None;
+      steps = [];
+    }) one workers ≡ book
+one_book books classes one fresh workers book is made at =
     let first = ap (λ cs. slice_get (new_books (class_parts fresh 0 0 cs) cs workers) 0) is in
     let two : Some (new_book (record { class = 0; first = 0; count = one.chunks; fresh = fresh; history = []; labels = []; words = []; applying = None; steps = [] }) one workers) ≡ Some book =
     sym first ∙ (ap (λ bs. slice_get bs 0) (sym made) ∙ at) in
-    let it : new_book (record { class = 0; first = 0; count = one.chunks; fresh = fresh; history = []; labels = []; words = []; applying = None; steps = [] }) one workers ≡ book = cc two in
-    subst (λ b. IsShelf same b table) it (shelf_new same _ table refl refl empty)
+    cc two
 
 -- readers of a new store's workers are new readers of its cache
 pub opened_readers : (view blank : CacheBlankView) (store heads : Config) (workers : List WorkerState)
@@ -37,10 +44,12 @@ opened_readers view blank store heads workers readers same store_of words made n
       store_of = store_of;
       made = made ∙ ap (λ (config : Config). new_readers config workers) words;
       new_workers = new_workers ∙ ap (λ (count : ℕ). worker_parts 0 count) store_of.workers;
-      capacity = subst (λ (most : ℕ). All (λ (worker : WorkerState). worker.sender.capacity ≡ most) workers) store_of.capacity capacity;
+      capacity = subst (λ (most : ℕ). All (λ (worker : WorkerState). worker.sender.capacity ≡ most) workers)
+          store_of.capacity capacity;
     })
 
 -- the readers of workers send into the workers' rings
-pub rings_of_readers : (config : Config) (workers : List WorkerState) → reader_rings (new_readers config workers) ≡ worker_rings workers
+pub rings_of_readers : (config : Config) (workers : List WorkerState)
+    → reader_rings (new_readers config workers) ≡ worker_rings workers
 rings_of_readers config [] = refl
 rings_of_readers config (worker ∷ rest) = ap (λ rings. worker.sender.ring ∷ rings) (rings_of_readers config rest)

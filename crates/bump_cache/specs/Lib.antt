@@ -1,32 +1,36 @@
 pub mod Configs
-pub mod Hits
+pub mod Pairs
+pub mod States
 pub mod Readers
 pub mod Opening
 pub mod Putting
 pub mod Tending
 pub use Rattle.atomic_table.specs.Seated
-pub use Rattle.bump_class.specs.Applications
 pub use Rattle.bump_class.specs.Books
 pub use Rattle.bump_class.specs.Lanes
-pub use Rattle.bump_class.specs.Sweeps
-pub use Rattle.bump_heads.specs.Making
 pub use Rattle.bump_parts.specs.Gets
-pub use Rattle.bump_parts.specs.Holds
 pub use Rattle.bump_parts.specs.Parting
 pub use Rattle.bump_parts.specs.StepCounts
 pub use Rattle.bump_parts.specs.Touches
 pub use Rattle.bump_parts.specs.Workers
 pub use Rattle.bump_ring.specs.Ends
-pub use Rattle.bump_rules.specs.Caches
 pub use Rattle.bump_rules.specs.Configs as RulesConfigs
-pub use Rattle.bump_rules.specs.Lists
 pub use Rattle.bump_rules.specs.Rings
+pub use Rattle.bump_steps.specs.References
 pub use Rattle.bump_steps.specs.Rule
-pub use Rattle.cache_index.specs.Tables
+pub use Rattle.bump_steps.specs.Views
 pub use Rattle.cache_lists.specs.Counts
 pub use Rattle.cache_lists.specs.Items
-pub use Rattle.cache_shelf.specs.Links
-pub use Rattle.cache_lists.specs.Looking
-pub use Rattle.cache_shelf.specs.Refusals
+pub use Rattle.cache_part.specs.Keys
+pub use Rattle.cache_part.specs.Parts
+pub use Rattle.cache_part.specs.Stats
+pub use Rattle.cache_part.specs.Tending as PartTending
+pub use Rattle.cache_readers.specs.Helds
+pub use Rattle.cache_readers.specs.Looks
+pub use Rattle.cache_readers.specs.Readers as WordReaders
+pub use Rattle.cache_shelf.specs.Entries
 pub use Rattle.cache_shelf.specs.Shelves
 pub use Rattle.cache_shelf.specs.Turns
+pub use Rattle.call_log.specs.Blanks
+pub use Rattle.call_log.specs.Calls
+pub use Rattle.call_log.specs.Logs

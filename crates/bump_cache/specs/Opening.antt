@@ -1,44 +1,54 @@
 -- What a cache is opened from, and what it is once it is opened.
-use Rattle.std.specs.Prelude.{◌≡◌, ℕ, List, map, All, None}
+use Rattle.std.specs.Prelude.{◌≡◌, ℕ, List, [], map, replicate, All, None, length}
 use Rattle.atomic_table.specs.Seated.{TableId}
 use Rattle.bump_rules.specs.declared.configs.Config.{Config}
 use Rattle.bump_steps.specs.Rule.{worker_parts}
-use Rattle.bump_parts.specs.Workers.{worker_parts_of, WorkerState}
+use Rattle.bump_class.specs.Books.{new_book}
 use Rattle.bump_class.specs.Lanes.{LaneView}
+use Rattle.bump_parts.specs.Parting.{raw_rings}
+use Rattle.bump_parts.specs.Workers.{worker_parts_of, WorkerState}
 use Rattle.bump_ring.specs.Ends.{Ring}
 use Rattle.bump_heads.specs.Making.{BlankView}
+use Rattle.call_log.specs.Blanks.{BlankView as LogBlankView}
+use Rattle.cache_readers.specs.Readers.{ReaderView}
+use Rattle.cache_lists.specs.Counts.{no_evictions, no_flow}
+use Rattle.cache_shelf.specs.Shelves.{ShelfView}
+use Rattle.cache_shelf.specs.declared.limits.Limits.{Limits}
 use Rattle.bump_cache.specs.declared.config.CacheConfig.{CacheConfig}
-use Rattle.bump_cache.specs.Configs.{first_cache_fault, share_of, IsStoreOf}
-use Rattle.bump_cache.specs.Readers.{ReaderView, new_readers}
+use Rattle.bump_cache.specs.Configs.{first_cache_fault, share_of, class_of, IsStoreOf}
+use Rattle.bump_cache.specs.Readers.{new_readers}
 
--- what contracts see of what a cache is opened from: which table its words are, and its configuration
+-- what contracts see of what a cache is opened from: which table its words are, its log, and its configuration
 pub record CacheBlankView : Type 0 where
   pub table : TableId
+  pub log : LogBlankView
   pub config : CacheConfig
 
--- at most so many items are in HOT, and in WARM
-pub record Limits : Type 0 where
-  pub hot : ℕ
-  pub warm : ℕ
+-- a key and a value take at most so many words together
+abbrev pub most_words : ℕ
+most_words = 64
 
--- the lanes of the readers' rings, and how many bumps each applies at most in one turn
-pub record UpkeepView : Type 0 where
-  pub lanes : List LaneView
-  pub most : ℕ
-
--- the limits of a cache of this configuration
-abbrev pub limits_of : CacheConfig → Limits
-limits_of config = record { hot = share_of config.items config.hot; warm = share_of config.items config.warm }
-
--- the rings into which readers send
-abbrev pub reader_rings : List ReaderView → List Ring
-reader_rings readers = map (λ reader. reader.worker.sender.ring) readers
+-- a cache has at most so many callers
+abbrev pub most_callers : ℕ
+most_callers = 4294967296
 
 -- What a blank of a cache keeps: the words are of a store of its configuration, which has no fault.
 pub record IsCacheBlank (blank : BlankView) (store : Config) (config : CacheConfig) : Type 0 where
   pub words : blank.config ≡ store
   pub store_of : IsStoreOf config store
   pub no_fault : first_cache_fault config ≡ None
+
+-- the limits of a cache of this configuration
+abbrev pub limits_of : CacheConfig → Limits
+limits_of config = record {
+  hot = share_of config.items config.hot;
+  warm = share_of config.items config.warm;
+  most = config.ring;
+}
+
+-- the rings into which readers send
+abbrev pub reader_rings : List ReaderView → List Ring
+reader_rings readers = map (λ reader. reader.worker.sender.ring) readers
 
 -- These are the readers of a cache of this configuration that was just opened: each got nothing yet, and has a worker of
 -- the store that made no step.
@@ -49,3 +59,20 @@ pub record AreNewReaders (config : CacheConfig) (readers : List ReaderView) : Ty
   pub made : readers ≡ new_readers store workers
   pub new_workers : worker_parts_of workers ≡ worker_parts 0 config.readers
   pub capacity : All (λ worker. worker.sender.capacity ≡ config.ring) workers
+
+-- What a cache of this configuration is when it is opened, with keys and values of so many words: no chunk was used yet,
+-- nothing was counted, and its lanes are those of these rings.
+pub record IsNewShelf (config : CacheConfig) (key_width value_width : ℕ) (rings : List Ring) (shelf : ShelfView)
+    : Type 0 where
+  pub chunks : shelf.part.book.part.count ≡ (class_of config).chunks
+  pub unused : shelf.part.book.part.history ≡ []
+  pub index : shelf.part.index ≡ replicate (class_of config).chunks None
+  pub flow : shelf.part.flow ≡ no_flow
+  pub evictions : shelf.part.evictions ≡ no_evictions
+  pub seed : shelf.part.seed ≡ config.seed
+  pub key_words : shelf.part.key_words ≡ key_width
+  pub value_words : shelf.part.value_words ≡ value_width
+  pub items : shelf.part.items ≡ config.items
+  pub limits : shelf.limits ≡ limits_of config
+  pub puts : shelf.puts ≡ 0
+  pub lanes : raw_rings shelf.lanes ≡ rings

@@ -1,31 +1,55 @@
--- What a put answers, by some state of the cache: the one in which it found it.
-use Rattle.std.specs.Prelude.{◌≡◌, ℕ, Bool, IfSome, IfNone}
-use Rattle.bump_rules.specs.Lists.{Lists}
-use Rattle.cache_index.specs.Tables.{without_key, found_in}
-use Rattle.cache_shelf.specs.declared.putting.Put.{Put}
-use Rattle.cache_shelf.specs.declared.putting.Removed.{Removed}
-use Rattle.cache_shelf.specs.Links.{Puts, Refuses}
-use Rattle.cache_shelf.specs.Shelves.{ShelfView, IsShelf}
-use Rattle.cache_shelf.specs.Turns.{ListsWithout, counted_each}
+-- What puts and removals do, by keys and values as words.
+use Rattle.std.specs.Prelude.{◌≡◌, ℕ, Bool, true, false, List, Option, None, Some, is_some, option_map}
+use Rattle.cache_lists.specs.Items.{EndsAt}
+use Rattle.cache_part.specs.Parts.{PartView, IsUnknown}
+use Rattle.cache_shelf.specs.Entries.{FindsNoRoom, Keeps, OnlyReads, PutsEntry}
+use Rattle.cache_shelf.specs.Shelves.{ShelfView}
+use Rattle.cache_shelf.specs.Turns.{PutsInTurn}
+use Rattle.bump_cache.specs.declared.answers.Entry.{Entry}
 
--- It is what a Shelf's put answers, from a lawful state to the next.
-pub record PutsOnce {K V L : Type 0} (same : K → K → Bool) (entry : K × V) (now : ℕ) (put : Put K V L) : Type 0 where
-  pub before : ShelfView K V
-  pub after : ShelfView K V
-  pub lawful : IsShelf same before.book before.index.table
-  pub placed : IfNone put.refused ((lists : Lists)
-      × ListsWithout put.old before.book.lists before.index.table lists
-      × Puts entry now put.evicted.items lists (without_key same entry.0 before.index.table) after.index.table after.book)
-  pub old : IfNone put.refused (put.old ≡ found_in same entry.0 before.index.table)
-  pub refused : IfSome put.refused (λ it. Refuses same entry.0 put.old put.evicted.items before.book.lists
-      before.index.table after.book.lists after.index.table)
-  pub counted : after.evictions.evicted ≡ counted_each put.evicted.items before.evictions.evicted
+-- this value was kept under the key, or nothing
+abbrev pub HadValue : List ℕ → Option (List ℕ) → PartView → Type 0
+HadValue key None part = IsUnknown key part
+HadValue key (Some value) part = Keeps key value part
 
--- It is what a Shelf's removal answers, from a lawful state to the next.
-pub record RemovesOnce {K V L : Type 0} (same : K → K → Bool) (key : K) (removed : Removed K V L) : Type 0 where
-  pub before : ShelfView K V
-  pub after : ShelfView K V
-  pub lawful : IsShelf same before.book before.index.table
-  pub old : removed.old ≡ found_in same key before.index.table
-  pub table : after.index.table ≡ without_key same key before.index.table
-  pub lists : ListsWithout removed.old before.book.lists before.index.table after.book.lists
+-- the words of the key of what was evicted, if something was
+abbrev pub evicted_key : {K V : Type 0} → (K → List ℕ) → Option (Entry K V) → Option (List ℕ)
+evicted_key {K} {V} key_words evicted = option_map (λ (entry : Entry K V). key_words entry.key) evicted
+
+-- What was evicted was kept under its key, and nothing is kept there now.
+abbrev pub WasEvicted : {K V : Type 0} → (K → List ℕ) → (V → List ℕ) → Option (Entry K V) → PartView → PartView
+    → Type 0
+WasEvicted key_words value_words None before after = Unit {0}
+WasEvicted key_words value_words (Some entry) before after =
+    Keeps (key_words entry.key) (value_words entry.value) before × IsUnknown (key_words entry.key) after
+
+-- An item with this row was put, in turn: the key's old item ended, if it had one, and one other was evicted, if one was.
+pub record PutsRow (row : List ℕ) (now : ℕ) (has_old has_evicted : Bool) (before after : ShelfView) : Type 0 where
+  pub old : Option ℕ
+  pub told_old : is_some old ≡ has_old
+  pub evicted : Option ℕ
+  pub told_evicted : is_some evicted ≡ has_evicted
+  pub chunk : ℕ
+  pub puts : PutsInTurn (PutsEntry old evicted row now chunk) now before after
+
+-- No room was found for an item with this key, in turn, for which one other was evicted, if one was.
+pub record RefusesRow (key : List ℕ) (now : ℕ) (has_evicted : Bool) (before after : ShelfView) : Type 0 where
+  pub evicted : Option ℕ
+  pub told_evicted : is_some evicted ≡ has_evicted
+  pub refuses : PutsInTurn (FindsNoRoom key evicted) now before after
+
+-- One item ended, or none and nothing changed but what the class's seat notes of its loads.
+abbrev pub EndsOne : Bool → PartView → PartView → Type 0
+EndsOne true before after = (chunk : ℕ) × EndsAt chunk before.book after.book
+EndsOne false before after = OnlyReads before after
+
+-- Lists and the index of a shelf's part may have changed, and what is counted of them; all else stays.
+abbrev pub with_part : ShelfView → ShelfView → ShelfView
+with_part after before = record before {
+  part = record before.part {
+    book = after.part.book;
+    flow = after.part.flow;
+    evictions = after.part.evictions;
+    index = after.part.index;
+  };
+}

@@ -1,108 +1,115 @@
 //! A cache that threads share.
-ghost use Rattle.std.specs.Prelude.{◌≡◌, ℕ, IfSome, IfOk, true};
-ghost use Rattle.bump_steps.specs.declared.views.ClassPart.{ClassPart as TheClassPart};
-ghost use Rattle.bump_cache.specs.Opening.{Limits as TheLimits};
-ghost use Rattle.bump_cache.specs.Putting.{PutsOnce, RemovesOnce};
-ghost use Rattle.bump_cache.specs.Tending.{TendsOnce, TendsTimes};
-ghost use Rattle.bump_parts.specs.Parting.{raw_rings};
-ghost use Rattle.cache_lists.specs.Counts.{IsFlow, SegmentsAddUp};
-ghost use Rattle.cache_shelf.specs.Refusals.{left_of};
+ghost use Rattle.std.specs.Prelude.{◌≡◌, ℕ, List, ◌<◌, ◌++◌, IfOk, IfErr, None, is_some, option_map};
+ghost use Rattle.bump_steps.specs.Views.{last_word};
+ghost use Rattle.cache_part.specs.Parts.{IsUnknown};
+ghost use Rattle.cache_part.specs.Stats.{stats_of};
+ghost use Rattle.cache_shelf.specs.Entries.{AllKept, Keeps, OthersKept};
+ghost use Rattle.cache_shelf.specs.Turns.{OnlyMoves, TendsShelf};
+ghost use Rattle.call_log.specs.Calls.{MakesOne, OnlyLooks, from_of, to_of};
+ghost use Rattle.bump_cache.specs.Putting.{EndsOne, HadValue, PutsRow, RefusesRow, WasEvicted, evicted_key, with_part};
+ghost use Rattle.bump_cache.specs.Tending.{TendsTimes};
 
-use crate::upkeep::{Upkeep, balance_often, drain};
+use crate::answers::{NoRoom, Put};
+use crate::pairs::Pairs;
+use crate::states::CacheState;
 use bump_heads::Name;
-use cache_index::{Entry, Indexed, Law};
-use cache_shelf::{Put, Removed, Shelf, Stats};
-use std::alloc::{AllocError, Global};
-use std::hash::Hash;
-use std::marker::Model;
+use cache_shelf::Stats;
+use call_log::{Caller, LogName, Logged};
+use packed_words::Packed;
 use std::sync::atomic::{AtomicBool, AtomicU64, Ordering};
 use std::sync::{Mutex, Wait};
 
 /// A cache, which all threads share: whoever changes it waits for its lock, and whoever gets doesn't.
+///
+/// Each thread that changes it has a `Caller` of its own, which has no bytes: by it the contracts say what a call did. What
+/// was there before a call is `from_of` of its caller, and what is there behind it `to_of`: both are what the lock guarded
+/// at that moment, one directly behind the other, and behind all that the caller had seen.
 #[derive(Drop)]
-pub struct Cache<
-    N: Name,
-    K: Eq + Hash + Drop,
-    V: Drop,
-    L: Law<K, V>,
-    I: Indexed<K, V, L> + Drop,
-    R: Wait + Drop,
-> {
-    pub(crate) shelf: Mutex<Shelf<N, K, V, L, I, R>>,
-    // at most so many items are in HOT, and in WARM
-    pub(crate) hot: u32,
-    pub(crate) warm: u32,
+pub struct Cache<N: Name + LogName, K: Packed, V: Packed> {
+    pub(crate) pairs: Mutex<Logged<N, Pairs<N, K, V>, CacheState>>,
 }
 
-impl<
-    N: Name,
-    K: Eq + Hash + Drop,
-    V: Drop,
-    L: Law<K, V>,
-    I: Indexed<K, V, L> + Drop,
-    R: Wait + Drop,
-> Model for Cache<N, K, V, L, I, R> {
-    ghost Value = { TheLimits };
-
-    ghost view = { λ c. record { hot = c.hot; warm = c.warm } };
-}
-
-impl<
-    N: Name,
-    K: Eq + Hash + Drop,
-    V: Drop,
-    L: Law<K, V>,
-    I: Indexed<K, V, L> + Drop,
-    R: Wait + Drop,
-> Cache<N, K, V, L, I, R> {
-    /// Puts a value under a key, as memcached's `set`: it waits until no other thread changes the cache. What the key
-    /// had before ends. Where no chunk is free items are evicted, those first that were in use least. `now` is the
-    /// item's time, in the caller's ticks. It answers what `Shelf::put` tells: where memory is refused, or each chunk is
-    /// held by somebody, the key and the value come back, and what the key had before may have ended.
+impl<N: Name + LogName, K: Packed, V: Packed> Cache<N, K, V> {
+    /// Puts a value under a key, as memcached's `set`: it waits until no other thread changes the cache. `now` is the
+    /// item's time, and that of the bumps which it applies, in the caller's ticks. It asks for no memory.
     ///
-    /// A bump that waits holds its item's chunk, so where such an item is evicted the put evicts a further one. Tend the
-    /// cache often.
-    pub fn put<W: Wait>(&self, alloc: Global, rt: &W, key: K, value: V, now: u64) -> Put<K, V, L>
-        requires law { L.holds key value }
-        ensures refused { IfSome result.refused (λ it. left_of it ≡ (key, value)) }
-        ensures old { IfSome result.old (λ had. K.eq key had.key ≡ true) }
-        ensures once { PutsOnce K.eq (key, value) now result }
+    /// First the bumps that wait are applied, at most 16 of each reader. Where the key has nothing and as many items as
+    /// the configuration says are there, one is evicted: of COLD's last ones those go to WARM that were in use since they
+    /// came there, at most 8; and then COLD's last one ends, or WARM's where COLD is empty, or HOT's. What the key had
+    /// before ends behind the new item's beginning, so a reader finds the one or the other. It is refused, as `NoRoom`,
+    /// exactly where each chunk without an item is held by a reader or a bump that waits; the key keeps what it had.
+    /// Each eighth put looks at the ends of HOT and WARM, as a tend does.
+    pub fn put<W: Wait>(
+        &self,
+        rt: &W,
+        me: &mut Caller<N, CacheState>,
+        key: &K,
+        value: &V,
+        now: u64,
+    ) -> Result<Put<K, V>, NoRoom<K, V>>
+        requires part { 0 < me.old.parts }
+        ensures call { MakesOne me.old me.new }
+        ensures kept { IfOk result (λ did. Keeps (K.as_words key.now) (V.as_words value.now) (to_of me.new).part) }
+        ensures old { IfOk result (λ did. HadValue (K.as_words key.now) (option_map V.as_words did.old)
+            (from_of me.new).part) }
+        ensures evicted { IfOk result (λ did. WasEvicted K.as_words V.as_words did.evicted (from_of me.new).part
+            (to_of me.new).part) }
+        ensures others { IfOk result (λ did. OthersKept (K.as_words key.now) (evicted_key K.as_words did.evicted)
+            (from_of me.new).part (to_of me.new).part) }
+        ensures puts { IfOk result (λ did. PutsRow (K.as_words key.now ++ V.as_words value.now) now (is_some did.old)
+            (is_some did.evicted) (from_of me.new) (to_of me.new)) }
+        ensures evicted_refused { IfErr result (λ why. WasEvicted K.as_words V.as_words why.evicted
+            (from_of me.new).part (to_of me.new).part) }
+        ensures stay { IfErr result (λ why. AllKept (evicted_key K.as_words why.evicted) (from_of me.new).part
+            (to_of me.new).part) }
+        ensures refuses { IfErr result (λ why. RefusesRow (K.as_words key.now) now (is_some why.evicted)
+            (from_of me.new) (to_of me.new)) }
+        ensures same { to_of me.new ≡ record (with_part (to_of me.new) (from_of me.new)) {
+          lanes = (to_of me.new).lanes;
+          puts = (to_of me.new).puts;
+        } }
     {
-        let mut guard = self.shelf.lock(rt);
-        let shelf = &mut *guard;
-        shelf.promise();
-        let put = shelf.put(alloc, rt, Entry::new(key, value), now);
-        shelf.balance(self.hot, self.warm);
+        let mut guard = self.pairs.lock(rt);
+        let logged = &mut *guard;
+        let put = logged.value.put(key, value, now);
+        logged.log.note(rt, me, &logged.value);
         put
     }
 
-    /// Ends the item of the key, if it has one, as memcached's `delete`: it waits until no other thread changes the
-    /// cache. It is refused only for want of memory, and changes nothing then.
-    pub fn remove<W: Wait>(&self, rt: &W, key: &K) -> Result<Removed<K, V, L>, AllocError>
-        ensures old { IfOk result (λ it. IfSome it.old (λ had. K.eq key.now had.key ≡ true)) }
-        ensures once { IfOk result (λ it. RemovesOnce K.eq key.now it) }
+    /// Ends the item of the key, and tells its value, as memcached's `delete`; or None exactly where nothing is under the
+    /// key. It waits until no other thread changes the cache.
+    pub fn remove<W: Wait>(&self, rt: &W, me: &mut Caller<N, CacheState>, key: &K) -> Option<V>
+        requires part { 0 < me.old.parts }
+        ensures call { MakesOne me.old me.new }
+        ensures old { HadValue (K.as_words key.now) (option_map V.as_words result) (from_of me.new).part }
+        ensures gone { IsUnknown (K.as_words key.now) (to_of me.new).part }
+        ensures others { OthersKept (K.as_words key.now) None (from_of me.new).part (to_of me.new).part }
+        ensures ends { EndsOne (is_some result) (from_of me.new).part (to_of me.new).part }
+        ensures same { to_of me.new ≡ with_part (to_of me.new) (from_of me.new) }
     {
-        let mut guard = self.shelf.lock(rt);
-        let shelf = &mut *guard;
-        shelf.promise();
-        shelf.remove(key)
+        let mut guard = self.pairs.lock(rt);
+        let logged = &mut *guard;
+        let old = logged.value.remove(key);
+        logged.log.note(rt, me, &logged.value);
+        old
     }
 
-    /// What memcached's maintainer does: it applies the bumps that the readers queued, frees the chunks of ended items
-    /// that nobody holds any more, and moves the last items of HOT and WARM on where there are too many. It waits until
-    /// no other thread changes the cache. `now` is the time of the bumped items, in the caller's ticks.
-    pub fn tend<W: Wait>(&self, rt: &W, upkeep: &mut Upkeep<N>, now: u64)
-        ensures once { TendsOnce V K.eq self.now.hot self.now.warm now upkeep.old upkeep.new }
-        ensures most { upkeep.new.most ≡ upkeep.old.most }
-        ensures rings { raw_rings upkeep.new.lanes ≡ raw_rings upkeep.old.lanes }
+    /// What memcached's maintainer does: it applies the bumps that the readers queued, at most a ring's room of each;
+    /// frees the chunks of ended items that nobody holds any more; and looks a hundred times at the ends of HOT and WARM,
+    /// and moves their last items on where there are too many. It waits until no other thread changes the cache. `now` is
+    /// the time of the bumped items, in the caller's ticks. The same keys have the same values.
+    pub fn tend<W: Wait>(&self, rt: &W, me: &mut Caller<N, CacheState>, now: u64)
+        requires part { 0 < me.old.parts }
+        ensures call { MakesOne me.old me.new }
+        ensures tends { TendsShelf now (from_of me.new) (to_of me.new) }
+        ensures moves { OnlyMoves (from_of me.new).part (to_of me.new).part }
+        ensures kept { AllKept None (from_of me.new).part (to_of me.new).part }
+        ensures same { to_of me.new ≡ record (from_of me.new) { part = (to_of me.new).part; lanes = (to_of me.new).lanes } }
     {
-        let mut guard = self.shelf.lock(rt);
-        let shelf = &mut *guard;
-        shelf.promise();
-        drain(shelf, upkeep, now);
-        shelf.sweep();
-        balance_often(shelf, self.hot, self.warm);
-        shelf.promise();
+        let mut guard = self.pairs.lock(rt);
+        let logged = &mut *guard;
+        logged.value.tend(now);
+        logged.log.note(rt, me, &logged.value);
     }
 
     /// Tends the cache as `tend` does, again and again until `stop` is set, each time at what `clock` has then: the loop
@@ -110,31 +117,47 @@ impl<
     pub fn tend_until<W: Wait>(
         &self,
         rt: &W,
-        upkeep: &mut Upkeep<N>,
+        me: &mut Caller<N, CacheState>,
         clock: &AtomicU64,
         stop: &AtomicBool,
     )
-        ensures tends { (count : ℕ) × TendsTimes count V K.eq self.now.hot self.now.warm upkeep.old upkeep.new }
-        ensures most { upkeep.new.most ≡ upkeep.old.most }
-        ensures rings { raw_rings upkeep.new.lanes ≡ raw_rings upkeep.old.lanes }
+        requires part { 0 < me.old.parts }
+        ensures tends { (count : ℕ) × TendsTimes count me.old me.new }
+        ensures parts { me.new.parts ≡ me.old.parts }
     {
         for _ in rt.forever() {
             if stop.load(Ordering::SeqCst) {
                 return;
             }
-            self.tend(rt, upkeep, clock.load(Ordering::SeqCst));
+            self.tend(rt, me, clock.load(Ordering::SeqCst));
         }
     }
 
-    /// The statistics, by memcached's names; `CacheReader::hits`, `misses` and `bumps_dropped` tell the rest. It waits
-    /// until no other thread changes the cache. Each count is exact, as far as it goes, and what came into HOT, WARM or
-    /// COLD is there still or went out: both by the history of the cache's class.
-    pub fn stats<W: Wait>(&self, rt: &W) -> Stats
-        ensures { (class : TheClassPart) × IsFlow result.flow class
-            × SegmentsAddUp result.number_hot result.number_warm result.number_cold class }
+    /// Ends each item, as memcached's `flush_all`. It waits until no other thread changes the cache, and looks at each
+    /// chunk once: its time is in proportion to the items that the cache has room for.
+    pub fn clear<W: Wait>(&self, rt: &W, me: &mut Caller<N, CacheState>)
+        requires part { 0 < me.old.parts }
+        ensures call { MakesOne me.old me.new }
+        ensures empty { (key : List ℕ) → IsUnknown key (to_of me.new).part }
+        ensures words { (i c : ℕ) → last_word i (to_of me.new).part.book.part c
+            ≡ last_word i (from_of me.new).part.book.part c }
+        ensures same { to_of me.new ≡ with_part (to_of me.new) (from_of me.new) }
     {
-        let guard = self.shelf.lock(rt);
-        guard.promise();
-        guard.stats()
+        let mut guard = self.pairs.lock(rt);
+        let logged = &mut *guard;
+        logged.value.clear();
+        logged.log.note(rt, me, &logged.value);
+    }
+
+    /// The statistics, by memcached's names, of one moment that isn't before what the caller has seen;
+    /// `CacheReader::hits`, `misses` and `bumps_dropped` tell the rest. It waits until no other thread changes the cache.
+    pub fn stats<W: Wait>(&self, rt: &W, me: &mut Caller<N, CacheState>) -> Stats
+        ensures look { OnlyLooks me.old me.new }
+        ensures stats { result ≡ stats_of (to_of me.new).part }
+    {
+        let mut guard = self.pairs.lock(rt);
+        let logged = &mut *guard;
+        logged.log.show(rt, me);
+        logged.value.stats()
     }
 }

@@ -1,8 +1,9 @@
 //! What a cache is made from.
 ghost use Rattle.std.specs.Prelude.{◌≡◌, ◌≤◌, IfOk, None};
-ghost use Rattle.bump_cache.specs.Configs.{first_cache_fault, share_of, IsStoreOf};
+ghost use Rattle.bump_cache.specs.Configs.{first_cache_fault, share_of, spare_of, IsStoreOf};
 
 use bump_rules::{CACHE_REFS, ClassConfig, Classes, Config, MAX_CAPACITY, MAX_CHUNKS};
+use keyed_hash::Seed;
 use std::alloc::{AllocError, Global};
 use thiserror::Error;
 
@@ -12,6 +13,10 @@ pub enum CacheFault {
     /// The number of items isn't 1 to 1,000,000.
     #[error("the number of items isn't 1 to 1,000,000")]
     Items,
+
+    /// The items and the spare chunks are more than 1,000,000 together.
+    #[error("the items and the spare chunks are more than 1,000,000 together")]
+    Spare,
 
     /// The shares of HOT and WARM are more than 100 percent together.
     #[error("the shares of HOT and WARM are more than 100 percent together")]
@@ -39,12 +44,16 @@ pub enum CacheRefusal {
 }
 
 /// What a cache is made from.
-#[derive(Clone, Copy, Debug, PartialEq, Eq)]
+#[derive(Clone, Copy)]
 pub struct CacheConfig {
     /// At most so many items are in it, 1 to 1,000,000.
     pub items: u32,
 
-    /// At most so many percent of them are in HOT. memcached has 20.
+    /// So many chunks it has beside those of its items, at most 1,000,000 together with them. An item that ended keeps
+    /// its chunk as long as a reader or a bump that waits holds it: where so many are held a put may find no room.
+    pub spare: u32,
+
+    /// At most so many percent of the items are in HOT. memcached has 20.
     pub hot: u32,
 
     /// At most so many percent of them are in WARM. memcached has 40.
@@ -55,6 +64,10 @@ pub struct CacheConfig {
 
     /// Each reader's ring has room for so many bumps, 1 to 65,536.
     pub ring: u32,
+
+    /// The seed of the keys' hashes. Who knows it can choose keys that have one hash, and make each call slow: where
+    /// others choose the keys take `Seed::random`.
+    pub seed: Seed,
 }
 
 // So many percent of the items, and all of them where it is more than 100.
@@ -68,16 +81,28 @@ fn share(items: u32, percent: u32) -> u32
 impl CacheConfig {
     /// That of a cache of so many items, 1 to 1,000,000, and so many readers, 1 to 64, as memcached has it: at most 20
     /// percent of the items are in HOT and 40 in WARM, and a reader's ring has room for 8,192 bumps
-    /// (`LRU_BUMP_BUF_SIZE`).
-    pub fn new(items: u32, readers: u32) -> CacheConfig
-        ensures { result ≡ record { items = items; hot = 20; warm = 40; readers = readers; ring = 8192 } }
+    /// (`LRU_BUMP_BUF_SIZE`). There is a spare chunk for each 64 items and one for each reader, as far as there may be.
+    pub fn new(items: u32, readers: u32, seed: Seed) -> CacheConfig
+        ensures { result ≡ record {
+          items = items;
+          spare = spare_of items readers;
+          hot = 20;
+          warm = 40;
+          readers = readers;
+          ring = 8192;
+          seed = seed;
+        } }
     {
         CacheConfig {
             items,
+            spare: (items / 64)
+                .saturating_add(readers)
+                .min(MAX_CHUNKS.saturating_sub(items)),
             hot: 20,
             warm: 40,
             readers,
             ring: 8_192,
+            seed,
         }
     }
 
@@ -87,6 +112,9 @@ impl CacheConfig {
     {
         if self.items < 1 || self.items > MAX_CHUNKS {
             return Some(CacheFault::Items);
+        }
+        if self.spare > MAX_CHUNKS - self.items {
+            return Some(CacheFault::Spare);
         }
         if self.hot > 100 || self.warm > 100 || self.hot + self.warm > 100 {
             return Some(CacheFault::Shares);
@@ -122,7 +150,7 @@ impl CacheConfig {
         ensures store { IfOk result (λ store. IsStoreOf self.now store) }
     {
         let class = ClassConfig {
-            chunks: self.items,
+            chunks: self.items + self.spare,
             hot: 0,
             warm: 0,
         };

@@ -1,21 +1,29 @@
-//! A cache of keys and values that threads share, over a store: a get waits for nobody.
+//! A cache of keys and values that threads share, over a store: a get waits for nobody. Keys and values lie in the words
+//! of the store's chunks.
 #![tactic(auto)]
 
+mod answers;
 mod blanks;
 mod caches;
 mod config;
+mod law;
 mod opening;
+mod pairs;
 mod readers;
-mod upkeep;
+mod states;
 
+pub use answers::{Entry, NoRoom, Put};
 pub use blanks::CacheBlank;
 pub use bump_heads::Name;
 pub use bump_rules::{Accounts, ClassConfig, Classes, Config};
-pub use cache_index::{AnyPair, Entry, Index, Indexed, Item, Law, Slot};
-pub use cache_lists::Flow;
-pub use cache_shelf::{NotPlaced, Put, Removed, Stats};
+pub use cache_readers::HeldItem;
+pub use cache_shelf::Stats;
 pub use caches::Cache;
+pub use call_log::{Caller, LogName};
 pub use config::{CacheConfig, CacheFault, CacheRefusal};
+pub use keyed_hash::Seed;
+pub use law::{MOST_WORDS, PairLaw};
 pub use opening::{Opened, open};
+pub use packed_words::{Bytes, Packed, TooLong};
 pub use readers::CacheReader;
-pub use upkeep::Upkeep;
+pub use states::CacheState;

@@ -1,154 +1,266 @@
 //! A reader of a cache.
-ghost use Rattle.std.specs.Prelude.{◌≡◌, ◌+◌, min, true, length, IfSome, IfNone};
-ghost use Rattle.std.specs.Arc.{arc_value};
+ghost use Rattle.std.specs.Prelude.{◌≡◌, ◌+◌, ◌≤◌, true, false, length, IfSome, IfNone};
 ghost use Rattle.bump_rules.specs.declared.hands.Hand.TheVariants as hand;
 ghost use Rattle.bump_rules.specs.Rings.{IsAccounts};
-ghost use Rattle.bump_parts.specs.StepCounts.{MakesAtMost};
-ghost use Rattle.bump_cache.specs.Hits.{CacheHits, HitsHeld};
-ghost use Rattle.bump_cache.specs.Readers.{ReaderView as TheReaderView, one_more, new_reader, life_of, dropped_of};
+ghost use Rattle.cache_readers.specs.Helds.{IsSame, hold_of, key_words_of, reader_of};
+ghost use Rattle.cache_readers.specs.Looks.{Finds, FindsNothing, HasWords, Hits, Peeks, Sees};
+ghost use Rattle.cache_readers.specs.Readers.{one_more};
+ghost use Rattle.bump_cache.specs.Opening.{most_words};
+ghost use Rattle.bump_cache.specs.Pairs.{IsPair};
+ghost use Rattle.bump_cache.specs.Readers.{dropped_of};
 
-use bump_heads::{Heads, Name, ReaderHeads};
-use bump_parts::{Hold, Worker};
-use bump_rules::{Accounts, ItemId};
-use cache_index::{IndexReader, Indexed, Item, Law};
-use std::alloc::Global;
-use std::hash::Hash;
-use std::marker::Model;
-use std::sync::Arc;
+use crate::law::{MOST_WORDS, PairLaw};
+use bump_heads::Name;
+use bump_rules::Accounts;
+use cache_readers::{HeldItem, WordReader};
+use keyed_hash::Seed;
+use packed_words::Packed;
+use std::marker::{Model, PhantomData};
 
 /// A reader of a cache, which one thread has at a time.
 #[derive(Drop)]
-pub struct CacheReader<
-    N: Name,
-    K: Eq + Hash + Drop,
-    V: Drop,
-    L: Law<K, V>,
-    I: Indexed<K, V, L> + Drop,
-> {
-    worker: Worker<N>,
-    heads: Arc<Heads<N>, Global>,
-    index: IndexReader<K, V, L, I>,
-    hits: u64,
-    misses: u64,
+pub struct CacheReader<N: Name, K: Packed, V: Packed> {
+    reader: WordReader<N, PairLaw<K, V>>,
+    seed: Seed,
+    of: PhantomData<(K, V)>,
 }
 
-impl<N: Name, K: Eq + Hash + Drop, V: Drop, L: Law<K, V>, I: Indexed<K, V, L> + Drop> Model
-    for CacheReader<N, K, V, L, I> {
-    ghost Value = { TheReaderView };
+impl<N: Name, K: Packed, V: Packed> Model for CacheReader<N, K, V> {
+    ghost use Rattle.std.specs.Prelude.{◌+◌, ◌≤◌};
+    ghost use Rattle.cache_readers.specs.Readers.{ReaderView};
+    ghost use Rattle.bump_cache.specs.Opening.{most_words};
 
-    ghost view = { λ r. record {
-      config = arc_value r.heads;
-      worker = r.worker;
-      hits = r.hits;
-      misses = r.misses;
-    } };
+    ghost Value = { ReaderView };
+
+    ghost view = { λ r. r.reader };
+
+    ghost invariant = { λ r. (K.width + V.width ≤ N.table.slots) × (K.width + V.width ≤ most_words) };
 }
 
-// The item that is held is touched, where it hasn't both marks. Most hits find both set: then the locked step of a touch
-// is saved.
+// Gets a value by a reader of words, with room for the words of the key and of the value.
 #[inline(always)]
-fn hit_held<N: Name>(worker: &mut Worker<N>, heads: &ReaderHeads<N>, hold: &mut Hold<N>, now: u64)
-    ensures hit { HitsHeld heads.now hold.old.life now hold.old worker.old worker.new }
-    ensures few { MakesAtMost 1 8 4 worker.old.part.steps worker.new.part.steps }
-    ensures ring { worker.new.sender.ring ≡ worker.old.sender.ring }
+fn get_by<N: Name, K: Packed, V: Packed>(
+    reader: &mut WordReader<N, PairLaw<K, V>>,
+    seed: Seed,
+    key: &K,
+    words: &mut [u64],
+    value: &mut [u64],
+    now: u64,
+) -> Option<V>
+    requires few { K.width + V.width ≤ N.table.slots }
+    requires words { length words.old ≡ K.width }
+    requires value { length value.old ≡ V.width }
+    ensures found { IfSome result (λ it. Finds (IsPair K.fits K.as_words V.fits V.as_words) reader.old.config
+        (K.as_words key.now) (V.as_words it) now reader.old.worker reader.new.worker) }
+    ensures counted { IfSome result (λ it. reader.new ≡ record reader.old {
+      worker = reader.new.worker;
+      hits = one_more reader.old.hits;
+    }) }
+    ensures nothing { IfNone result (FindsNothing reader.old.config (K.as_words key.now) reader.old.worker
+        reader.new.worker) }
+    ensures missed { IfNone result (reader.new ≡ record reader.old {
+      worker = reader.new.worker;
+      misses = one_more reader.old.misses;
+    }) }
+    ensures ring { reader.new.worker.sender.ring ≡ reader.old.worker.sender.ring }
 {
-    if hold.is_marked(heads) {
-        return;
+    key.pack(words);
+    if !reader.get(seed.hash(words), words, value, now) {
+        return None;
     }
-    let _touch = worker.touch(heads, hold, now);
+    Some(V::unpack(value))
 }
 
-// The item is hit: its hold is taken, it is touched where it hasn't both marks, and the hold is given back.
+// Gets an item by a reader of words and holds it, with room for the words of the key.
 #[inline(always)]
-fn hit<N: Name>(worker: &mut Worker<N>, heads: &ReaderHeads<N>, id: ItemId, now: u64)
-    ensures hit { CacheHits heads.now id now worker.old worker.new }
-    ensures few { MakesAtMost 2 16 4 worker.old.part.steps worker.new.part.steps }
-    ensures ring { worker.new.sender.ring ≡ worker.old.sender.ring }
+fn held_by<'a, N: Name, K: Packed, V: Packed>(
+    reader: &'a mut WordReader<N, PairLaw<K, V>>,
+    seed: Seed,
+    key: &K,
+    words: &mut [u64],
+    now: u64,
+) -> Option<HeldItem<'a, N, PairLaw<K, V>>>
+    requires few { K.width + V.width ≤ N.table.slots }
+    requires words { length words.old ≡ K.width }
+    ensures found { IfSome result (λ held. Hits (IsPair K.fits K.as_words V.fits V.as_words) reader.old.config
+        (K.as_words key.now) now reader.old.worker (reader_of held).worker (hold_of held)) }
+    ensures counted { IfSome result (λ held. reader_of held ≡ record reader.old {
+      worker = (reader_of held).worker;
+      hits = one_more reader.old.hits;
+    }) }
+    ensures value { IfSome result (λ held. (v : V) × V.fits v × HasWords (V.as_words v) (key_words_of held)
+        (hold_of held).row) }
+    ensures key_words { IfSome result (λ held. key_words_of held ≡ K.width) }
+    ensures ring { IfSome result (λ held. (reader_of held).worker.sender.ring ≡ reader.old.worker.sender.ring) }
 {
-    match worker.get(heads, id) {
-        Ok(mut hold) => {
-            hit_held(worker, heads, &mut hold, now);
-            hold.release(heads);
-        }
-        // An item that ended meanwhile can't be held: what was found under its key was put under it all the same.
-        Err(_) => {}
-    }
+    key.pack(words);
+    reader.get_with(seed.hash(words), words, now)
 }
 
-impl<N: Name, K: Eq + Hash + Drop, V: Drop, L: Law<K, V>, I: Indexed<K, V, L> + Drop> CacheReader<
-    N,
-    K,
-    V,
-    L,
-    I,
-> {
-    /// A reader that got nothing yet.
-    pub(crate) fn new(
-        worker: Worker<N>,
-        heads: Arc<Heads<N>, Global>,
-        index: IndexReader<K, V, L, I>,
-    ) -> CacheReader<N, K, V, L, I>
-        ensures { result ≡ new_reader (arc_value heads) worker }
+// Peeks at a value by a reader of words, in the same way.
+#[inline(always)]
+fn peek_by<N: Name, K: Packed, V: Packed>(
+    reader: &mut WordReader<N, PairLaw<K, V>>,
+    seed: Seed,
+    key: &K,
+    words: &mut [u64],
+    value: &mut [u64],
+) -> Option<V>
+    requires few { K.width + V.width ≤ N.table.slots }
+    requires words { length words.old ≡ K.width }
+    requires value { length value.old ≡ V.width }
+    ensures found { IfSome result (λ it. Peeks (IsPair K.fits K.as_words V.fits V.as_words) reader.old.config
+        (K.as_words key.now) (V.as_words it) reader.old.worker reader.new.worker) }
+    ensures nothing { IfNone result (FindsNothing reader.old.config (K.as_words key.now) reader.old.worker
+        reader.new.worker) }
+    ensures uncounted { reader.new ≡ record reader.old { worker = reader.new.worker } }
+    ensures ring { reader.new.worker.sender.ring ≡ reader.old.worker.sender.ring }
+{
+    key.pack(words);
+    if !reader.peek(seed.hash(words), words, value) {
+        return None;
+    }
+    Some(V::unpack(value))
+}
+
+impl<N: Name, K: Packed, V: Packed> CacheReader<N, K, V> {
+    /// A reader by one of words.
+    pub(crate) fn new(reader: WordReader<N, PairLaw<K, V>>, seed: Seed) -> CacheReader<N, K, V>
+        requires few { K.width + V.width ≤ N.table.slots }
+        requires words { K.width + V.width ≤ most_words }
+        ensures { result ≡ reader }
     {
         CacheReader {
-            worker,
-            heads,
-            index,
-            hits: 0,
-            misses: 0,
+            reader,
+            seed,
+            of: PhantomData,
         }
     }
 
-    /// What was put under the key, as memcached's `get`: it stays while the caller has it, whatever becomes of its
-    /// item. `now` is the time that a touch stores, in the caller's ticks. It takes no lock and no memory, and waits
-    /// for nobody. It answers None where the cache has nothing under the key, by what was shown last, and nothing is hit
-    /// then.
+    /// What was put under the key, as memcached's `get`; or None where nothing was found. `now` is the time that a touch
+    /// stores, in the caller's ticks. It takes no lock and no memory, and waits for nobody.
     ///
-    /// What was found is hit: a hold of its item is taken, as `Worker::get` does; where it hasn't both marks it is
-    /// touched, as `Worker::touch` does; and the hold is given back. Where `Worker::get` is refused, as for an item that
-    /// ended meanwhile, the value is answered all the same, and nothing is touched.
+    /// It looks at the chunks to which the index leads for the key's hash. There it takes a hold of the item that is linked
+    /// then, compares its key, and gives the hold back where that is another one. An item with the key is touched, as
+    /// `Worker::touch` does, unless the head by which the hold was taken had both marks: the first get sets FETCHED, the
+    /// second ACTIVE, and in COLD it queues a bump. Its value is what the put of this life stored. Where an item was ended
+    /// by another thread in between it searches anew, at most 1,000 times.
     #[inline(always)]
-    pub fn get(&mut self, key: &K, now: u64) -> Option<Arc<Item<K, V, L>, Global>>
-        ensures key { IfSome result (λ item. K.eq key.now (arc_value item).key ≡ true) }
-        ensures counted { IfSome result (λ item. self.new ≡ record self.old {
+    pub fn get(&mut self, key: &K, now: u64) -> Option<V>
+        ensures found { IfSome result (λ value. Finds (IsPair K.fits K.as_words V.fits V.as_words) self.old.config
+            (K.as_words key.now) (V.as_words value) now self.old.worker self.new.worker) }
+        ensures counted { IfSome result (λ value. self.new ≡ record self.old {
           worker = self.new.worker;
           hits = one_more self.old.hits;
         }) }
-        ensures hit { IfSome result (λ item. CacheHits self.old.config (life_of (arc_value item)) now self.old.worker
+        ensures nothing { IfNone result (FindsNothing self.old.config (K.as_words key.now) self.old.worker
             self.new.worker) }
-        ensures missed { IfNone result (self.new ≡ record self.old { misses = one_more self.old.misses }) }
-        ensures few { MakesAtMost 2 16 4 self.old.worker.part.steps self.new.worker.part.steps }
+        ensures missed { IfNone result (self.new ≡ record self.old {
+          worker = self.new.worker;
+          misses = one_more self.old.misses;
+        }) }
         ensures ring { self.new.worker.sender.ring ≡ self.old.worker.sender.ring }
     {
-        match self.index.find(key) {
-            Some(item) => {
-                let id = ItemId {
-                    chunk: item.chunk(),
-                    generation: item.generation(),
-                };
-                hit(&mut self.worker, &self.heads, id, now);
-                self.hits = self.hits.saturating_add(1);
-                Some(item)
-            }
-            None => {
-                self.misses = self.misses.saturating_add(1);
-                None
-            }
-        }
+        let seed = self.seed;
+        // Arrays, of which as many words are used as the types have: the compiler knows these numbers, and keeps words of
+        // short keys and values in registers.
+        let mut key_row = [0; MOST_WORDS];
+        let mut value_row = [0; MOST_WORDS];
+        let words = &mut key_row[..K::words()];
+        let value = &mut value_row[..V::words()];
+        get_by(&mut self.reader, seed, key, words, value, now)
+    }
+
+    /// What was put under the key, as `get` finds it, but the item is handed out, held, in place of its value: its words
+    /// are read by `HeldItem::word` and `HeldItem::read`, and its value by `CacheReader::value_of`, and stay as they are
+    /// whatever is put, removed or evicted meanwhile. It touches and counts as `get` does. While there is such an item its
+    /// chunk isn't free, and the reader does nothing else; when it is dropped the hold is given back.
+    #[inline(always)]
+    pub fn get_with(&mut self, key: &K, now: u64) -> Option<HeldItem<'_, N, PairLaw<K, V>>>
+        ensures found { IfSome result (λ held. Hits (IsPair K.fits K.as_words V.fits V.as_words) self.old.config
+            (K.as_words key.now) now self.old.worker (reader_of held).worker (hold_of held)) }
+        ensures counted { IfSome result (λ held. reader_of held ≡ record self.old {
+          worker = (reader_of held).worker;
+          hits = one_more self.old.hits;
+        }) }
+        ensures value { IfSome result (λ held. (v : V) × V.fits v × HasWords (V.as_words v) (key_words_of held)
+            (hold_of held).row) }
+        ensures key_words { IfSome result (λ held. key_words_of held ≡ K.width) }
+        ensures ring { IfSome result (λ held. (reader_of held).worker.sender.ring ≡ self.old.worker.sender.ring) }
+        ensures few { K.width + V.width ≤ N.table.slots }
+        ensures most { K.width + V.width ≤ most_words }
+    {
+        let seed = self.seed;
+        let mut key_row = [0; MOST_WORDS];
+        let words = &mut key_row[..K::words()];
+        held_by(&mut self.reader, seed, key, words, now)
+    }
+
+    /// The value of an item that `get_with` handed out. Nothing changes.
+    #[inline(always)]
+    pub fn value_of(held: &mut HeldItem<'_, N, PairLaw<K, V>>) -> V
+        requires few { key_words_of held.old + V.width ≤ N.table.slots }
+        requires most { V.width ≤ most_words }
+        requires value { (v : V) × V.fits v × HasWords (V.as_words v) (key_words_of held.old) (hold_of held.old).row }
+        ensures is { (v : V) → V.fits v → HasWords (V.as_words v) (key_words_of held.old) (hold_of held.old).row
+            → result ≡ v }
+        ensures fits { V.fits result }
+        ensures same { IsSame held.old held.new }
+    {
+        let mut row = [0; MOST_WORDS];
+        let words = &mut row[..V::words()];
+        held.read(words);
+        V::unpack(words)
+    }
+
+    /// What was put under the key, as `get` finds it, but without a touch, and without being counted: so the item may be
+    /// evicted as if nobody had asked.
+    #[inline(always)]
+    pub fn peek(&mut self, key: &K) -> Option<V>
+        ensures found { IfSome result (λ value. Peeks (IsPair K.fits K.as_words V.fits V.as_words) self.old.config
+            (K.as_words key.now) (V.as_words value) self.old.worker self.new.worker) }
+        ensures nothing { IfNone result (FindsNothing self.old.config (K.as_words key.now) self.old.worker
+            self.new.worker) }
+        ensures uncounted { self.new ≡ record self.old { worker = self.new.worker } }
+        ensures ring { self.new.worker.sender.ring ≡ self.old.worker.sender.ring }
+    {
+        let seed = self.seed;
+        let mut key_row = [0; MOST_WORDS];
+        let mut value_row = [0; MOST_WORDS];
+        let words = &mut key_row[..K::words()];
+        let value = &mut value_row[..V::words()];
+        peek_by(&mut self.reader, seed, key, words, value)
+    }
+
+    /// Whether something is under the key: `peek` without the value.
+    #[inline(always)]
+    pub fn contains(&mut self, key: &K) -> bool
+        ensures found { result ≡ true → Sees (IsPair K.fits K.as_words V.fits V.as_words) self.old.config
+            (K.as_words key.now) self.old.worker self.new.worker }
+        ensures nothing { result ≡ false → FindsNothing self.old.config (K.as_words key.now) self.old.worker
+            self.new.worker }
+        ensures uncounted { self.new ≡ record self.old { worker = self.new.worker } }
+        ensures ring { self.new.worker.sender.ring ≡ self.old.worker.sender.ring }
+    {
+        let seed = self.seed;
+        let mut key_row = [0; MOST_WORDS];
+        let words = &mut key_row[..K::words()];
+        key.pack(words);
+        self.reader.contains(seed.hash(words), words)
     }
 
     /// How many gets found something (memcached's `get_hits`), at most 2^64 - 1.
     pub fn hits(&self) -> u64
         ensures { result ≡ self.now.hits }
     {
-        self.hits
+        self.reader.hits()
     }
 
     /// How many gets found nothing (memcached's `get_misses`), at most 2^64 - 1.
     pub fn misses(&self) -> u64
         ensures { result ≡ self.now.misses }
     {
-        self.misses
+        self.reader.misses()
     }
 
     /// Its counts of bumps, as `Worker::counts` tells them: accepted and dropped ones add up to those attempted.
@@ -156,7 +268,7 @@ impl<N: Name, K: Eq + Hash + Drop, V: Drop, L: Law<K, V>, I: Indexed<K, V, L> + 
         ensures counts { result ≡ self.now.worker.part.accounts }
         ensures add_up { IsAccounts result (length self.now.worker.sender.sent) hand.Idle }
     {
-        self.worker.counts()
+        self.reader.bumps()
     }
 
     /// How many bumps of this reader's hits were dropped, since its ring had no room, other threads were faster, or the
@@ -164,7 +276,7 @@ impl<N: Name, K: Eq + Hash + Drop, V: Drop, L: Law<K, V>, I: Indexed<K, V, L> + 
     pub fn bumps_dropped(&self) -> u64
         ensures { result ≡ dropped_of self.now.worker.part.accounts }
     {
-        let counts = self.worker.counts();
+        let counts = self.reader.bumps();
         counts.full + counts.busy + counts.refs
     }
 }

@@ -2,8 +2,15 @@
 use access_logs::Format;
 use clap::error::ErrorKind;
 use clap::{Arg, ArgAction, ArgMatches, Command, Error, value_parser};
-use replay_runs::{CacheConfig, Plan};
+use replay_runs::{CacheConfig, Plan, Seed};
 use std::alloc::{AllocError, Global};
+
+// The seed of the keys' hashes. It is always the same, so a run can be repeated: a log is a file, and what is hashed are
+// the numbers of its keys, so nobody can make calls slow by the keys that he chooses.
+const SEED: Seed = Seed {
+    first: 0x243f_6a88_85a3_08d3,
+    second: 0x9e37_79b9_7f4a_7c15,
+};
 
 /// What the words ask for.
 #[derive(Drop)]
@@ -23,8 +30,11 @@ pub struct Options<'a> {
     /// The largest size of each class in bytes, ascending. There are none where all items are of one class.
     pub classes: Vec<u32>,
 
-    /// How a cache is run, but for how many items it has.
+    /// How a cache is run, but for how many items and spare chunks it has.
     pub plan: Plan,
+
+    /// How many spare chunks a cache has, if that is said: else as many as `CacheConfig::new` says.
+    pub spare: Option<u32>,
 
     /// Whether an LRU is compared.
     pub has_lru: bool,
@@ -122,8 +132,14 @@ fn with_keeping<'a>(alloc: Global, command: Command<'a>) -> Result<Command<'a>, 
         .value_delimiter(',')
         .requires_arg("sizes")?
         .help("The largest item of each class, ascending; a class is a cache of its own");
+    let spare = Arg::new(alloc, "spare")
+        .long("spare")
+        .value_name("CHUNKS")
+        .value_parser(value_parser!(u32))
+        .help("Chunks beside those of the items [default: one for each 64 items and each reader]");
     command
         .arg(items)?
+        .arg(spare)?
         .arg(classes)?
         .arg(number_arg(alloc, "hot", "PERCENT", "20", "The share of HOT"))?
         .arg(number_arg(alloc, "warm", "PERCENT", "40", "The share of WARM"))?
@@ -176,7 +192,9 @@ fn with_telling<'a>(alloc: Global, command: Command<'a>) -> Result<Command<'a>, 
 }
 
 fn command<'a>(alloc: Global) -> Result<Command<'a>, AllocError> {
-    let bare = Command::new(alloc, "bump_replay").about("Runs an access log through caches");
+    let bare = Command::new(alloc, "bump_replay").about(
+        "Runs an access log through caches, whose hashes have the same seed each time",
+    );
     let reading = with_reading(alloc, bare)?;
     let keeping = with_keeping(alloc, reading)?;
     with_telling(alloc, keeping)
@@ -209,10 +227,12 @@ fn plan_of(matches: &ArgMatches<'_>) -> Plan {
     Plan {
         config: CacheConfig {
             items: 0,
+            spare: 0,
             hot: number_of(matches, "hot"),
             warm: number_of(matches, "warm"),
             readers: number_of(matches, "workers"),
             ring: number_of(matches, "ring"),
+            seed: SEED,
         },
         tend_every: number_of(matches, "drain-every"),
     }
@@ -268,6 +288,7 @@ fn options_of<'a>(alloc: Global, matches: &ArgMatches<'a>) -> Result<Options<'a>
         is_strict: matches.get_flag("strict"),
         classes: numbers_of(alloc, matches, "classes")?,
         plan: plan_of(matches),
+        spare: matches.get_one::<u32>("spare"),
         has_lru: compares(matches, "lru"),
         has_fifo: compares(matches, "fifo"),
         is_json: matches.get_flag("json"),

@@ -1,6 +1,6 @@
 //! A log is run through the caches that the words ask for.
 ghost use Rattle.std.specs.Prelude.{◌≡◌};
-ghost use Rattle.replay_runs.specs.Plans.{with_items};
+ghost use Rattle.replay_runs.specs.Plans.{spare_for, with_items};
 
 use crate::classes::{AccessesByClass, ClassAccesses, parts_of};
 use crate::options::Options;
@@ -8,7 +8,7 @@ use crate::progress;
 use crate::rows::Row;
 use access_logs::Log;
 use replay_policies::{Policy, Tally};
-use replay_runs::{Plan, ReplayFault};
+use replay_runs::{CacheConfig, Plan, ReplayFault};
 use std::alloc::{AllocError, Global};
 use std::rt::Files;
 use std::sync::Wait;
@@ -40,12 +40,26 @@ fn compared(
     }
 }
 
+// How many spare chunks a cache of so many items has.
+fn spare_of(options: &Options<'_>, items: u32) -> u32
+    ensures { result ≡ spare_for options.now.spare items options.now.plan.config.readers }
+{
+    match options.spare {
+        Some(spare) => spare,
+        None => {
+            let config = options.plan.config;
+            CacheConfig::new(items, config.readers, config.seed).spare
+        }
+    }
+}
+
 /// How a cache of so many items is run.
 pub fn plan_of(options: &Options<'_>, items: u32) -> Plan
-    ensures { result ≡ with_items items options.now.plan }
+    ensures { result ≡ with_items items options.now.spare options.now.plan }
 {
     let mut plan: Plan = options.plan;
     plan.config.items = items;
+    plan.config.spare = spare_of(options, items);
     plan
 }
 

@@ -43,7 +43,7 @@ fn put_flow<R: Print>(rt: &R, row: &Row) -> io::Result<()> {
     put_count(rt, "HOT to COLD", flow.hot_to_cold)?;
     put_count(rt, "WARM to its front", flow.warm_to_warm)?;
     put_count(rt, "WARM to COLD", flow.warm_to_cold)?;
-    put_count(rt, "COLD to WARM, by bumps", flow.cold_to_warm)
+    put_count(rt, "COLD to WARM", flow.cold_to_warm)
 }
 
 // What was evicted.

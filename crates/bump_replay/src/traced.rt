@@ -38,8 +38,8 @@ pub fn trace_of_row<R: AllocGlobal + RandomSource>(
     row: &Row,
 ) -> Result<ReplayTrace, Failure>
     ensures no_fault { IfOk result (λ it. (verdict_of it.text.items).is_fault ≡ false) }
-    ensures accesses { IfOk result (λ it. IsTraceOf (with_items row.now.items options.now.plan) log.now.accesses.items
-        it.text.items) }
+    ensures accesses { IfOk result (λ it. IsTraceOf (with_items row.now.items options.now.spare options.now.plan)
+        log.now.accesses.items it.text.items) }
     ensures hits { IfOk result (λ it. total_hits it.hits ≡ row.now.bump.hits) }
     ensures accepted { IfOk result (λ it. it.hits.queued ≡ row.now.bump.bumps.accepted) }
     ensures full { IfOk result (λ it. it.hits.full ≡ row.now.bump.bumps.full) }

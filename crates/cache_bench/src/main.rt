@@ -1,70 +1,77 @@
-//! Measures what gets and puts of a cache cost, beside those of the kit's `lru` behind a mutex. It prints only when it
-//! is given a word: the name of a workload, or `all`. Behind it may stand of how many threads, and of how many items.
+//! Measures what gets and puts of a cache cost, beside those of the kit's `lru` behind one mutex and behind 16. It
+//! prints only when it is given words: a workload's name, as `cache_get`; by how many threads (1); and of how many
+//! items (100,000).
 #![tactic(auto)]
 
-mod callers;
+mod caches;
+mod lines;
+mod lrus;
+mod memory;
 mod passes;
+mod workloads;
 
-use passes::{CALLS, Calls};
+use lines::{print_bytes, print_times};
+use passes::Passes;
 use std::alloc::{AllocError, Global};
-use std::rt::Clock;
+use std::rt::{Clock, Files};
 use std::sync::Wait;
 use std::thread::Threads;
 use std::{env, io};
+use workloads::{Subject, Work, Workload};
 
 fn number_at(words: &[String], place: usize) -> Option<u32> {
     words.get(place)?.parse::<u32>().ok()
 }
 
-// Prints for machines what the calls of a workload took, where the words ask for it.
-fn measure<R: Threads + Clock + Wait + Print + Copy + Send + Sync>(
+// Makes the passes of a workload, and prints what they took.
+fn measure_times<R: Threads + Clock + Wait + Print + Copy + Send + Sync>(
     rt: R,
     alloc: Global,
-    words: &[String],
-    threads: u32,
     name: &str,
+    workload: Workload,
+    threads: u32,
+    items: u32,
 ) -> io::Result<()> {
-    let are_puts = !name.ends_with("get");
-    let word = words.get(1).map_or("", |word| word.as_str());
-    let wanted = number_at(words, 2).unwrap_or(if are_puts { 1 } else { threads });
-    if wanted != threads || word != "all" && word != name {
-        return Ok(());
-    }
-    let calls = Calls {
+    let passes = Passes {
         rt,
         alloc,
+        work: workload.work,
         threads,
-        items: number_at(words, 3).unwrap_or(100_000),
-        are_puts,
-        are_fresh: name.ends_with("put"),
+        items,
     };
-    let is_lru = name.starts_with("lru");
-    let times = if is_lru {
-        calls.lru_times()
-    } else {
-        calls.cache_times()
+    let times = match workload.subject {
+        Subject::Cache => passes.cache_times(),
+        Subject::Lru => passes.lru_times(1),
+        Subject::Shards => passes.lru_times(16),
     };
-    let (nanos, right) = times.ok_or(AllocError)?;
-    let best = nanos.first().copied().unwrap_or(0) / (CALLS / 10);
-    let middle = nanos.get(nanos.len() / 2).copied().unwrap_or(0) / (CALLS / 10);
-    println!(&rt;
-        "RESULT\tbump\t{name}\t{threads}\t{}.{}\t{}.{}\t\toperations={CALLS} right={right}",
-        best / 10,
-        best % 10,
-        middle / 10,
-        middle % 10,
-    )
+    print_times(&rt, name, threads, &times.ok_or(AllocError)?)
+}
+
+// Prints how many bytes an item takes.
+fn measure_bytes<R: Wait + Print + Files + AllocGlobal + Copy>(
+    rt: R,
+    name: &str,
+    workload: Workload,
+    items: u32,
+) -> io::Result<()> {
+    let grown = match workload.subject {
+        Subject::Cache => caches::grown_by_cache(&rt, items)?,
+        Subject::Lru => lrus::grown_by_lru(rt, items, 1)?,
+        Subject::Shards => lrus::grown_by_lru(rt, items, 16)?,
+    };
+    print_bytes(&rt, name, items, grown)
 }
 
 fn main(rt: HostRuntime) -> io::Result<()> {
     let words = env::args(&rt)?.collect::<Vec<String>>(rt.alloc())?;
-    for threads in [1, 2, 4] {
-        measure(&rt, rt.alloc(), &words, threads, "cache_get")?;
-        measure(&rt, rt.alloc(), &words, threads, "lru_get")?;
-        measure(&rt, rt.alloc(), &words, threads, "cache_put")?;
-        measure(&rt, rt.alloc(), &words, threads, "lru_put")?;
-        measure(&rt, rt.alloc(), &words, threads, "cache_put_same")?;
-        measure(&rt, rt.alloc(), &words, threads, "lru_put_same")?;
+    let name = words.get(1).map_or("", |word| word.as_str());
+    let threads = number_at(&words, 2).unwrap_or(1);
+    let items = number_at(&words, 3).unwrap_or(100_000);
+    let Some(workload) = Workload::named(name) else {
+        return Ok(());
+    };
+    if workload.work == Work::Bytes {
+        return measure_bytes(&rt, name, workload, items);
     }
-    Ok(())
+    measure_times(&rt, rt.alloc(), name, workload, threads, items)
 }

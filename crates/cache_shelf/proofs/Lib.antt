@@ -1,2 +1,4 @@
-pub mod Shelving
-pub mod Turning
+pub mod Keeping
+pub mod Putting
+pub mod Moving
+pub mod Removing

@@ -1,40 +1,34 @@
--- Whose turn it was, where items were evicted one after the other.
-use Rattle.std.specs.Prelude.{◌≡◌, ℕ, true, Option, Some, None, List, [], ◌∷◌, ◌++◌, ◌⊎◌}
-use Rattle.bump_rules.specs.Lists.{Lists, all_without}
-use Rattle.cache_index.specs.Tables.{Placed, Table, at_chunk, without_chunk}
-use Rattle.cache_lists.specs.Counts.{more}
-use Rattle.cache_lists.specs.Items.{victim}
-use Rattle.cache_lists.specs.Segments.{SameSegments}
+-- What a put does to a shelf, one after the other.
+use Rattle.std.specs.Prelude.{◌≡◌, ℕ, ◌+◌, ◌<◌, ◌⊎◌}
+use Rattle.cache_lists.specs.Items.{KeepsItems}
+use Rattle.cache_part.specs.Parts.{PartView}
+use Rattle.cache_part.specs.Tending.{BalancesTimes, DrainsEach, Tends}
+use Rattle.cache_shelf.specs.declared.limits.Limits.{Limits}
+use Rattle.cache_shelf.specs.Limits.{put_bumps, put_looks}
+use Rattle.cache_shelf.specs.Shelves.{ShelfView}
 
--- These were evicted, one after the other: each was the one whose turn it was. What its chunk had is told; the chunk
--- has nothing then, and stands in none of the segments. Nothing else in them is moved.
-abbrev pub EvictsInTurn : {K V : Type 0} → List (Placed K V) → Lists → Table K V → Lists → Table K V → Type 0
-EvictsInTurn [] lists table left after = SameSegments lists left × (after ≡ table)
-EvictsInTurn (one ∷ rest) lists table left after = (chunk : ℕ) × (victim lists ≡ Some chunk)
-    × (at_chunk chunk table ≡ Some one)
-    × EvictsInTurn rest (all_without chunk lists) (without_chunk chunk table) left after
+-- the same items are linked, and the index stays: nothing changed but lists and what is counted of them
+pub record OnlyMoves (before after : PartView) : Type 0 where
+  pub items : KeepsItems before.book after.book
+  pub rest : after ≡ record before { book = after.book; flow = after.flow }
 
--- Nothing is evicted, or the one whose turn it is, which is told last.
-abbrev pub MayEvict : {K V : Type 0} → List (Placed K V) → Lists → Table K V → List (Placed K V) → Lists → Table K V
-    → Type 0
-MayEvict {K} {V} told lists table more left after =
-    ((more ≡ told) × SameSegments lists left × (after ≡ table))
-    ⊎ ((one : Placed K V) × (chunk : ℕ) × (victim lists ≡ Some chunk) × (at_chunk chunk table ≡ Some one)
-    × (more ≡ told ++ one ∷ []) × SameSegments (all_without chunk lists) left
-    × (after ≡ without_chunk chunk table))
+-- One more put is counted; and each eighth one looks at the ends of HOT and WARM, as often as there were puts since the
+-- last that did.
+abbrev pub TakesTurn : Limits → ℕ → PartView → PartView → ℕ → Type 0
+TakesTurn limits puts before after left = ((puts + 1 < put_looks) × (after ≡ before) × (left ≡ puts + 1))
+    ⊎ ((puts + 1 ≡ put_looks) × BalancesTimes put_looks limits.hot limits.warm before.book after.book × (left ≡ 0))
 
--- The item that a key had, if it had one, is linked no more, and nothing else is moved.
-abbrev pub ListsWithout : {K V : Type 0} → Option (Placed K V) → Lists → Table K V → Lists → Type 0
-ListsWithout None lists table left = SameSegments lists left
-ListsWithout (Some old) lists table left =
-    (chunk : ℕ) × (at_chunk chunk table ≡ Some old) × SameSegments (all_without chunk lists) left
+-- First the bumps that wait are applied, at most `put_bumps` of each lane; then the part does this; and then the put has
+-- its turn to balance.
+pub record PutsInTurn (Does : PartView → PartView → Type 0) (now : ℕ) (before after : ShelfView) : Type 0 where
+  pub drained : PartView
+  pub drains : DrainsEach put_bumps now before.part.book before.lanes drained.book after.lanes
+  pub moves : OnlyMoves before.part drained
+  pub did : PartView
+  pub does : Does drained did
+  pub turn : TakesTurn before.limits before.puts did after.part after.puts
 
--- a count of evictions, after these were evicted: each is counted once
-abbrev pub counted_each : {K V : Type 0} → List (Placed K V) → ℕ → ℕ
-counted_each [] count = count
-counted_each (one ∷ rest) count = counted_each rest (more true count)
-
--- Nothing is told and none counted, or one is told last and one counted.
-abbrev pub CountsTold : {K V : Type 0} → List (Placed K V) → List (Placed K V) → ℕ → ℕ → Type 0
-CountsTold {K} {V} told longer before after = ((longer ≡ told) × (after ≡ before))
-    ⊎ ((one : Placed K V) × (longer ≡ told ++ one ∷ []) × (after ≡ more true before))
+-- a shelf is tended: its part is, by the shelf's lanes and limits
+abbrev pub TendsShelf : ℕ → ShelfView → ShelfView → Type 0
+TendsShelf now before after = Tends before.limits.most now before.limits.hot before.limits.warm before.part.book
+    before.lanes after.part.book after.lanes

@@ -1,19 +1,14 @@
-//! A cache by one thread: the Book of a store's class, and the index of what its items stand for.
+//! What one lock of a cache guards: its part, the lanes of its readers' rings, and when its lists are balanced. Keys and
+//! values are words here.
 #![tactic(auto)]
 
-mod changing;
-mod draining;
-mod putting;
-mod refusals;
+mod entries;
+mod limits;
 mod shelves;
-mod stats;
+mod turns;
 
-pub use bump_class::{Book, RawLane};
-pub use bump_heads::Name;
-pub use bump_rules::{Applied, Ended, Place, Segment};
-pub use cache_index::{Change, Entry, Home, IndexWriter, Indexed, Item, Law, Slot};
-pub use cache_lists::{CountedBook, Evictions, Flow};
-pub use putting::{Put, Removed};
-pub use refusals::NotPlaced;
+pub use cache_part::{
+    Book, Index, IndexReader, Name, NoRoom, Part, Put, RawLane, RowLaw, Seed, Stats,
+};
+pub use limits::{Limits, PUT_BUMPS, PUT_LOOKS};
 pub use shelves::Shelf;
-pub use stats::Stats;

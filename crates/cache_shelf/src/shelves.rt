@@ -1,130 +1,185 @@
-//! A Shelf: the Book of a class, and which key each of its items has.
-ghost use Rattle.std.specs.Prelude.{◌≡◌, ◌<◌, ◌^◌, true, false, IfSome, IfNone, None, Some, [], replicate, length, slice_get};
-ghost use Rattle.bump_rules.specs.Lists.{list_at};
-ghost use Rattle.cache_index.specs.Tables.{found_in};
-ghost use Rattle.cache_lists.specs.Counts.{IsFlow, SegmentsAddUp, no_flow, no_evictions};
-ghost use Rattle.cache_shelf.specs.Shelves.{ShelfView as TheShelfView, IsShelf};
+//! A shelf: a part, the lanes of its readers' rings, and when its lists are balanced.
+ghost use Rattle.std.specs.Prelude.{◌≡◌, ◌≢◌, ℕ, List, ◌+◌, ◌<◌, ◌≤◌, IfSome, IfNone, IfOk, IfErr, Some, None, [], length, take, drop};
+ghost use Rattle.bump_class.specs.Books.{IsBook};
+ghost use Rattle.bump_class.specs.Links.{MayHave};
+ghost use Rattle.bump_steps.specs.Views.{last_word};
+ghost use Rattle.cache_lists.specs.Counts.{IsFlow, SegmentsAddUp};
+ghost use Rattle.cache_lists.specs.Items.{EndsAt};
+ghost use Rattle.cache_part.specs.Parts.{PartView as ThePartView, IsPart, IsUnknown};
+ghost use Rattle.cache_part.specs.Stats.{stats_of};
+ghost use Rattle.cache_part.specs.Looks.{LooksOnly};
+ghost use Rattle.cache_shelf.specs.Limits.{put_looks};
+ghost use Rattle.cache_shelf.specs.Shelves.{ShelfView as TheShelfView, IsLawful};
+ghost use Rattle.cache_shelf.specs.Entries.{AllKept, Evicted, FindsNoRoom, Had, Keeps, OthersKept, PutsEntry, evicted_key};
+ghost use Rattle.cache_shelf.specs.Turns.{OnlyMoves, PutsInTurn, TendsShelf};
 
-use bump_class::Book;
+use crate::entries::{put_entry, remove_entry};
+use crate::limits::{Limits, PUT_BUMPS};
+use crate::turns::take_turn;
+use bump_class::RawLane;
 use bump_heads::Name;
-use bump_rules::Place;
-use cache_index::{Home, IndexWriter, Indexed, Law};
-use cache_lists::CountedBook;
-use std::hash::Hash;
+use bump_steps::{AnyRow, RowLaw};
+use cache_part::{NoRoom, Part, Put, Stats};
 use std::marker::Model;
-use std::sync::Wait;
 
-/// The items of a class, and the key and the value that each stands for. Each linked item has one, and each key has one
-/// item.
-pub struct Shelf<
-    N: Name,
-    K: Eq + Hash + Drop,
-    V: Drop,
-    L: Law<K, V>,
-    I: Indexed<K, V, L> + Drop,
-    R: Wait + Drop,
-> {
-    /// The Book, which counts how its items go.
-    pub class: CountedBook<N>,
-
-    /// The index, whose table agrees with it.
-    pub index: IndexWriter<K, V, L, I, R>,
+/// A part, the lanes of its readers' rings, and how many puts there were since its lists were balanced. Of each item
+/// that is linked the table's law holds.
+#[derive(Drop)]
+pub struct Shelf<N: Name, L: RowLaw = AnyRow> {
+    part: Part<N, L>,
+    lanes: Vec<RawLane<N, L>>,
+    limits: Limits,
+    puts: u32,
 }
 
-impl<N, K, V, L, I, R> Drop for Shelf<N, K, V, L, I, R>
-where
-    N: Name,
-    K: Eq + Hash + Drop,
-    V: Drop,
-    L: Law<K, V>,
-    I: Indexed<K, V, L> + Drop,
-    R: Wait + Drop,
-{
-    fn drop(self) {
-        let Shelf { class, index } = self;
-        drop(class);
-        drop(index);
-    }
+impl<N: Name, L: RowLaw> Model for Shelf<N, L> {
+    ghost Value = { TheShelfView };
+
+    ghost view = { λ s. record { part = s.part; lanes = s.lanes.items; limits = s.limits; puts = s.puts } };
+
+    ghost invariant = { λ s. IsLawful L.law s.part × (s.puts < put_looks) };
 }
 
-impl<
-    N: Name,
-    K: Eq + Hash + Drop,
-    V: Drop,
-    L: Law<K, V>,
-    I: Indexed<K, V, L> + Drop,
-    R: Wait + Drop,
-> Model for Shelf<N, K, V, L, I, R> {
-    ghost Value = { TheShelfView K V };
-
-    ghost view = { λ s. record {
-      book = s.class.book;
-      index = s.index;
-      flow = s.class.flow;
-      evictions = s.class.evictions;
-    } };
-
-    ghost invariant = { λ s. IsShelf K.eq s.class.book s.index.table };
-}
-
-impl<
-    N: Name,
-    K: Eq + Hash + Drop,
-    V: Drop,
-    L: Law<K, V>,
-    I: Indexed<K, V, L> + Drop,
-    R: Wait + Drop,
-> Shelf<N, K, V, L, I, R> {
-    /// A Shelf of a class that has all chunks from 0 on, no item was linked yet, and an index of as many chunks, each of
-    /// which has nothing.
-    pub fn new(book: Book<N>, index: IndexWriter<K, V, L, I, R>) -> Shelf<N, K, V, L, I, R>
-        requires first { book.part.first ≡ 0 }
-        requires history { book.part.history ≡ [] }
-        requires table { index.table ≡ replicate book.part.count None }
-        ensures { result ≡ record { book = book; index = index; flow = no_flow; evictions = no_evictions } }
+impl<N: Name, L: RowLaw> Shelf<N, L> {
+    /// A shelf of a part that has no items yet, and of the lanes of its readers' rings.
+    pub fn new(part: Part<N, L>, lanes: Vec<RawLane<N, L>>, limits: Limits) -> Shelf<N, L>
+        requires { part.book.part.history ≡ [] }
+        ensures { result ≡ record { part = part; lanes = lanes.items; limits = limits; puts = 0 } }
     {
-        let class = CountedBook::new(book);
-        Shelf { class, index }
+        Shelf {
+            part,
+            lanes,
+            limits,
+            puts: 0,
+        }
     }
 
-    /// How many chunks stand in a list of the Book.
-    pub fn size(&self, place: Place) -> u32
-        ensures { result ≡ length (list_at self.now.book.lists place) }
-    {
-        self.class.size(place)
-    }
-
-    /// What each Shelf keeps: its table agrees with its Book, one to one; each count of its flow is how often the class's
-    /// history has that way; and what came into HOT, WARM or COLD is there still or went out.
+    /// What it keeps: what `Part::promise` tells of its part, and that the table's law holds of each item.
     pub fn promise(&self)
-        ensures items { IsShelf K.eq self.now.book self.now.index.table }
-        ensures flow { IsFlow self.now.flow self.now.book.part }
-        ensures sums { SegmentsAddUp (length self.now.book.lists.hot) (length self.now.book.lists.warm)
-            (length self.now.book.lists.cold) self.now.book.part }
+        ensures part { IsPart self.now.part.seed self.now.part.key_words self.now.part.book.part self.now.part.index }
+        ensures words { self.now.part.key_words + self.now.part.value_words ≤ N.table.slots }
+        ensures lawful { IsLawful L.law self.now.part }
+        ensures book { IsBook self.now.part.book }
+        ensures flow { IsFlow self.now.part.flow self.now.part.book.part }
+        ensures sums { SegmentsAddUp (length self.now.part.book.lists.hot) (length self.now.part.book.lists.warm)
+            (length self.now.part.book.lists.cold) self.now.part.book.part }
+        ensures puts { self.now.puts < put_looks }
     {
-        self.class.promise();
+        self.part.promise();
     }
 
-    /// What the key has, as it was shown last.
-    pub fn home(&self, key: &K) -> Option<Home<'_, K, V, L>>
-        ensures at { IfSome result (λ home. slice_get self.now.index.shown home.chunk ≡ Some (Some home.slot.now)) }
-        ensures key { IfSome result (λ home. K.eq key.now home.slot.now.key ≡ true) }
-        ensures none { IfNone result (found_in K.eq key.now self.now.index.shown ≡ None) }
-    {
-        self.index.home(key)
-    }
-
-    /// Shows readers what each item stands for, and tells whether it did. It doesn't only for want of memory.
-    pub fn show(&mut self) -> bool
-        ensures kept { self.new ≡ record self.old { index = self.new.index } }
-        ensures table { self.new.index.table ≡ self.old.index.table }
-        ensures shown { result ≡ true → self.new.index ≡ record {
-          table = self.old.index.table;
-          shown = self.old.index.table;
-          owes = false;
+    /// Puts an item under its key: its row is the key's words and then the value's. `now` is the time of the item, and of
+    /// the bumps that it applies, in the caller's ticks.
+    ///
+    /// First the bumps that wait are applied, at most `PUT_BUMPS` of each lane. Then the part puts, as `Part::put` does:
+    /// the key's old item ends, and at most one other is evicted. The old item's value is told in `old`, which has as
+    /// many words as a value, and the row of the evicted one in `evicted`, which has as many as a row; where there is none
+    /// these stay. It is refused exactly where no chunk is free then, also of those of ended items that nobody holds any
+    /// more; the key keeps what it had. In the end each eighth put looks at the ends of HOT and WARM, `PUT_LOOKS` times
+    /// each. Under each other key but the evicted one's stays what was there.
+    pub fn put(
+        &mut self,
+        row: &[u64],
+        old: &mut [u64],
+        evicted: &mut [u64],
+        now: u64,
+    ) -> Result<Put, NoRoom>
+        requires words { length row.now ≡ self.old.part.key_words + self.old.part.value_words }
+        requires old { length old.old ≡ self.old.part.value_words }
+        requires evicted { length evicted.old ≡ self.old.part.key_words + self.old.part.value_words }
+        requires law { MayHave L.law 0 row.now }
+        ensures kept { IfOk result (λ did. Keeps (take self.old.part.key_words row.now)
+            (drop self.old.part.key_words row.now) self.new.part) }
+        ensures had { IfOk result (λ did. Had L.law (take self.old.part.key_words row.now) did.old old.old old.new
+            self.old.part) }
+        ensures evicted { IfOk result (λ did. Evicted L.law did.evicted evicted.old evicted.new self.old.part
+            self.new.part) }
+        ensures others { IfOk result (λ did. OthersKept (take self.old.part.key_words row.now)
+            (evicted_key did.evicted self.old.part) self.old.part self.new.part) }
+        ensures puts { IfOk result (λ did. PutsInTurn (PutsEntry did.old did.evicted row.now now did.chunk) now self.old
+            self.new) }
+        ensures evicted_refused { IfErr result (λ why. Evicted L.law why.evicted evicted.old evicted.new self.old.part
+            self.new.part) }
+        ensures stay { IfErr result (λ why. AllKept (evicted_key why.evicted self.old.part) self.old.part
+            self.new.part) }
+        ensures refuses { IfErr result (λ why. PutsInTurn (FindsNoRoom (take self.old.part.key_words row.now)
+            why.evicted) now self.old self.new) }
+        ensures old_stays { IfErr result (λ why. old.new ≡ old.old) }
+        ensures lengths { (length old.new ≡ length old.old) × (length evicted.new ≡ length evicted.old) }
+        ensures same { self.new ≡ record self.old {
+          part = record self.old.part {
+            book = self.new.part.book;
+            flow = self.new.part.flow;
+            evictions = self.new.part.evictions;
+            index = self.new.part.index;
+          };
+          lanes = self.new.lanes;
+          puts = self.new.puts;
         } }
-        ensures unchanged { result ≡ false → self.new.index.shown ≡ self.old.index.shown }
     {
-        self.index.show()
+        self.part.drain(&mut self.lanes, PUT_BUMPS, now);
+        let put = put_entry(&mut self.part, row, old, evicted, now);
+        self.puts = take_turn(&mut self.part, self.limits, self.puts);
+        put
+    }
+
+    /// Ends the item of this key, and tells its chunk, and its value in `old`, which has as many words as a value; or None
+    /// exactly where no item has the key, and then nothing changes but what the class's seat notes of its loads. Under
+    /// each other key stays what was there.
+    pub fn remove(&mut self, key: &[u64], old: &mut [u64]) -> Option<u32>
+        requires key { length key.now ≡ self.old.part.key_words }
+        requires old { length old.old ≡ self.old.part.value_words }
+        ensures had { Had L.law key.now result old.old old.new self.old.part }
+        ensures gone { IsUnknown key.now self.new.part }
+        ensures others { OthersKept key.now None self.old.part self.new.part }
+        ensures ends { IfSome result (λ chunk. EndsAt chunk self.old.part.book self.new.part.book) }
+        ensures looks { IfNone result (LooksOnly self.old.part.book self.new.part.book) }
+        ensures unchanged { IfNone result (self.new.part ≡ record self.old.part { book = self.new.part.book }) }
+        ensures length { length old.new ≡ length old.old }
+        ensures same { self.new ≡ record self.old {
+          part = record self.old.part {
+            book = self.new.part.book;
+            flow = self.new.part.flow;
+            index = self.new.part.index;
+          };
+        } }
+    {
+        remove_entry(&mut self.part, key, old)
+    }
+
+    /// Tends the part, as `Part::tend` does: the bumps that wait are applied, at most as many of each lane as the limits
+    /// say; ended items are swept; and the ends of HOT and WARM are looked at. The same items are linked. `now` is the
+    /// time of the bumped items, in the caller's ticks.
+    pub fn tend(&mut self, now: u64)
+        ensures tends { TendsShelf now self.old self.new }
+        ensures moves { OnlyMoves self.old.part self.new.part }
+        ensures kept { AllKept None self.old.part self.new.part }
+        ensures same { self.new ≡ record self.old { part = self.new.part; lanes = self.new.lanes } }
+    {
+        let limits = self.limits;
+        self.part
+            .tend(&mut self.lanes, limits.most, now, limits.hot, limits.warm);
+    }
+
+    /// Ends each item. It looks at each chunk of the class once.
+    pub fn clear(&mut self)
+        ensures empty { (key : List ℕ) → IsUnknown key self.new.part }
+        ensures words { (i c : ℕ) → last_word i self.new.part.book.part c ≡ last_word i self.old.part.book.part c }
+        ensures same { self.new ≡ record self.old {
+          part = record self.old.part {
+            book = self.new.part.book;
+            flow = self.new.part.flow;
+            index = self.new.part.index;
+          };
+        } }
+    {
+        self.part.clear();
+    }
+
+    /// The statistics of its part, as `Part::stats` tells them.
+    pub fn stats(&self) -> Stats
+        ensures { result ≡ stats_of self.now.part }
+    {
+        self.part.stats()
     }
 }

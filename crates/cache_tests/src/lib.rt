@@ -1,16 +1,26 @@
-//! Tests of a cache: random calls beside a plain map, the order in which items are evicted, refused memory, and readers
-//! on threads.
+//! Tests of a cache: random calls beside a plain map, the order in which items are evicted beside a model of its lists,
+//! puts that find no room, keys of one hash, refused memory, and readers on threads.
 #![tactic(auto)]
 
 #[cfg(test)]
-mod keys;
+mod held_chunks;
+#[cfg(test)]
+mod held_items;
+#[cfg(test)]
+mod lists;
 #[cfg(test)]
 mod model;
+#[cfg(test)]
+mod numbered;
+#[cfg(test)]
+mod one_hash;
 #[cfg(test)]
 mod order;
 #[cfg(test)]
 mod random_calls;
 #[cfg(test)]
 mod refused_memory;
+#[cfg(test)]
+mod stands;
 #[cfg(test)]
 mod threads;

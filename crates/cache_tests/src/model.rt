@@ -1,5 +1,6 @@
 //! A model of a cache: a plain map, and what the calls came to.
-use bump_cache::Stats;
+use crate::numbered::{Numbered, number_of};
+use bump_cache::{NoRoom, Put, Stats};
 use std::alloc::Global;
 use std::collections::HashMap;
 
@@ -11,9 +12,38 @@ struct Had {
     got: bool,
 }
 
+/// What a put told, by the numbers of keys and values.
+#[derive(Clone, Copy)]
+pub struct Told {
+    /// Whether there was room.
+    pub room: bool,
+
+    /// What the key had.
+    pub old: Option<u64>,
+
+    /// The key and the value that were evicted.
+    pub evicted: Option<(u64, u64)>,
+}
+
+/// What a put told.
+pub fn answer_of<K: Numbered, V: Numbered>(put: &Result<Put<K, V>, NoRoom<K, V>>) -> Told {
+    let (room, old, evicted) = match put {
+        Ok(did) => (true, number_of(&did.old), &did.evicted),
+        Err(why) => (false, None, &why.evicted),
+    };
+    let evicted = match evicted {
+        Some(entry) => Some((entry.key.number(), entry.value.number())),
+        None => None,
+    };
+    Told { room, old, evicted }
+}
+
 /// What each key has, and how often calls came to what.
 #[derive(Drop)]
 pub struct Model {
+    alloc: Global,
+    items: usize,
+    chunks: usize,
     map: HashMap<u64, Had>,
     hits: u64,
     misses: u64,
@@ -31,8 +61,8 @@ fn sum(parts: &[u64]) -> u64 {
     all
 }
 
-// Whether what came into HOT, WARM and COLD is there still or went out.
-fn adds_up(stats: &Stats) -> bool {
+/// Whether what came into HOT, WARM and COLD is there still or went out.
+pub fn adds_up(stats: &Stats) -> bool {
     let flow = stats.flow;
     let hot = sum(&[
         u64::from(stats.number_hot),
@@ -55,10 +85,23 @@ fn adds_up(stats: &Stats) -> bool {
         && cold == sum(&[flow.hot_to_cold, flow.warm_to_cold])
 }
 
+/// How many items there are.
+pub fn items_in(stats: &Stats) -> u64 {
+    sum(&[
+        u64::from(stats.number_hot),
+        u64::from(stats.number_warm),
+        u64::from(stats.number_cold),
+    ])
+}
+
 impl Model {
-    /// No key has anything.
-    pub fn new(alloc: Global) -> Model {
+    /// No key has anything, in a cache of so many items and so many chunks beside those. No bump may wait there behind
+    /// the beginning of a put, so each chunk without an item comes free.
+    pub fn new(alloc: Global, items: u32, spare: u32) -> Model {
         Model {
+            alloc,
+            items: items as usize,
+            chunks: (items as usize).saturating_add(spare as usize),
             map: HashMap::new(alloc),
             hits: 0,
             misses: 0,
@@ -68,19 +111,8 @@ impl Model {
         }
     }
 
-    /// A value was put under a key.
-    pub fn put(&mut self, key: u64, value: u64) {
-        self.placed = self.placed.saturating_add(1);
-        self.map.insert(key, Had { value, got: false }).ok();
-    }
-
-    /// A key has nothing any more. It answers what it had.
-    pub fn take(&mut self, key: u64) -> Option<u64> {
-        self.map.remove(&key).map(|had| had.value)
-    }
-
-    /// A key's value was evicted. It tells whether the key had that.
-    pub fn evict(&mut self, key: u64, value: u64) -> bool {
+    // A key's value was evicted. It tells whether the key had that.
+    fn evict(&mut self, key: u64, value: u64) -> bool {
         self.evicted = self.evicted.saturating_add(1);
         let Some(had) = self.map.remove(&key) else {
             return false;
@@ -91,37 +123,68 @@ impl Model {
         had.value == value
     }
 
+    /// A put of a value under a key told this. It tells whether that is right: one is evicted just where the key had
+    /// nothing and as many items are there as may be, and the put is refused just where then each chunk has an item.
+    pub fn put(&mut self, key: u64, value: u64, told: Told) -> bool {
+        let had = self.map.get(&key).map(|had| had.value);
+        let is_full = had.is_none() && self.map.len() >= self.items;
+        let mut right = told.evicted.is_some() == is_full;
+        if let Some((other, its)) = told.evicted {
+            right = self.evict(other, its) && other != key && right;
+        }
+        right = told.room == (self.map.len() < self.chunks) && right;
+        if told.room {
+            self.placed = self.placed.saturating_add(1);
+            self.map.insert(key, Had { value, got: false }).ok();
+            told.old == had && right
+        } else {
+            right
+        }
+    }
+
+    /// A removal told what the key had. It tells whether that is right.
+    pub fn remove(&mut self, key: u64, told: Option<u64>) -> bool {
+        self.map.remove(&key).map(|had| had.value) == told
+    }
+
+    /// All was ended.
+    pub fn clear(&mut self) {
+        self.map = HashMap::new(self.alloc);
+    }
+
     /// A get answered this. It tells whether the key has that.
     pub fn get(&mut self, key: u64, got: Option<u64>) -> bool {
-        if got.is_some() {
-            self.hits = self.hits.saturating_add(1);
-        } else {
-            self.misses = self.misses.saturating_add(1);
-        }
         let Some(had) = self.map.get(&key).copied() else {
+            self.misses = self.misses.saturating_add(1);
             return got.is_none();
         };
         let value = had.value;
+        self.hits = self.hits.saturating_add(1);
         self.map.insert(key, Had { value, got: true }).ok();
         got == Some(value)
     }
 
-    /// Whether the statistics add up, and tell what the calls came to.
-    pub fn agrees(&self, stats: &Stats) -> bool {
-        let items = sum(&[
-            u64::from(stats.number_hot),
-            u64::from(stats.number_warm),
-            u64::from(stats.number_cold),
-        ]);
-        adds_up(stats)
-            && items == self.map.len() as u64
-            && stats.flow.linked == self.placed
-            && stats.evicted == self.evicted
-            && stats.evicted_unfetched == self.unfetched
-            && sum(&[stats.evicted_unfetched, stats.evicted_active]) <= stats.evicted
+    /// What a key has.
+    pub fn value(&self, key: u64) -> Option<u64> {
+        self.map.get(&key).map(|had| had.value)
     }
 
-    /// Whether a reader of these hits and misses got what the gets came to.
+    /// Whether the statistics add up, and tell what the calls came to.
+    pub fn agrees(&self, stats: &Stats) -> bool {
+        let flow = stats.flow;
+        adds_up(stats)
+            && items_in(stats) == self.map.len() as u64
+            && flow.linked == self.placed
+            && stats.evicted == self.evicted
+            && stats.direct_reclaims == self.evicted
+            && stats.evicted_unfetched == self.unfetched
+            && sum(&[stats.evicted_unfetched, stats.evicted_active]) <= stats.evicted
+            && stats.moves_to_cold == sum(&[flow.hot_to_cold, flow.warm_to_cold])
+            && stats.moves_to_warm == sum(&[flow.hot_to_warm, flow.cold_to_warm])
+            && stats.moves_within_lru == flow.warm_to_warm
+    }
+
+    /// Whether readers of so many hits and misses got what the gets came to.
     pub fn has_got(&self, hits: u64, misses: u64) -> bool {
         hits == self.hits && misses == self.misses
     }

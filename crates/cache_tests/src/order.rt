@@ -1,259 +1,266 @@
-//! In which order items are evicted.
+//! In which order items are evicted, beside a model of the lists.
 ghost use Rattle.std.specs.Prelude.{◌≡◌};
 
-use crate::random_calls::{config_of, next};
-use bump_cache::{
-    AnyPair, Cache, CacheBlank, CacheReader, Index, Indexed, Name, Opened, Put, Upkeep, open,
-};
+use crate::lists::Lists;
+use crate::model::items_in;
+use crate::stands::{Stand, config_of, next};
+use bump_cache::{CacheBlank, CacheConfig, LogName, Name, Put};
 use std::alloc::{AllocError, Global};
 use std::marker::Brand;
 use std::sync::Wait;
 use std::test::Fail;
 
-// A model of a cache that has room for so many items: its keys, in the order in which they were put.
+// A cache, the model of its lists, and how much was wrong.
 #[derive(Drop)]
-struct Model {
-    alloc: Global,
-    room: usize,
-    keys: Vec<u64>,
+struct Pair<N: Name + LogName> {
+    stand: Stand<N, u64, u64>,
+    lists: Lists,
+    wrong: u64,
 }
 
-impl Model {
-    // The key is there no more. It tells whether it was there.
-    fn take(&mut self, key: u64) -> Result<bool, AllocError> {
-        let mut left = Vec::new(self.alloc);
-        for other in &self.keys {
-            if *other != key {
-                left.push(*other)?;
-            }
+// The keys that a put told of: whether the key had something, and which one was evicted.
+fn told(put: &Put<u64, u64>) -> (bool, Option<u64>) {
+    (put.old.is_some(), put.evicted.map(|entry| entry.key))
+}
+
+// Each of these notes where the cache did something else than the model.
+impl<N: Name + LogName> Pair<N> {
+    fn note(&mut self, right: bool) {
+        if !right {
+            self.wrong = self.wrong.saturating_add(1);
         }
-        let was_there = left.len() < self.keys.len();
-        self.keys = left;
-        Ok(was_there)
     }
 
-    // A key was put, and this is what it came to. It tells whether that is right: the first key is evicted where there is
-    // no room, and nothing else.
-    fn put(&mut self, key: u64, put: &Put<u64, u64, AnyPair>) -> Result<bool, AllocError> {
-        let was_there = self.take(key)?;
-        let first = if self.keys.len() < self.room {
-            None
-        } else {
-            self.keys.first().copied()
-        };
-        if let Some(first) = first {
-            self.take(first)?;
+    fn put<W: Wait>(&mut self, rt: &W, key: u64) -> Result<Option<u64>, AllocError> {
+        let put = self.stand.put(rt, key, key, 0);
+        let evicted = self.lists.put(key)?;
+        match &put {
+            Ok(did) => self.note(told(did).1 == evicted),
+            Err(_) => self.note(false),
         }
-        self.keys.push(key)?;
-        let told = put.evicted.first().map(|slot| *slot.item.key());
-        Ok(
-            put.refused.is_none()
-                && put.old.is_some() == was_there
-                && told == first
-                && put.evicted.len() <= 1,
-        )
+        Ok(evicted)
+    }
+
+    fn get(&mut self, key: u64) -> Result<(), AllocError> {
+        let got = self.stand.get(0, &key, 0).is_some();
+        let is_there = self.lists.get(key)?;
+        self.note(got == is_there);
+        Ok(())
+    }
+
+    fn remove<W: Wait>(&mut self, rt: &W, key: u64) {
+        let old = self.stand.remove(rt, &key).is_some();
+        let had = self.lists.take(key);
+        self.note(old == had);
+    }
+
+    fn tend<W: Wait>(&mut self, rt: &W) -> Result<(), AllocError> {
+        self.stand.tend(rt, 0);
+        self.lists.tend()
+    }
+
+    fn clear<W: Wait>(&mut self, rt: &W) {
+        self.stand.clear(rt);
+        self.lists.clear();
+    }
+
+    // The lists have the model's sizes.
+    fn look<W: Wait>(&mut self, rt: &W) {
+        let stats = self.stand.stats(rt);
+        let sizes = (
+            stats.number_hot as usize,
+            stats.number_warm as usize,
+            stats.number_cold as usize,
+        );
+        let lists = &mut self.lists;
+        let same_sizes = sizes == lists.sizes();
+        let same_active = stats.evicted_active == lists.evicted_active();
+        self.note(same_sizes);
+        self.note(same_active);
     }
 }
 
-// What a test does with a cache that was just opened, and what is counted.
+// What is done with a cache.
 #[derive(Clone, Copy)]
 enum Case {
-    // So many puts and removals without a get: those that came to something else than in the model.
-    WithoutGets { calls: u64 },
+    // so many random calls, of which gets are so many of 64, with keys below a number
+    Random { calls: u64, gets: u64, keys: u64 },
 
-    // One item is hit: the answers that are wrong.
-    Hit(Hit),
+    // 1,000 items are read twice each, and then 1,001 others put
+    Read,
+
+    // more than eight of COLD are ACTIVE, and their bumps wait behind 16 others
+    Rescue,
 }
 
-// Key 0 is put, then so many other keys, and then it is got so often. It is kept or not behind 20 further puts.
-#[derive(Clone, Copy)]
-struct Hit {
-    before: u64,
-    gets: u64,
-    tended: bool,
-    kept: bool,
-}
-
-// Runs a case.
-#[derive(Clone, Copy)]
-struct Runner<R> {
-    rt: R,
-    alloc: Global,
-    items: u32,
-    case: Case,
-}
-
-impl<R: Wait + Copy> Runner<R> {
-    // Runs the case without gets. The items are evicted in the order in which they were put, whatever HOT's share is.
-    fn run_without_gets<N: Name, I: Indexed<u64, u64, AnyPair> + Drop>(
-        &self,
-        cache: &Cache<N, u64, u64, AnyPair, I, R>,
-        upkeep: &mut Upkeep<N>,
+impl<N: Name + LogName> Pair<N> {
+    // Random calls.
+    fn call_at_random<W: Wait>(
+        &mut self,
+        rt: &W,
         calls: u64,
-    ) -> Result<u64, AllocError> {
-        let mut model = Model {
-            alloc: self.alloc,
-            room: self.items as usize,
-            keys: Vec::new(self.alloc),
-        };
-        let mut seed = 1u64;
-        let mut wrong = 0u64;
-        for now in 0..calls {
-            let key = next(&mut seed) % 24;
-            let right = match next(&mut seed) % 8 {
-                0 => cache.remove(&self.rt, &key)?.old.is_some() == model.take(key)?,
-                1 => {
-                    cache.tend(&self.rt, upkeep, now);
-                    true
-                }
-                _ => model.put(key, &cache.put(self.alloc, &self.rt, key, now, now))?,
-            };
-            if !right {
-                wrong = wrong.saturating_add(1);
-            }
-        }
-        Ok(wrong)
-    }
-
-    // Puts keys, each a new one, and notes which ones are evicted.
-    fn fill<N: Name, I: Indexed<u64, u64, AnyPair> + Drop>(
-        &self,
-        cache: &Cache<N, u64, u64, AnyPair, I, R>,
-        from: u64,
-        to: u64,
-        evicted: &mut Vec<u64>,
+        gets: u64,
+        keys: u64,
     ) -> Result<(), AllocError> {
-        for key in from..to {
-            let put = cache.put(self.alloc, &self.rt, key, key, 0);
-            for slot in &put.evicted {
-                evicted.push(*slot.item.key())?;
+        let mut seed = 1u64;
+        for _ in 0..calls {
+            let key = next(&mut seed) % keys.max(1);
+            let kind = next(&mut seed) % 64;
+            if kind < gets {
+                self.get(key)?;
+            } else {
+                match next(&mut seed) % 64 {
+                    0..=3 => self.remove(rt, key),
+                    4 => self.tend(rt)?,
+                    5 if kind == 63 => self.clear(rt),
+                    _ => {
+                        self.put(rt, key)?;
+                    }
+                }
             }
+            self.look(rt);
         }
         Ok(())
     }
 
-    // Runs the case of key 0: it is kept, or evicted first; and all others are evicted in the order in which they were put.
-    fn run_hit<N: Name, I: Indexed<u64, u64, AnyPair> + Drop>(
-        &self,
-        opened: Opened<N, u64, u64, AnyPair, I, R>,
-        hit: Hit,
-    ) -> Result<u64, AllocError> {
-        let Opened {
-            cache,
-            mut readers,
-            mut upkeep,
-        } = opened;
-        let Some(mut reader) = readers.pop() else {
-            return Err(AllocError);
-        };
-        let mut evicted = Vec::new(self.alloc);
-        let first = hit.before.saturating_add(1);
-        self.fill(&cache, 0, first, &mut evicted)?;
-        let mut right = evicted.is_empty();
-        for now in 0..hit.gets {
-            right = reader.get(&0, now).is_some() && right;
-        }
-        if hit.tended {
-            cache.tend(&self.rt, &mut upkeep, 0);
-        }
-        self.fill(&cache, first, first.saturating_add(20), &mut evicted)?;
-        right = right && reader.get(&0, 0).is_some() == hit.kept && !evicted.is_empty();
-        let disorder = out_of_order(evicted.as_slice(), u64::from(hit.kept));
-        Ok(if right {
-            disorder
-        } else {
-            disorder.saturating_add(1)
-        })
-    }
-}
-
-// How many of these keys don't follow the one before, where this one is the first.
-fn out_of_order(keys: &[u64], first: u64) -> u64 {
-    let mut wrong = 0u64;
-    let mut wanted = first;
-    for key in keys {
-        if *key != wanted {
-            wrong = wrong.saturating_add(1);
-        }
-        wanted = wanted.saturating_add(1);
-    }
-    wrong
-}
-
-impl<R: Wait + Copy> Runner<R> {
-    // Opens a cache under the name that the blank's table has, and runs the case.
-    fn run<N: Name, I: Indexed<u64, u64, AnyPair> + Drop>(
-        &self,
-        blank: CacheBlank,
-    ) -> Result<u64, AllocError>
-        requires name { blank.table ≡ N.table }
-    {
-        let opened = open::<N, u64, u64, AnyPair, I, R>(self.alloc, &self.rt, blank)?;
-        match self.case {
-            Case::WithoutGets { calls } => {
-                let Opened {
-                    cache,
-                    readers: _,
-                    mut upkeep,
-                } = opened;
-                self.run_without_gets(&cache, &mut upkeep, calls)
+    // Puts the keys of a range.
+    fn put_all<W: Wait>(&mut self, rt: &W, from: u64, to: u64) -> Result<u64, AllocError> {
+        let mut evicted = 0u64;
+        for key in from..to {
+            if self.put(rt, key)?.is_some() {
+                evicted = evicted.saturating_add(1);
             }
-            Case::Hit(hit) => self.run_hit(opened, hit),
+        }
+        Ok(evicted)
+    }
+
+    // A put of a fresh key evicts one item, whatever was read.
+    fn read_twice<W: Wait>(&mut self, rt: &W) -> Result<(), AllocError> {
+        let evicted = self.put_all(rt, 0, 1_000)?;
+        self.note(evicted == 0);
+        for _ in 0..2 {
+            for key in 0..1_000 {
+                self.get(key)?;
+            }
+        }
+        let first = self.put(rt, 1_000)?;
+        self.note(first.is_some());
+        self.look(rt);
+        let stats = self.stand.stats(rt);
+        self.note(stats.evicted == 1);
+        let evicted = self.put_all(rt, 1_001, 2_001)?;
+        self.note(evicted == 1_000);
+        self.look(rt);
+        let stats = self.stand.stats(rt);
+        self.note(stats.evicted == 1_001);
+        self.note(items_in(&stats) == 1_000);
+        Ok(())
+    }
+
+    // All are in COLD, and the ones that were put last are read first. The first put applies the bumps of 16 of those,
+    // rescues the eight that were put first, and evicts the ninth, which is ACTIVE.
+    fn rescue<W: Wait>(&mut self, rt: &W) -> Result<(), AllocError> {
+        self.put_all(rt, 0, 40)?;
+        self.tend(rt)?;
+        let stats = self.stand.stats(rt);
+        self.note(stats.number_cold == 40);
+        for key in (0..40).rev() {
+            self.get(key)?;
+            self.get(key)?;
+        }
+        let first = self.put(rt, 40)?;
+        self.note(first == Some(8));
+        let stats = self.stand.stats(rt);
+        self.note(stats.number_warm == 24 && stats.evicted_active == 1);
+        for key in 0..8 {
+            let seen = self.stand.peek(0, &key);
+            self.note(seen == Some(key));
+        }
+        self.put_all(rt, 41, 80)?;
+        self.look(rt);
+        Ok(())
+    }
+
+    // Runs the case.
+    fn run<W: Wait>(&mut self, rt: &W, case: Case) -> Result<(), AllocError> {
+        match case {
+            Case::Random { calls, gets, keys } => self.call_at_random(rt, calls, gets, keys),
+            Case::Read => self.read_twice(rt),
+            Case::Rescue => self.rescue(rt),
         }
     }
 }
 
-// How much in this case came to something else, in a cache with these percents of HOT and WARM.
-fn wrong_in<R: Wait + Copy>(runner: Runner<R>, hot: u32, warm: u32) -> Result<u64, Fail> {
-    let blank = CacheBlank::new(runner.alloc, &config_of(runner.items, hot, warm))?;
-    Ok(runner.run::<Brand, Index<u64, u64, AnyPair>>(blank)?)
+// Opens a cache under the names that the blank's table and log have, and runs the case.
+fn run<N: Name + LogName, W: Wait>(
+    rt: &W,
+    alloc: Global,
+    blank: CacheBlank<u64, u64>,
+    config: &CacheConfig,
+    case: Case,
+) -> Result<u64, AllocError>
+    requires table { blank.table ≡ N.table }
+    requires book { blank.log.book ≡ N.book }
+    requires name { blank.log.name ≡ N.name }
+    requires parts { blank.log.parts ≡ N.parts }
+{
+    let hot = config.hot_items();
+    let warm = config.warm_items();
+    let mut pair = Pair {
+        stand: Stand::<N, u64, u64>::open(alloc, rt, blank)?,
+        lists: Lists::new(alloc, config.items, hot, warm, config.ring),
+        wrong: 0,
+    };
+    pair.run(rt, case)?;
+    Ok(pair.wrong)
+}
+
+// How much in this case came to something else than in the model.
+fn wrong_in<W: Wait>(rt: &W, alloc: Global, config: &CacheConfig, case: Case) -> Result<u64, Fail> {
+    let blank = CacheBlank::<u64, u64>::new(alloc, config)?;
+    Ok(run::<Brand, W>(rt, alloc, blank, config, case)?)
 }
 
 #[test]
-fn items_are_evicted_in_the_order_of_their_puts(rt: HostRuntime) -> Result<(), Fail> {
-    for (hot, warm) in [(100, 0), (0, 0), (20, 40), (0, 100)] {
-        let runner = Runner {
-            rt: &rt,
-            alloc: rt.alloc(),
-            items: 10,
-            case: Case::WithoutGets { calls: 5_000 },
+fn items_are_evicted_in_the_models_order(rt: HostRuntime) -> Result<(), Fail> {
+    for (items, hot, warm, ring, gets) in [
+        (10, 100, 0, 8u32, 0),
+        (10, 0, 0, 8, 0),
+        (10, 20, 40, 8, 0),
+        (10, 20, 40, 8, 32),
+        (10, 20, 40, 1, 48),
+        (24, 20, 40, 64, 56),
+        (24, 0, 0, 64, 60),
+        (24, 0, 100, 32, 56),
+        (24, 60, 10, 32, 56),
+        (1, 20, 40, 4, 48),
+    ] {
+        let config = config_of(items, ring.saturating_add(1), hot, warm, ring);
+        let case = Case::Random {
+            calls: 2_000,
+            gets,
+            keys: u64::from(items) * 3 / 2 + 2,
         };
-        assert_eq!(rt; wrong_in(runner, hot, warm)?, 0, "{hot} and {warm} percent");
+        let wrong = wrong_in(&rt, rt.alloc(), &config, case)?;
+        assert_eq!(rt;
+            wrong,
+            0,
+            "of {items} items, {hot} and {warm} percent, {ring} bumps"
+        );
     }
     Ok(())
 }
 
-// With 10 items, 2 at most in HOT and 4 in WARM, key 0 is in HOT where no key is put behind it, and the last of COLD
-// behind nine more. An item that is hit twice in COLD waits for its bump, which only a tend applies.
 #[test]
-fn an_item_that_was_hit_twice_is_kept(rt: HostRuntime) -> Result<(), Fail> {
-    for (before, gets, tended, kept) in [
-        (0, 0, true, false),
-        (0, 1, true, false),
-        (0, 2, true, true),
-        (0, 2, false, true),
-        (9, 0, true, false),
-        (9, 1, true, false),
-        (9, 2, true, true),
-        (9, 3, true, true),
-        (9, 2, false, false),
-    ] {
-        let runner = Runner {
-            rt: &rt,
-            alloc: rt.alloc(),
-            items: 10,
-            case: Case::Hit(Hit {
-                before,
-                gets,
-                tended,
-                kept,
-            }),
-        };
-        assert_eq!(rt;
-            wrong_in(runner, 20, 40)?,
-            0,
-            "{gets} gets behind {before} puts, {tended}"
-        );
-    }
+fn a_put_evicts_one(rt: HostRuntime) -> Result<(), Fail> {
+    let config = config_of(1_000, 16, 20, 40, 8_192);
+    assert_eq!(rt; wrong_in(&rt, rt.alloc(), &config, Case::Read)?, 0);
+    Ok(())
+}
+
+#[test]
+fn an_eviction_rescues_at_most_eight(rt: HostRuntime) -> Result<(), Fail> {
+    let config = config_of(40, 40, 0, 100, 64);
+    assert_eq!(rt; wrong_in(&rt, rt.alloc(), &config, Case::Rescue)?, 0);
     Ok(())
 }

@@ -1,189 +1,262 @@
 //! Random calls on a cache and on its model, a plain map, and the statistics of what they came to.
-ghost use Rattle.std.specs.Prelude.{◌≡◌};
+ghost use Rattle.std.specs.Prelude.{◌≡◌, ◌+◌, ◌≤◌};
 
-use crate::keys::{Alike, Key};
-use crate::model::Model;
-use bump_cache::{
-    AnyPair, Cache, CacheBlank, CacheConfig, CacheReader, Index, Indexed, Name, Opened, open,
-};
+use crate::model::{Model, answer_of};
+use crate::numbered::{Numbered, number_of};
+use crate::stands::{SEED, Stand, config_of, next};
+use bump_cache::{Bytes, CacheBlank, CacheConfig, LogName, Name, TooLong};
 use std::alloc::{AllocError, Global};
 use std::marker::Brand;
 use std::sync::Wait;
 use std::test::Fail;
 
-// Makes calls in an order that a seed decides, on a cache and on its model.
+/// So many calls are made of each cache. By hand 100,000 may stand here, too.
+const CALLS: u64 = 3_000;
+
+// Which calls are made.
 #[derive(Clone, Copy)]
-struct Runner<R> {
-    rt: R,
-    alloc: Global,
+struct Calls {
+    // the keys' numbers are below this
     keys: u64,
-    calls: u64,
+    count: u64,
+    // whether the cache is tended now and then
+    tends: bool,
+    // one of so many calls ends all items
+    clears: u64,
 }
 
-/// The next of the random numbers that a seed begins.
-pub fn next(seed: &mut u64) -> u64 {
-    *seed = seed
-        .wrapping_mul(6_364_136_223_846_793_005)
-        .wrapping_add(1_442_695_040_888_963_407);
-    *seed >> 33
+// Why there was no answer.
+enum Wanting {
+    Memory,
+    Room,
+}
+
+impl From<AllocError> for Wanting {
+    fn from(_: AllocError) -> Wanting {
+        Wanting::Memory
+    }
+}
+
+impl From<TooLong> for Wanting {
+    fn from(_: TooLong) -> Wanting {
+        Wanting::Room
+    }
+}
+
+// A cache and its model, on which calls are made.
+#[derive(Drop)]
+struct Pair<N: Name + LogName, K: Numbered, V: Numbered> {
+    stand: Stand<N, K, V>,
+    model: Model,
+    seed: u64,
+    readers: u64,
 }
 
 // Each of these tells whether the cache's answer is the model's.
-impl<R: Wait + Copy> Runner<R> {
-    fn put<N: Name, K: Key, I: Indexed<K, u64, AnyPair> + Drop>(
-        &self,
-        cache: &Cache<N, K, u64, AnyPair, I, R>,
-        model: &mut Model,
-        key: u64,
-        now: u64,
-    ) -> bool {
-        let put = cache.put(self.alloc, &self.rt, K::of(key), now, now);
-        let told = put.old.as_ref().map(|slot| *slot.item.value());
-        let mut right = told == model.take(key) && put.shown;
-        for slot in &put.evicted {
-            let had = model.evict(slot.item.key().number(), *slot.item.value());
-            right = right && had;
+impl<N: Name + LogName, K: Numbered, V: Numbered> Pair<N, K, V> {
+    fn put<W: Wait>(&mut self, rt: &W, key: u64, now: u64) -> Result<bool, TooLong> {
+        let put = self.stand.put(rt, K::of(key)?, V::of(now)?, now);
+        Ok(self.model.put(key, now, answer_of(&put)))
+    }
+
+    fn remove<W: Wait>(&mut self, rt: &W, key: u64) -> Result<bool, TooLong> {
+        let old = self.stand.remove(rt, &K::of(key)?);
+        Ok(self.model.remove(key, number_of(&old)))
+    }
+
+    fn get(&mut self, key: u64, now: u64) -> Result<bool, TooLong> {
+        let reader = self.reader();
+        let got = self.stand.get(reader, &K::of(key)?, now);
+        Ok(self.model.get(key, number_of(&got)))
+    }
+
+    fn look(&mut self, key: u64) -> Result<bool, TooLong> {
+        let reader = self.reader();
+        let its_key = K::of(key)?;
+        let seen = self.stand.peek(reader, &its_key);
+        let is_there = self.stand.contains(reader, &its_key);
+        Ok(number_of(&seen) == self.model.value(key) && is_there == seen.is_some())
+    }
+
+    fn tend<W: Wait>(&mut self, rt: &W, tends: bool, now: u64) -> bool {
+        if tends {
+            self.stand.tend(rt, now);
         }
-        if put.refused.is_none() {
-            model.put(key, now);
+        true
+    }
+
+    fn clear<W: Wait>(&mut self, rt: &W) -> bool {
+        self.stand.clear(rt);
+        self.model.clear();
+        true
+    }
+
+    // One of the readers.
+    fn reader(&mut self) -> usize {
+        (next(&mut self.seed) % self.readers.max(1)) as usize
+    }
+
+    // Makes a call, of some kind and with some key.
+    fn call<W: Wait>(&mut self, rt: &W, calls: Calls, now: u64) -> Result<bool, TooLong> {
+        let key = next(&mut self.seed) % calls.keys.max(1);
+        if next(&mut self.seed) % calls.clears.max(1) == 0 {
+            return Ok(self.clear(rt));
         }
-        right
+        match next(&mut self.seed) % 16 {
+            0..=5 => self.put(rt, key, now),
+            6 => self.remove(rt, key),
+            7 => Ok(self.tend(rt, calls.tends, now)),
+            8 | 9 => self.look(key),
+            _ => self.get(key, now),
+        }
     }
 
-    fn remove<N: Name, K: Key, I: Indexed<K, u64, AnyPair> + Drop>(
-        &self,
-        cache: &Cache<N, K, u64, AnyPair, I, R>,
-        model: &mut Model,
-        key: u64,
-    ) -> Result<bool, AllocError> {
-        let removed = cache.remove(&self.rt, &K::of(key))?;
-        let told = removed.old.map(|slot| *slot.item.value());
-        Ok(told == model.take(key) && removed.shown)
-    }
-
-    fn get<N: Name, K: Key, I: Indexed<K, u64, AnyPair> + Drop>(
-        &self,
-        reader: &mut CacheReader<N, K, u64, AnyPair, I>,
-        model: &mut Model,
-        key: u64,
-        now: u64,
-    ) -> bool {
-        let got = reader.get(&K::of(key), now).map(|item| *item.value());
-        model.get(key, got)
-    }
-}
-
-impl<R: Wait + Copy> Runner<R> {
     // Makes the calls, and tells how many came to something else, or left statistics that don't tell of it.
-    fn check<N: Name, K: Key, I: Indexed<K, u64, AnyPair> + Drop>(
-        &self,
-        opened: Opened<N, K, u64, AnyPair, I, R>,
-    ) -> Result<u64, AllocError> {
-        let Opened {
-            cache,
-            mut readers,
-            mut upkeep,
-        } = opened;
-        let Some(mut reader) = readers.pop() else {
-            return Err(AllocError);
-        };
-        let mut model = Model::new(self.alloc);
-        let mut seed = 1u64;
+    fn check<W: Wait>(&mut self, rt: &W, calls: Calls) -> Result<u64, TooLong> {
         let mut wrong = 0u64;
-        for now in 0..self.calls {
-            let key = next(&mut seed) % self.keys.max(1);
-            let right = match next(&mut seed) % 8 {
-                0 | 1 => self.put(&cache, &mut model, key, now),
-                2 => self.remove(&cache, &mut model, key)?,
-                3 => {
-                    cache.tend(&self.rt, &mut upkeep, now);
-                    true
-                }
-                _ => self.get(&mut reader, &mut model, key, now),
-            };
-            let told = model.agrees(&cache.stats(&self.rt));
-            if !right || !told || !model.has_got(reader.hits(), reader.misses()) {
+        for now in 0..calls.count {
+            let right = self.call(rt, calls, now)?;
+            let stats = self.stand.stats(rt);
+            let (hits, misses) = self.stand.hits_and_misses();
+            if !right || !self.model.agrees(&stats) || !self.model.has_got(hits, misses) {
                 wrong = wrong.saturating_add(1);
             }
         }
         Ok(wrong)
     }
-
-    // Opens a cache under the name that the blank's table has, and makes the calls.
-    fn run<N: Name, K: Key, I: Indexed<K, u64, AnyPair> + Drop>(
-        &self,
-        blank: CacheBlank,
-    ) -> Result<u64, AllocError>
-        requires name { blank.table ≡ N.table }
-    {
-        self.check(open::<N, K, u64, AnyPair, I, R>(self.alloc, &self.rt, blank)?)
-    }
 }
 
-/// A cache of so many items and one reader, at most so many percent of them in HOT and in WARM.
-pub fn config_of(items: u32, hot: u32, warm: u32) -> CacheConfig {
-    CacheConfig {
-        items,
-        hot,
-        warm,
-        readers: 1,
-        ring: 8,
-    }
+// Opens a cache under the names that the blank's table and log have, and makes the calls.
+fn run<N: Name + LogName, K: Numbered, V: Numbered, W: Wait>(
+    rt: &W,
+    alloc: Global,
+    blank: CacheBlank<K, V>,
+    config: &CacheConfig,
+    calls: Calls,
+) -> Result<u64, Wanting>
+    requires table { blank.table ≡ N.table }
+    requires book { blank.log.book ≡ N.book }
+    requires name { blank.log.name ≡ N.name }
+    requires parts { blank.log.parts ≡ N.parts }
+{
+    let mut pair = Pair {
+        stand: Stand::<N, K, V>::open(alloc, rt, blank)?,
+        model: Model::new(alloc, config.items, config.spare),
+        seed: 1,
+        readers: u64::from(config.readers),
+    };
+    Ok(pair.check(rt, calls)?)
 }
 
 // How many of these calls on such a cache came to something else than on the model.
-fn wrong_calls<R: Wait + Copy>(runner: Runner<R>, config: &CacheConfig) -> Result<u64, Fail> {
-    let blank = CacheBlank::new(runner.alloc, config)?;
-    Ok(runner.run::<Brand, u64, Index<u64, u64, AnyPair>>(blank)?)
+fn wrong_calls<K: Numbered, V: Numbered, W: Wait>(
+    rt: &W,
+    alloc: Global,
+    config: &CacheConfig,
+    calls: Calls,
+) -> Result<u64, Fail>
+    requires words { K.width + V.width ≤ 64 }
+{
+    let blank = CacheBlank::<K, V>::new(alloc, config)?;
+    match run::<Brand, K, V, W>(rt, alloc, blank, config, calls) {
+        Ok(wrong) => Ok(wrong),
+        Err(Wanting::Memory) => Err(AllocError.into()),
+        Err(Wanting::Room) => Err(TooLong.into()),
+    }
 }
 
-// The same, where each key has the hash of each other one.
-fn wrong_alike_calls<R: Wait + Copy>(runner: Runner<R>, config: &CacheConfig) -> Result<u64, Fail> {
-    let blank = CacheBlank::new(runner.alloc, config)?;
-    Ok(runner.run::<Brand, Alike, Index<Alike, u64, AnyPair>>(blank)?)
+// Small caches: their items, spare chunks, shares of HOT and WARM, readers and rings. Each put applies all bumps that
+// wait there, so each chunk without an item comes free.
+const SMALL: [(u32, u32, u32, u32, u32, u32); 7] = [
+    (10, 2, 20, 40, 1, 8),
+    (10, 1, 0, 100, 1, 16),
+    (10, 1, 100, 0, 2, 16),
+    (10, 0, 20, 40, 1, 4),
+    (10, 3, 20, 40, 3, 1),
+    (1, 1, 20, 40, 1, 2),
+    (2, 0, 50, 50, 2, 1),
+];
+
+// Random calls on each of the small caches, tended or never, with keys and values of these types.
+fn wrong_small_calls<K: Numbered, V: Numbered, W: Wait>(
+    rt: &W,
+    alloc: Global,
+    count: u64,
+) -> Result<u64, Fail>
+    requires words { K.width + V.width ≤ 64 }
+{
+    let mut wrong = 0u64;
+    for (items, spare, hot, warm, readers, ring) in SMALL {
+        for tends in [true, false] {
+            let config = CacheConfig {
+                readers,
+                ..config_of(items, spare, hot, warm, ring)
+            };
+            let calls = Calls {
+                keys: u64::from(items) * 5 / 2 + 1,
+                count,
+                tends,
+                clears: 200,
+            };
+            wrong = wrong.saturating_add(wrong_calls::<K, V, W>(rt, alloc, &config, calls)?);
+        }
+    }
+    Ok(wrong)
 }
 
 #[test]
 fn each_call_comes_to_what_a_plain_map_has(rt: HostRuntime) -> Result<(), Fail> {
     let alloc = rt.alloc();
-    for (items, hot, warm, keys, calls) in [
-        (16, 20, 40, 40, 100_000),
-        (16, 0, 100, 24, 10_000),
-        (16, 100, 0, 24, 10_000),
-        (1, 20, 40, 3, 2_000),
-    ] {
-        let runner = Runner {
-            rt: &rt,
-            alloc,
+    assert_eq!(rt; wrong_small_calls::<u64, u64, _>(&rt, alloc, CALLS)?, 0);
+    Ok(())
+}
+
+#[test]
+fn pairs_and_strings_are_keys_and_values(rt: HostRuntime) -> Result<(), Fail> {
+    let alloc = rt.alloc();
+    let count = CALLS / 10;
+    let wrong = wrong_small_calls::<(u64, u32), u64, _>(&rt, alloc, count)?;
+    assert_eq!(rt; wrong, 0, "of pairs");
+    let wrong = wrong_small_calls::<Bytes<1>, Bytes<3>, _>(&rt, alloc, count)?;
+    assert_eq!(rt; wrong, 0, "of short strings");
+    let wrong = wrong_small_calls::<Bytes<4>, (u64, u32), _>(&rt, alloc, count)?;
+    assert_eq!(rt; wrong, 0, "of strings of four words");
+    let wrong = wrong_small_calls::<Bytes<32>, Bytes<32>, _>(&rt, alloc, count / 10)?;
+    assert_eq!(rt; wrong, 0, "of strings of 32 words");
+    let wrong = wrong_small_calls::<u64, Bytes<63>, _>(&rt, alloc, count / 10)?;
+    assert_eq!(rt; wrong, 0, "of the longest strings");
+    Ok(())
+}
+
+#[test]
+fn a_thousand_items(rt: HostRuntime) -> Result<(), Fail> {
+    for (keys, tends) in [(1_500, true), (1_100, false)] {
+        let config = config_of(1_000, 20, 20, 40, 16);
+        let calls = Calls {
             keys,
-            calls,
+            count: CALLS.saturating_mul(4),
+            tends,
+            clears: CALLS.saturating_mul(3),
         };
-        let wrong = wrong_calls(runner, &config_of(items, hot, warm))?;
-        assert_eq!(rt; wrong, 0, "of {items} items");
+        let wrong = wrong_calls::<u64, u64, _>(&rt, rt.alloc(), &config, calls)?;
+        assert_eq!(rt; wrong, 0, "of {keys} keys");
     }
     Ok(())
 }
 
 #[test]
-fn a_cache_of_a_million_items(rt: HostRuntime) -> Result<(), Fail> {
-    let runner = Runner {
-        rt: &rt,
-        alloc: rt.alloc(),
-        keys: 3_000,
-        calls: 20_000,
+fn a_million_items(rt: HostRuntime) -> Result<(), Fail> {
+    let config = CacheConfig {
+        ring: 16,
+        ..CacheConfig::new(1_000_000, 1, SEED)
     };
-    assert_eq!(rt; wrong_calls(runner, &config_of(1_000_000, 0, 1))?, 0);
-    Ok(())
-}
-
-#[test]
-fn keys_of_one_hash(rt: HostRuntime) -> Result<(), Fail> {
-    let runner = Runner {
-        rt: &rt,
-        alloc: rt.alloc(),
-        keys: 100,
-        calls: 1_000,
+    let calls = Calls {
+        keys: 1_000,
+        count: CALLS / 3,
+        tends: true,
+        clears: CALLS,
     };
-    assert_eq!(rt; wrong_alike_calls(runner, &config_of(40, 20, 40))?, 0);
+    let wrong = wrong_calls::<u64, u64, _>(&rt, rt.alloc(), &config, calls)?;
+    assert_eq!(rt; wrong, 0);
     Ok(())
 }

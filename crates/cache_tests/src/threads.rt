@@ -1,132 +1,244 @@
-//! Readers on threads, while a writer ends keys and puts them again.
+//! Readers on threads, beside one that puts and removes and one that tends.
 ghost use Rattle.std.specs.Prelude.{◌≡◌};
 
-use bump_cache::{
-    AnyPair, Cache, CacheBlank, CacheConfig, CacheReader, Index, Indexed, Name, Opened, Upkeep,
-    open,
-};
+use crate::model::adds_up;
+use crate::stands::{Changer, config_of, next};
+use bump_cache::{Cache, CacheBlank, CacheConfig, CacheReader, Entry, LogName, Name, Opened, open};
 use std::alloc::{AllocError, Global};
 use std::marker::Brand;
 use std::sync::Wait;
-use std::sync::atomic::{AtomicBool, Ordering};
+use std::sync::atomic::{AtomicBool, AtomicU64, Ordering};
 use std::test::Fail;
 use std::thread;
 use std::thread::Threads;
 
-const KEYS: u64 = 64;
+/// So many gets each reader makes. By hand 10,000,000 may stand here, too.
+const GETS: u64 = 200_000;
 
-const GETS: u64 = 20_000;
+// The keys below this are there from the first get on. They are put anew again and again, and each so soon that it is in
+// HOT still: there are 51 items at most in HOT, and 32 puts from one to the next.
+const STAYING: u64 = 16;
 
-// Runs readers that get, beside a writer.
+// The other keys are below this: more than there is room for.
+const KEYS: u64 = 600;
+
+const ITEMS: u32 = 256;
+
+const RING: u32 = 32;
+
+// A value: its key, a number that grows with each put, and a sum over both.
+type Value = (u64, (u64, u64));
+
+// What a reader came to.
 #[derive(Clone, Copy)]
-struct Runner<R> {
-    rt: R,
-    alloc: Global,
+struct Seen {
+    // values of another key, or with another sum
+    wrong: u64,
+    // how often a key had nothing that has always something
+    missing: u64,
+    // how often such a key had an older value than before
+    older: u64,
 }
 
-// How many of a reader's gets answered a value that was put under another key.
-fn read<N: Name, I: Indexed<u64, u64, AnyPair> + Drop>(
-    mut reader: CacheReader<N, u64, u64, AnyPair, I>,
-) -> u64 {
-    let mut wrong = 0u64;
-    for now in 0..GETS {
-        let key = now % KEYS;
-        if let Some(item) = reader.get(&key, now) {
-            if *item.value() % KEYS != key {
-                wrong = wrong.saturating_add(1);
+fn sum_of(key: u64, number: u64) -> u64 {
+    let mixed = key ^ number.wrapping_mul(0x9e37_79b9_7f4a_7c15);
+    (mixed ^ (mixed >> 29)).wrapping_mul(0xbf58_476d_1ce4_e5b9)
+}
+
+fn value_of(key: u64, number: u64) -> Value {
+    (key, (number, sum_of(key, number)))
+}
+
+// The number of a value that was put under a key, and 0 for each other one.
+fn number_in(key: u64, value: &Value) -> u64 {
+    let (of, (number, sum)) = *value;
+    if of == key && sum == sum_of(key, number) {
+        number
+    } else {
+        0
+    }
+}
+
+// The next of the keys that come and go.
+fn next_other(seed: &mut u64) -> u64 {
+    STAYING.saturating_add(next(seed) % (KEYS - STAYING))
+}
+
+fn count(at: &mut u64, is_so: bool) {
+    *at = at.saturating_add(u64::from(is_so));
+}
+
+// A reader's thread: it gets in turn a key that is always there and another one.
+fn read<N: Name + LogName>(mut reader: CacheReader<N, u64, Value>) -> Seen {
+    let mut last = [0u64; STAYING as usize];
+    let mut seen = Seen {
+        wrong: 0,
+        missing: 0,
+        older: 0,
+    };
+    let mut seed = 1u64;
+    for now in 0..GETS / 2 {
+        let key = next(&mut seed) % STAYING;
+        if let Some(newest) = last.get_mut(key as usize) {
+            match reader.get(&key, now) {
+                Some(value) => {
+                    let number = number_in(key, &value);
+                    count(&mut seen.wrong, number == 0);
+                    count(&mut seen.older, number < *newest);
+                    *newest = number;
+                }
+                None => count(&mut seen.missing, true),
             }
         }
+        let other = next_other(&mut seed);
+        if let Some(value) = reader.get(&other, now) {
+            count(&mut seen.wrong, number_in(other, &value) == 0);
+        }
     }
-    wrong
+    seen
 }
 
-// Puts and ends keys, and tends the cache, until the readers are done. It answers whether all was shown.
-fn write<N: Name, I: Indexed<u64, u64, AnyPair> + Drop, R: Wait + Copy>(
-    rt: &R,
-    alloc: Global,
-    cache: &Cache<N, u64, u64, AnyPair, I, R>,
-    mut upkeep: Upkeep<N>,
+// Puts the keys that are always there.
+fn put_staying<N: Name + LogName, W: Wait>(
+    rt: &W,
+    cache: &Cache<N, u64, Value>,
+    changer: &mut Changer<N>,
+) -> u64 {
+    let mut refused = 0u64;
+    for key in 0..STAYING {
+        let entry = Entry {
+            key,
+            value: value_of(key, 1),
+        };
+        count(&mut refused, changer.put(rt, cache, &entry, 0).is_err());
+    }
+    refused
+}
+
+// The writer's thread: it puts in turn a key that is always there and another one, and removes others, until the readers
+// are done. It tells how many puts were refused, or evicted what has to stay.
+fn write<N: Name + LogName, W: Wait>(
+    rt: &W,
+    cache: &Cache<N, u64, Value>,
+    mut changer: Changer<N>,
     done: &AtomicBool,
-) -> bool {
-    let mut now = 0u64;
-    let mut shown = true;
+) -> u64 {
+    let mut wrong = 0u64;
+    let mut seed = 2u64;
+    let mut turn = 0u64;
+    let mut number = 1u64;
     for _ in rt.forever() {
         if done.load(Ordering::SeqCst) {
-            return shown;
+            return wrong;
         }
-        let key = now % KEYS;
-        let put = cache.put(alloc, rt, key, now, now);
-        shown = shown && put.shown;
-        if now % 3 == 0 {
-            shown = cache.remove(rt, &(now % 7)).is_ok() && shown;
+        turn = turn.saturating_add(1);
+        for key in [turn % STAYING, next_other(&mut seed)] {
+            number = number.saturating_add(1);
+            let entry = Entry {
+                key,
+                value: value_of(key, number),
+            };
+            match changer.put(rt, cache, &entry, number) {
+                Ok(did) => {
+                    let evicted = did.evicted.map(|entry| entry.key);
+                    count(&mut wrong, evicted.is_some_and(|key| key < STAYING));
+                }
+                Err(_) => count(&mut wrong, true),
+            }
         }
-        cache.tend(rt, &mut upkeep, now);
-        now = now.saturating_add(1);
+        if turn % 3 == 0 {
+            changer.remove(rt, cache, &next_other(&mut seed));
+        }
     }
     unreachable!()
 }
 
-// Each reader in a thread of its own, and the writer in one more, until all readers are done.
-fn run_threads<
-    N: Name + Send + Sync,
-    I: Indexed<u64, u64, AnyPair> + Drop + Send + Sync,
-    R: Threads + Wait + Copy + Send + Sync,
->(
-    rt: &R,
-    alloc: Global,
-    cache: &Cache<N, u64, u64, AnyPair, I, R>,
-    readers: Vec<CacheReader<N, u64, u64, AnyPair, I>>,
-    upkeep: Upkeep<N>,
+// The tender's thread, until the readers are done.
+fn tend<N: Name + LogName, W: Wait>(
+    rt: &W,
+    cache: &Cache<N, u64, Value>,
+    changer: Changer<N>,
     done: &AtomicBool,
-) -> (Result<Vec<u64>, AllocError>, bool) {
-    thread::join(
-        rt,
-        || {
-            let wrong = thread::map_vec(rt, readers, &|reader| read(reader));
-            done.store(true, Ordering::SeqCst);
-            wrong
-        },
-        || write(rt, alloc, cache, upkeep, done),
-    )
+) {
+    let clock = AtomicU64::new(7);
+    changer.tend_until(rt, cache, &clock, done);
 }
 
-impl<R: Threads + Wait + Copy + Send + Sync> Runner<R> {
-    // All of it under the name that the blank's table has: how many gets were wrong, and whether all was shown.
-    fn run<N: Name + Send + Sync, I: Indexed<u64, u64, AnyPair> + Drop + Send + Sync>(
-        &self,
-        blank: CacheBlank,
-    ) -> Result<(u64, bool), AllocError>
-        requires name { blank.table ≡ N.table }
-    {
-        let Opened {
-            cache,
-            readers,
-            upkeep,
-        } = open::<N, u64, u64, AnyPair, I, R>(self.alloc, &self.rt, blank)?;
-        let done = AtomicBool::new(false);
-        let (wrong, shown) = run_threads(&self.rt, self.alloc, &cache, readers, upkeep, &done);
-        let mut all = 0u64;
-        for one in &wrong? {
-            all = all.saturating_add(*one);
-        }
-        Ok((all, shown))
+// Each reader in a thread of its own, the writer in one more, and the tender in another.
+fn run_threads<N: Name + LogName + Send + Sync, R: Threads + Wait + Sync>(
+    rt: &R,
+    cache: &Cache<N, u64, Value>,
+    readers: Vec<CacheReader<N, u64, Value>>,
+    writer: Changer<N>,
+    tender: Changer<N>,
+) -> (Result<Vec<Seen>, AllocError>, u64) {
+    let done = AtomicBool::new(false);
+    let (told, ()) = thread::join(
+        rt,
+        || {
+            thread::join(
+                rt,
+                || {
+                    let seen = thread::map_vec(rt, readers, &|reader| read(reader));
+                    done.store(true, Ordering::SeqCst);
+                    seen
+                },
+                || write(rt, cache, writer, &done),
+            )
+        },
+        || tend(rt, cache, tender, &done),
+    );
+    told
+}
+
+// All of it under the names that the blank's table and log have: how much was wrong.
+fn run<N: Name + LogName + Send + Sync, R: Threads + Wait + Sync>(
+    rt: &R,
+    alloc: Global,
+    blank: CacheBlank<u64, Value>,
+) -> Result<(Seen, u64, bool), AllocError>
+    requires table { blank.table ≡ N.table }
+    requires book { blank.log.book ≡ N.book }
+    requires name { blank.log.name ≡ N.name }
+    requires parts { blank.log.parts ≡ N.parts }
+{
+    let Opened {
+        cache,
+        caller: mut me,
+        readers,
+    } = open::<N, u64, Value, R>(alloc, rt, blank)?;
+    let tender = Changer::new(me.another());
+    let mut writer = Changer::new(me.another());
+    let refused = put_staying(rt, &cache, &mut writer);
+    let (seen, wrong) = run_threads(rt, &cache, readers, writer, tender);
+    let mut all = Seen {
+        wrong: 0,
+        missing: 0,
+        older: 0,
+    };
+    for one in &seen? {
+        all.wrong = all.wrong.saturating_add(one.wrong);
+        all.missing = all.missing.saturating_add(one.missing);
+        all.older = all.older.saturating_add(one.older);
     }
+    let stats = Changer::new(me).stats(rt, &cache);
+    Ok((all, wrong.saturating_add(refused), adds_up(&stats)))
 }
 
 #[test]
-fn no_reader_gets_another_keys_value(rt: HostRuntime) -> Result<(), Fail> {
-    let config = CacheConfig {
-        items: 48,
-        hot: 20,
-        warm: 40,
-        readers: 8,
-        ring: 16,
-    };
-    let alloc = rt.alloc();
-    let runner = Runner { rt: &rt, alloc };
-    let blank = CacheBlank::new(alloc, &config)?;
-    let (wrong, shown) = runner.run::<Brand, Index<u64, u64, AnyPair>>(blank)?;
-    assert_eq!(rt; wrong, 0);
-    assert!(rt; shown);
+fn readers_beside_a_writer_get_what_was_put(rt: HostRuntime) -> Result<(), Fail> {
+    for readers in [2, 4] {
+        let config = CacheConfig {
+            readers,
+            ..config_of(ITEMS, readers.saturating_mul(RING + 2), 20, 40, RING)
+        };
+        let blank = CacheBlank::<u64, Value>::new(rt.alloc(), &config)?;
+        let (seen, wrong, add_up) = run::<Brand, _>(&rt, rt.alloc(), blank)?;
+        assert_eq!(rt; seen.wrong, 0, "wrong values, of {readers} readers");
+        assert_eq!(rt; seen.missing, 0, "of {readers} readers");
+        assert_eq!(rt; seen.older, 0, "older values, of {readers} readers");
+        assert_eq!(rt; wrong, 0, "puts beside {readers} readers");
+        assert!(rt; add_up);
+    }
     Ok(())
 }

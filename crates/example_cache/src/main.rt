@@ -1,34 +1,44 @@
 //! A cache of numbers by their keys: an example to be copied. It opens a cache of 100 items with one reader, puts a
-//! number under a key, and gets it. In this folder `rt try` runs it, and `rt run` proves it first.
+//! number under a key, gets it, and tends the cache. In this folder `rt try` runs it, and `rt run` proves it first.
 #![tactic(auto)]
 
 ghost use Rattle.std.specs.Prelude.{◌≡◌};
 
 use anyhow::Result;
-use bump_cache::{AnyPair, CacheBlank, CacheConfig, Index, Name, open};
+use bump_cache::{CacheBlank, CacheConfig, LogName, Name, Opened, Seed, open};
 use std::alloc::{AllocError, Global};
 use std::marker::Brand;
 use std::sync::Wait;
 
-// Puts a number, and gets it: the cache is opened under the name that the blank's table has.
-fn run<N: Name, R: Wait + Copy>(
+// Puts a number, gets it, and tends the cache, which is opened under the names that the blank's table and log have.
+fn run<N: Name + LogName, R: Wait>(
     rt: &R,
     alloc: Global,
-    blank: CacheBlank,
+    blank: CacheBlank<u64, u64>,
 ) -> Result<Option<u64>, AllocError>
-    requires name { blank.table ≡ N.table }
+    requires table { blank.table ≡ N.table }
+    requires book { blank.log.book ≡ N.book }
+    requires name { blank.log.name ≡ N.name }
+    requires parts { blank.log.parts ≡ N.parts }
 {
-    let mut opened = open::<N, u64, u64, AnyPair, Index<u64, u64, AnyPair>, R>(alloc, rt, blank)?;
-    opened.cache.put(alloc, rt, 7, 49, 0);
-    match opened.readers.first_mut() {
-        Some(reader) => Ok(reader.get(&7, 1).map(|item| *item.value())),
-        None => Ok(None),
-    }
+    let Opened {
+        cache,
+        caller: mut me,
+        mut readers,
+    } = open::<N, u64, u64, R>(alloc, rt, blank)?;
+    let _ = cache.put(rt, &mut me, &7, &49, 0);
+    let got = match readers.first_mut() {
+        Some(reader) => reader.get(&7, 1),
+        None => None,
+    };
+    cache.tend(rt, &mut me, 2);
+    Ok(got)
 }
 
 fn main(rt: HostRuntime) -> Result<()> {
-    let blank = CacheBlank::new(rt.alloc(), &CacheConfig::new(100, 1))?;
-    let found = run::<Brand, _>(&&rt, rt.alloc(), blank)?;
-    println!(rt; "{found:?}")?;
+    let config = CacheConfig::new(100, 1, Seed::random(&rt)?);
+    let blank = CacheBlank::new(rt.alloc(), &config)?;
+    let got = run::<Brand, _>(&rt, rt.alloc(), blank)?;
+    println!(rt; "{got:?}")?;
     Ok(())
 }

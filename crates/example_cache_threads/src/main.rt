@@ -1,18 +1,18 @@
-//! A cache that threads share: an example to be copied. Four readers get values and wait for nobody, while another
-//! thread puts them anew and tends the cache. In this folder `rt try` runs it, and `rt run` proves it first.
+//! A cache that threads share: an example to be copied. Four readers get values and wait for nobody, while one more thread
+//! puts them anew, and another one tends the cache. In this folder `rt try` runs it, and `rt run` proves it first.
 #![tactic(auto)]
 
-ghost use Rattle.std.specs.Prelude.{◌≡◌};
+ghost use Rattle.std.specs.Prelude.{◌≡◌, ◌<◌};
 
 use anyhow::Result;
 use bump_cache::{
-    AnyPair, Cache, CacheBlank, CacheConfig, CacheReader, Index, Indexed, Name, Opened, Stats,
-    Upkeep, open,
+    Cache, CacheBlank, CacheConfig, CacheReader, CacheState, Caller, LogName, Name, Opened, Seed,
+    Stats, open,
 };
 use std::alloc::{AllocError, Global};
 use std::marker::Brand;
 use std::sync::Wait;
-use std::sync::atomic::{AtomicBool, Ordering};
+use std::sync::atomic::{AtomicBool, AtomicU64, Ordering};
 use std::thread;
 use std::thread::Threads;
 
@@ -32,14 +32,12 @@ struct Gets {
 }
 
 // A reader's thread: it gets the keys in turn.
-fn read<N: Name, I: Indexed<u64, u64, AnyPair> + Drop>(
-    mut reader: CacheReader<N, u64, u64, AnyPair, I>,
-) -> Gets {
+fn read<N: Name + LogName>(mut reader: CacheReader<N, u64, u64>) -> Gets {
     let mut wrong = 0u64;
     for now in 0..GETS {
         let key = now % KEYS;
-        if let Some(item) = reader.get(&key, now) {
-            if *item.value() % KEYS != key {
+        if let Some(value) = reader.get(&key, now) {
+            if value % KEYS != key {
                 wrong = wrong.saturating_add(1);
             }
         }
@@ -48,73 +46,105 @@ fn read<N: Name, I: Indexed<u64, u64, AnyPair> + Drop>(
     Gets { wrong, counted }
 }
 
-// The other thread: it puts the keys in turn and tends the cache, until the readers are done.
-fn write<N: Name, I: Indexed<u64, u64, AnyPair> + Drop, R: Wait + Copy>(
+// The thread that puts: it puts the keys in turn, and tells the time, until the readers are done.
+fn write<N: Name + LogName, R: Wait>(
     rt: &R,
-    alloc: Global,
-    cache: &Cache<N, u64, u64, AnyPair, I, R>,
-    mut upkeep: Upkeep<N>,
+    cache: &Cache<N, u64, u64>,
+    mut me: Caller<N, CacheState>,
+    clock: &AtomicU64,
     done: &AtomicBool,
-) {
+)
+    requires { 0 < me.parts }
+{
     let mut now = 0u64;
     for _ in rt.forever() {
         if done.load(Ordering::SeqCst) {
             return;
         }
-        cache.put(alloc, rt, now % KEYS, now, now);
-        cache.tend(rt, &mut upkeep, now);
+        let _ = cache.put(rt, &mut me, &(now % KEYS), &now, now);
         now = now.saturating_add(1);
+        clock.store(now, Ordering::SeqCst);
     }
 }
 
-// Each reader in a thread of its own, and the one that puts in one more, until all readers are done.
-fn work<
-    N: Name + Send + Sync,
-    I: Indexed<u64, u64, AnyPair> + Drop + Send + Sync,
-    R: Threads + Wait + Copy + Send + Sync,
->(
+// The thread that tends, until the readers are done.
+fn tend<N: Name + LogName, R: Wait>(
     rt: &R,
-    alloc: Global,
-    cache: &Cache<N, u64, u64, AnyPair, I, R>,
-    readers: Vec<CacheReader<N, u64, u64, AnyPair, I>>,
-    upkeep: Upkeep<N>,
+    cache: &Cache<N, u64, u64>,
+    mut me: Caller<N, CacheState>,
+    clock: &AtomicU64,
     done: &AtomicBool,
-) -> Result<Vec<Gets>, AllocError> {
-    let (gets, ()) = thread::join(
+)
+    requires { 0 < me.parts }
+{
+    cache.tend_until(rt, &mut me, clock, done);
+}
+
+// Each reader in a thread of its own, and two more for the one that puts and the one that tends, until all readers are done.
+fn work<N: Name + LogName + Send + Sync, R: Threads + Wait + Sync>(
+    rt: &R,
+    cache: &Cache<N, u64, u64>,
+    readers: Vec<CacheReader<N, u64, u64>>,
+    writer: Caller<N, CacheState>,
+    tender: Caller<N, CacheState>,
+) -> Result<Vec<Gets>, AllocError>
+    requires writer { 0 < writer.parts }
+    requires tender { 0 < tender.parts }
+{
+    let clock = AtomicU64::new(0);
+    let done = AtomicBool::new(false);
+    let (gets, ((), ())) = thread::join(
         rt,
         || {
             let gets = thread::map_vec(rt, readers, &|reader| read(reader));
             done.store(true, Ordering::SeqCst);
             gets
         },
-        || write(rt, alloc, cache, upkeep, done),
+        || -> ((), ())
+            requires { (0 < writer.parts) × (0 < tender.parts) }
+        {
+            thread::join(
+                rt,
+                || -> ()
+                    requires { 0 < writer.parts }
+                { write(rt, cache, writer, &clock, &done) },
+                || -> ()
+                    requires { 0 < tender.parts }
+                { tend(rt, cache, tender, &clock, &done) },
+            )
+        },
     );
     gets
 }
 
-// All of it under the name that the blank's table has.
-fn run<
-    N: Name + Send + Sync,
-    I: Indexed<u64, u64, AnyPair> + Drop + Send + Sync,
-    R: Threads + Wait + Copy + Send + Sync,
->(rt: &R, alloc: Global, blank: CacheBlank) -> Result<(Gets, Stats), AllocError>
-    requires name { blank.table ≡ N.table }
+// All of it under the names that the blank's table and log have.
+fn run<N: Name + LogName + Send + Sync, R: Threads + Wait + Sync>(
+    rt: &R,
+    alloc: Global,
+    blank: CacheBlank<u64, u64>,
+) -> Result<(Gets, Stats), AllocError>
+    requires table { blank.table ≡ N.table }
+    requires book { blank.log.book ≡ N.book }
+    requires name { blank.log.name ≡ N.name }
+    requires parts { blank.log.parts ≡ N.parts }
 {
     let Opened {
         cache,
+        caller: mut me,
         readers,
-        upkeep,
-    } = open::<N, u64, u64, AnyPair, I, R>(alloc, rt, blank)?;
-    let done = AtomicBool::new(false);
+    } = open::<N, u64, u64, R>(alloc, rt, blank)?;
+    // Each thread that changes the cache has a caller of its own.
+    let writer = me.another();
+    let tender = me.another();
     let mut all = Gets {
         wrong: 0,
         counted: 0,
     };
-    for gets in &work(rt, alloc, &cache, readers, upkeep, &done)? {
+    for gets in &work(rt, &cache, readers, writer, tender)? {
         all.wrong = all.wrong.saturating_add(gets.wrong);
         all.counted = all.counted.saturating_add(gets.counted);
     }
-    Ok((all, cache.stats(rt)))
+    Ok((all, cache.stats(rt, &mut me)))
 }
 
 fn sum(counts: &[u64]) -> u64 {
@@ -145,14 +175,11 @@ fn add_up(stats: &Stats) -> bool {
 fn main(rt: HostRuntime) -> Result<()> {
     let alloc = rt.alloc();
     let config = CacheConfig {
-        items: 48,
-        hot: 20,
-        warm: 40,
-        readers: READERS,
         ring: 16,
+        ..CacheConfig::new(48, READERS, Seed::random(&rt)?)
     };
     let blank = CacheBlank::new(alloc, &config)?;
-    let (gets, stats) = run::<Brand, Index<u64, u64, AnyPair>, _>(&&rt, alloc, blank)?;
+    let (gets, stats) = run::<Brand, _>(&rt, alloc, blank)?;
     println!(rt;
         "{READERS} readers got {} values of another key",
         gets.wrong

@@ -1,10 +1,10 @@
 -- Texts to which lines are added.
 use Rattle.std.proofs.Common.{ℕ, ◌+◌, ◌%◌, ◌≡◌, ◌≤◌, ◌<◌, List, [], ◌∷◌, ◌++◌, length, take, refl, sym, ap, subst, ◌∙◌, arith, append_assoc, append-nil, length-append, length-take, get_or, codes, inl, inr}
-use Rattle.std.proofs.lemmas.List.Elements.{All-nil, All-cons, All-append, All-weaker}
+use Rattle.std.proofs.lemmas.List.Elements.{All-nil, All-cons, All-append}
 use Rattle.std.proofs.lemmas.Grind.{flat_map-append}
 use Rattle.std.proofs.lemmas.List.{take_more}
 use Rattle.bump_trace.specs.Runs.{most_bytes}
-use Rattle.replay_runs.specs.Writing.{with_end, text_of, IsUpkeep, IsPutOrUpkeep, Adds, AddsAccess, AddsRun, TellsFirst, HasTooLong}
+use Rattle.replay_runs.specs.Writing.{with_end, text_of, IsUpkeep, Adds, AddsAccess, AddsRun, TellsFirst, HasTooLong}
 use Rattle.replay_runs.specs.declared.plans.Plan.{Plan}
 
 -- nothing was added
@@ -46,26 +46,17 @@ adds_fewer {Kind} {most} more few added = record {
   few = omega (arith, added.few, few);
 }
 
--- upkeep is also what a put may have
-pub adds_put : {most : ℕ} {old new : List ℕ} (key : ℕ) → Adds IsUpkeep most old new → Adds (IsPutOrUpkeep key) most old new
-adds_put key added = record {
-  lines = added.lines;
-  text = added.text;
-  kind = All-weaker IsUpkeep (IsPutOrUpkeep key) (λ line up. inr up) added.lines added.kind;
-  few = added.few;
-}
-
 -- upkeep behind the lines of an access is of that access
 pub access_and_upkeep : (most more worker key : ℕ) (old between new : List ℕ) → AddsAccess worker key most old between
     → Adds IsUpkeep more between new → AddsAccess worker key (most + more) old new
 access_and_upkeep most more worker key old between new (inl got) up = inl (adds_both got up)
-access_and_upkeep most more worker key old between new (inr put) up = inr (adds_both put (adds_put key up))
+access_and_upkeep most more worker key old between new (inr put) up = inr (put.0, put.1, adds_both put.2 up)
 
 -- at most so many are also at most more
 pub access_fewer : (most worker key more : ℕ) (old new : List ℕ) → most ≤ more → AddsAccess worker key most old new
     → AddsAccess worker key more old new
 access_fewer most worker key more old new few (inl got) = inl (adds_fewer more few got)
-access_fewer most worker key more old new few (inr put) = inr (adds_fewer more few put)
+access_fewer most worker key more old new few (inr put) = inr (put.0, put.1, adds_fewer more few put.2)
 
 -- one more access behind a run
 run_and_access : (workers most place key : ℕ) (keys old between new : List ℕ) → AddsRun workers most place keys old between

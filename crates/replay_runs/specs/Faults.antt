@@ -3,22 +3,25 @@ use Rattle.std.specs.Prelude.{ℕ, ◌≡◌, ◌<◌, ◌⊎◌, ⊤, true, Lis
 use Rattle.bump_cache.specs.declared.config.CacheFault.{CacheFault}
 use Rattle.bump_trace.specs.Meaning.{verdict_of}
 use Rattle.bump_trace.specs.Runs.{most_bytes}
+use Rattle.cache_shelf.specs.Limits.{put_bumps}
 use Rattle.bump_trace.specs.declared.runs.SimFault.{SimFault}
 use Rattle.bump_trace.specs.declared.runs.SimFault.TheVariants as sim
 use Rattle.replay_runs.specs.Writing.{IsTraceOf, HasTooLong}
 use Rattle.replay_runs.specs.declared.plans.Plan.{Plan}
 use Rattle.replay_runs.specs.declared.faults.ReplayFault.{ReplayFault}
-use Rattle.replay_runs.specs.declared.faults.ReplayFault.TheVariants.{Config, Memory, Long, Refused, Run}
+use Rattle.replay_runs.specs.declared.faults.ReplayFault.TheVariants.{Config, Memory, Long, Bumps, Refused, Run}
 
 -- why no store is made of a plan: for the fault that its configuration has, if it has one, and else for want of memory
 abbrev pub RefusesStore : Option CacheFault → ReplayFault → Type 0
 RefusesStore None fault = fault ≡ Memory
 RefusesStore (Some own) fault = fault ≡ Config own
 
--- why no text is written: memory was refused, or the World refused a call, or the text would be too long
+-- Why no text is written: memory was refused, or the World refused a call, or the text would be too long, or a reader's
+-- ring had more bumps at a put than it applies.
 abbrev pub IsOfTraceWriting : Plan → List ℕ → ReplayFault → Type 0
 IsOfTraceWriting plan accesses (Config own) = ⊥
 IsOfTraceWriting plan accesses Long = HasTooLong plan accesses
+IsOfTraceWriting plan accesses Bumps = put_bumps < plan.config.ring
 IsOfTraceWriting plan accesses Memory = ⊤
 IsOfTraceWriting plan accesses Refused = ⊤
 IsOfTraceWriting plan accesses (Run own) = ⊥
@@ -39,6 +42,7 @@ fault_of sim.Gate = Run sim.Gate
 abbrev pub IsOfText : List ℕ → ReplayFault → Type 0
 IsOfText text (Config own) = ⊥
 IsOfText text Long = most_bytes < length text
+IsOfText text Bumps = ⊥
 IsOfText text Memory = ⊤
 IsOfText text Refused = ⊥
 IsOfText text (Run sim.Trace) = (verdict_of text).is_fault ≡ true

@@ -6,4 +6,5 @@ pub use Rattle.bump_cache.specs.Configs
 pub use Rattle.bump_rules.specs.Caches
 pub use Rattle.bump_trace.specs.Meaning
 pub use Rattle.bump_trace.specs.Runs
+pub use Rattle.cache_shelf.specs.Limits
 pub use Rattle.trace_lines.specs.Counted

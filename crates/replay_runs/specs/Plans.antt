@@ -1,7 +1,15 @@
 -- How an access log is run.
-use Rattle.std.specs.Prelude.{ℕ}
+use Rattle.std.specs.Prelude.{ℕ, Option, Some, None}
+use Rattle.bump_cache.specs.Configs.{spare_of}
 use Rattle.replay_runs.specs.declared.plans.Plan.{Plan}
 
--- a plan, for so many items
-abbrev pub with_items : ℕ → Plan → Plan
-with_items items plan = record plan { config = record plan.config { items = items } }
+-- so many spare chunks: those that were asked for, or as many as a cache of so many items has with so many readers
+abbrev pub spare_for : Option ℕ → ℕ → ℕ → ℕ
+spare_for None items readers = spare_of items readers
+spare_for (Some spare) items readers = spare
+
+-- a plan, for so many items, and the spare chunks that were asked for
+abbrev pub with_items : ℕ → Option ℕ → Plan → Plan
+with_items items spare plan = record plan {
+  config = record plan.config { items = items; spare = spare_for spare items plan.config.readers };
+}

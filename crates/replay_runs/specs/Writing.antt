@@ -1,9 +1,10 @@
 -- What the trace of a log's run has in its text: the lines of each access, in turn.
-use Rattle.std.specs.Prelude.{ℕ, ◌+◌, ◌*◌, ◌%◌, ◌≡◌, ◌≤◌, ◌<◌, ◌⊎◌, max, ⊤, Bool, true, not, ◌||◌, List, [], ◌∷◌, ◌++◌, All}
+use Rattle.std.specs.Prelude.{ℕ, ◌+◌, ◌%◌, ◌≡◌, ◌≤◌, ◌<◌, ◌⊎◌, max, ⊤, Bool, true, not, ◌||◌, List, [], ◌∷◌, ◌++◌, All}
 use Rattle.std.specs.Prelude.{length, take, codes, decimal, nat_eq}
 use Rattle.std.specs.List.{flat_map, starts_with}
 use Rattle.bump_rules.specs.Caches.{cache_refs}
 use Rattle.bump_trace.specs.Runs.{most_bytes}
+use Rattle.cache_shelf.specs.Limits.{put_bumps}
 use Rattle.replay_runs.specs.declared.faults.ReplayFault.{ReplayFault}
 use Rattle.replay_runs.specs.declared.faults.ReplayFault.TheVariants as fault
 use Rattle.replay_runs.specs.declared.plans.Plan.{Plan}
@@ -31,10 +32,6 @@ is_upkeep line = not (starts_with nat_eq line (codes "get ") || starts_with nat_
 abbrev pub IsUpkeep : List ℕ → Type 0
 IsUpkeep line = is_upkeep line ≡ true
 
--- a line that puts an item for the key, or that gets none and puts none
-abbrev pub IsPutOrUpkeep : ℕ → List ℕ → Type 0
-IsPutOrUpkeep key line = (line ≡ set_instruction key) ⊎ IsUpkeep line
-
 -- Behind a text some lines of a kind were written, at most so many.
 pub record Adds (Kind : List ℕ → Type 0) (most : ℕ) (old new : List ℕ) : Type 0 where
   pub lines : List (List ℕ)
@@ -42,11 +39,21 @@ pub record Adds (Kind : List ℕ → Type 0) (most : ℕ) (old new : List ℕ) :
   pub kind : All Kind lines
   pub few : length lines ≤ most
 
--- Behind a text the lines of an access were written: it is a get of its key by this worker, or an item is put for the
--- key, at once or behind tries to make room. At most so many other lines are behind that.
+-- At most so many lines of upkeep stand before the put of an access: one applies bumps, 8 rescue, at most 5 evict, and
+-- one sweeps.
+abbrev pub most_before : ℕ
+most_before = 15
+
+-- Behind a text an item was put for the key. At most so many lines of upkeep stand before that, and so many behind it.
+abbrev pub AddsPut : ℕ → ℕ → List ℕ → List ℕ → Type 0
+AddsPut key most old new = (before : List ℕ) × Adds IsUpkeep most_before old before
+    × Adds IsUpkeep most (before ++ with_end (set_instruction key)) new
+
+-- Behind a text the lines of an access were written: a get of its key by this worker, or one put of an item for the key.
+-- At most so many lines of upkeep are behind that.
 abbrev pub AddsAccess : ℕ → ℕ → ℕ → List ℕ → List ℕ → Type 0
 AddsAccess worker key most old new = Adds IsUpkeep most (old ++ with_end (get_instruction worker key)) new
-    ⊎ Adds (IsPutOrUpkeep key) most (old ++ with_end (set_instruction key)) new
+    ⊎ AddsPut key most old new
 
 -- Behind a text the lines of these accesses were written, in order. The workers take turns, and it is the turn of the
 -- one of this place.
@@ -55,20 +62,20 @@ AddsRun workers most place [] old new = new ≡ old
 AddsRun workers most place (key ∷ keys) old new = (between : List ℕ)
     × AddsAccess (place % workers) key most old between × AddsRun workers most (place + 1) keys between new
 
--- At most so many lines are written behind the first one of an access: for each item that there may be, and once more,
--- room is made and the put tried again by at most 7, and the cache is balanced and tended by at most 204.
-abbrev pub most_behind : Plan → ℕ
-most_behind plan = 7 * (plan.config.items + 1) + 204
+-- At most so many lines of upkeep stand behind the get or the put of an access: the lists are balanced by at most 16, and
+-- the cache is tended by at most 202.
+abbrev pub most_behind : ℕ
+most_behind = 218
 
 -- the first lines of a plan's trace: what the store is
 abbrev pub header : Plan → List ℕ
 header plan =
     codes "store " ++ decimal plan.config.readers ++ codes " " ++ decimal plan.config.ring ++ codes " " ++ decimal cache_refs
-    ++ codes " 1\nclass " ++ decimal plan.config.items ++ codes " 0 0\n"
+    ++ codes " 1\nclass " ++ decimal (plan.config.items + plan.config.spare) ++ codes " 0 0\n"
 
 -- a text that tells what the store of a plan is, and then the first so many accesses
 abbrev pub TellsFirst : Plan → ℕ → List ℕ → List ℕ → Type 0
-TellsFirst plan count accesses text = AddsRun (max plan.config.readers 1) (most_behind plan) 0 (take count accesses) (header plan) text
+TellsFirst plan count accesses text = AddsRun (max plan.config.readers 1) most_behind 0 (take count accesses) (header plan) text
 
 -- the text of a whole run: what the store is, all accesses, and at last all that the store has
 abbrev pub IsTraceOf : Plan → List ℕ → List ℕ → Type 0
@@ -84,6 +91,16 @@ HasTooLong plan accesses = (count : ℕ) × (run : List ℕ) × TellsFirst plan 
 abbrev pub IsOfCalls : ReplayFault → Type 0
 IsOfCalls (fault.Config own) = ⊥
 IsOfCalls fault.Long = ⊥
+IsOfCalls fault.Bumps = ⊥
 IsOfCalls fault.Memory = ⊤
 IsOfCalls fault.Refused = ⊤
 IsOfCalls (fault.Run own) = ⊥
+
+-- A fault of a put: one of its calls, or a reader's ring had more bumps than a put applies.
+abbrev pub IsOfPut : Plan → ReplayFault → Type 0
+IsOfPut plan (fault.Config own) = ⊥
+IsOfPut plan fault.Long = ⊥
+IsOfPut plan fault.Bumps = put_bumps < plan.config.ring
+IsOfPut plan fault.Memory = ⊤
+IsOfPut plan fault.Refused = ⊤
+IsOfPut plan (fault.Run own) = ⊥

@@ -1,7 +1,8 @@
 //! What a cache does at an access, and where it is tended.
-ghost use Rattle.std.specs.Prelude.{◌+◌, ◌*◌, ◌%◌, ◌<◌, ◌++◌, IfOk, IfErr, OnOk, length, max};
-ghost use Rattle.replay_runs.specs.Writing.{with_end, set_instruction, IsUpkeep, IsPutOrUpkeep, Adds, AddsAccess, IsTraceOf};
-ghost use Rattle.replay_runs.specs.Writing.{IsOfCalls, most_behind};
+ghost use Rattle.std.specs.Prelude.{◌+◌, ◌*◌, ◌%◌, ◌<◌, IfOk, IfErr, OnOk, length, max};
+ghost use Rattle.cache_lists.specs.Rescues.{most_rescues};
+ghost use Rattle.replay_runs.specs.Writing.{IsUpkeep, Adds, AddsPut, AddsAccess, IsTraceOf};
+ghost use Rattle.replay_runs.specs.Writing.{IsOfCalls, IsOfPut, most_before, most_behind};
 ghost use Rattle.replay_runs.specs.Faults.{IsOfTraceWriting};
 
 use crate::faults::ReplayFault;
@@ -9,50 +10,99 @@ use crate::plans::Plan;
 use crate::scribes::Scribe;
 use bump_core::{Config, Tail};
 use bump_rules::LOOKS;
+use cache_lists::RESCUES;
+use cache_shelf::{PUT_BUMPS, PUT_LOOKS};
 use std::alloc::Global;
 use std::hash::RandomState;
 
-// Makes room where no chunk is free; whether there may be some now.
-fn make_room(scribe: &mut Scribe) -> Result<bool, ReplayFault>
-    ensures text { OnOk result (Adds IsUpkeep 6 scribe.old.text.items scribe.new.text.items) }
-    ensures fault { IfErr result IsOfCalls }
+// Applies the bumps that wait, as a put does. No line of a trace applies some of them and leaves others.
+fn drain_for_put(scribe: &mut Scribe, plan: &Plan) -> Result<(), ReplayFault>
+    ensures text { OnOk result (Adds IsUpkeep 1 scribe.old.text.items scribe.new.text.items) }
+    ensures fault { IfErr result (IsOfPut plan.now) }
 {
-    if scribe.sweep()? {
-        return Ok(true);
-    }
-    if scribe.evict()? {
-        return Ok(true);
-    }
-    if scribe.end_last_of(Tail::Warm)? {
-        return Ok(true);
-    }
-    let ended = scribe.end_last_of(Tail::Hot)?;
-    Ok(ended)
-}
-
-// Links an item for a key that has none, where there is room. No put evicts more items than there are, and one sweep is
-// enough for one: so many tries are enough.
-fn place(scribe: &mut Scribe, plan: &Plan, key: u32) -> Result<(), ReplayFault>
-    ensures text { OnOk result (Adds (IsPutOrUpkeep key) (7 * (plan.now.config.items + 1))
-        (scribe.old.text.items ++ with_end (set_instruction key)) scribe.new.text.items) }
-    ensures fault { IfErr result IsOfCalls }
-{
-    if scribe.link(key)? {
+    if !scribe.has_waiting(0) {
         return Ok(());
     }
-    for _ in 0..plan.config.items.saturating_add(1) {
-        if !make_room(scribe)? {
-            return Ok(());
-        }
-        if scribe.link(key)? {
+    if plan.config.ring > PUT_BUMPS && scribe.has_waiting(PUT_BUMPS) {
+        return Err(ReplayFault::Bumps);
+    }
+    scribe.drain()?;
+    Ok(())
+}
+
+// Moves the last items of COLD to WARM, as long as they are ACTIVE, but not more than an evict rescues.
+fn rescue(scribe: &mut Scribe) -> Result<(), ReplayFault>
+    ensures text { OnOk result (Adds IsUpkeep most_rescues scribe.old.text.items scribe.new.text.items) }
+    ensures fault { IfErr result IsOfCalls }
+{
+    for _ in 0..RESCUES {
+        if !scribe.rescue_last()? {
             return Ok(());
         }
     }
     Ok(())
 }
 
+// Evicts an item: behind the rescues the last of COLD ends, or of WARM where COLD is empty, or of HOT.
+fn evict(scribe: &mut Scribe) -> Result<(), ReplayFault>
+    ensures text { OnOk result (Adds IsUpkeep (most_rescues + 5) scribe.old.text.items scribe.new.text.items) }
+    ensures fault { IfErr result IsOfCalls }
+{
+    rescue(scribe)?;
+    if scribe.end_last_of_cold()? {
+        return Ok(());
+    }
+    if scribe.end_last_of(Tail::Warm)? {
+        return Ok(());
+    }
+    scribe.end_last_of(Tail::Hot)?;
+    Ok(())
+}
+
+// Evicts an item where there are as many as there may be.
+fn evict_where_full(scribe: &mut Scribe, plan: &Plan) -> Result<(), ReplayFault>
+    ensures text { OnOk result (Adds IsUpkeep (most_rescues + 5) scribe.old.text.items scribe.new.text.items) }
+    ensures fault { IfErr result IsOfCalls }
+{
+    if scribe.linked() < u64::from(plan.config.items) {
+        return Ok(());
+    }
+    evict(scribe)?;
+    Ok(())
+}
+
+// Makes room for an item: bumps are applied, an item is evicted where there are as many as there may be, and chunks come
+// free where none is. A put frees at most 64 of them, and a line of a trace all; but where one thread has a cache, none
+// of an ended item waits for a sweep that no bump holds.
+fn make_room(scribe: &mut Scribe, plan: &Plan) -> Result<(), ReplayFault>
+    ensures text { OnOk result (Adds IsUpkeep most_before scribe.old.text.items scribe.new.text.items) }
+    ensures fault { IfErr result (IsOfPut plan.now) }
+{
+    drain_for_put(scribe, plan)?;
+    evict_where_full(scribe, plan)?;
+    if scribe.has_room() {
+        return Ok(());
+    }
+    scribe.sweep()?;
+    Ok(())
+}
+
+// Puts an item for a key that has none.
+fn place(scribe: &mut Scribe, plan: &Plan, key: u32) -> Result<(), ReplayFault>
+    ensures text { OnOk result (AddsPut key 16 scribe.old.text.items scribe.new.text.items) }
+    ensures fault { IfErr result (IsOfPut plan.now) }
+{
+    make_room(scribe, plan)?;
+    scribe.link(key)?;
+    if !scribe.count_put() {
+        return Ok(());
+    }
+    balance(scribe, plan, PUT_LOOKS)?;
+    Ok(())
+}
+
 // Looks at the ends of HOT and of WARM, where they have too many items; whether one has.
-fn balance(scribe: &mut Scribe, plan: &Plan) -> Result<bool, ReplayFault>
+fn look(scribe: &mut Scribe, plan: &Plan) -> Result<bool, ReplayFault>
     ensures text { OnOk result (Adds IsUpkeep 2 scribe.old.text.items scribe.new.text.items) }
     ensures fault { IfErr result IsOfCalls }
 {
@@ -61,40 +111,47 @@ fn balance(scribe: &mut Scribe, plan: &Plan) -> Result<bool, ReplayFault>
     Ok(hot || warm)
 }
 
-// Tends the cache. A look that finds nothing to do changes nothing, nor do those behind it.
-fn tend(scribe: &mut Scribe, plan: &Plan) -> Result<(), ReplayFault>
-    ensures text { OnOk result (Adds IsUpkeep 202 scribe.old.text.items scribe.new.text.items) }
+// Looks at them so many times. A look that finds nothing to do changes nothing, nor do those behind it.
+fn balance(scribe: &mut Scribe, plan: &Plan, count: u32) -> Result<(), ReplayFault>
+    ensures text { OnOk result (Adds IsUpkeep (2 * count) scribe.old.text.items scribe.new.text.items) }
     ensures fault { IfErr result IsOfCalls }
 {
-    scribe.drain()?;
-    scribe.sweep()?;
-    for _ in 0..LOOKS {
-        if !balance(scribe, plan)? {
+    for _ in 0..count {
+        if !look(scribe, plan)? {
             return Ok(());
         }
     }
     Ok(())
 }
 
+// Tends the cache.
+fn tend(scribe: &mut Scribe, plan: &Plan) -> Result<(), ReplayFault>
+    ensures text { OnOk result (Adds IsUpkeep 202 scribe.old.text.items scribe.new.text.items) }
+    ensures fault { IfErr result IsOfCalls }
+{
+    scribe.drain()?;
+    scribe.sweep()?;
+    balance(scribe, plan, LOOKS)?;
+    Ok(())
+}
+
 // A key is got, and put where it has no item.
 fn get_or_put(scribe: &mut Scribe, plan: &Plan, worker: u32, key: u32) -> Result<(), ReplayFault>
-    ensures text { OnOk result (AddsAccess worker key (7 * (plan.now.config.items + 1) + 2) scribe.old.text.items
-        scribe.new.text.items) }
-    ensures fault { IfErr result IsOfCalls }
+    ensures text { OnOk result (AddsAccess worker key 16 scribe.old.text.items scribe.new.text.items) }
+    ensures fault { IfErr result (IsOfPut plan.now) }
 {
     if scribe.get(worker, key)? {
         return Ok(());
     }
     place(scribe, plan, key)?;
-    balance(scribe, plan)?;
     Ok(())
 }
 
 // Writes the lines of an access, and tends the cache behind it where it is time for it.
 fn write_access(scribe: &mut Scribe, plan: &Plan, place: usize, key: u32) -> Result<(), ReplayFault>
-    ensures text { OnOk result (AddsAccess (place % max plan.now.config.readers 1) key (most_behind plan.now)
+    ensures text { OnOk result (AddsAccess (place % max plan.now.config.readers 1) key most_behind
         scribe.old.text.items scribe.new.text.items) }
-    ensures fault { IfErr result IsOfCalls }
+    ensures fault { IfErr result (IsOfPut plan.now) }
 {
     get_or_put(scribe, plan, plan.reader_at(place), key)?;
     let is_time = plan.is_time(place);

@@ -14,8 +14,9 @@ mod scribes;
 mod tests;
 mod traces;
 
-pub use bump_cache::{Accounts, CacheConfig, CacheFault, Flow, Stats};
+pub use bump_cache::{Accounts, CacheConfig, CacheFault, Seed, Stats};
 pub use bump_trace::SimFault;
+pub use cache_lists::Flow;
 pub use counting::HitCounts;
 pub use faults::ReplayFault;
 pub use outcomes::RunOutcome;

@@ -1,5 +1,5 @@
 //! How an access log is run.
-ghost use Rattle.std.specs.Prelude.{◌≡◌, ◌%◌, ◌<◌, None, IfOk, OnOk, IfErr, length, max};
+ghost use Rattle.std.specs.Prelude.{◌≡◌, ◌+◌, ◌%◌, ◌<◌, None, IfOk, OnOk, IfErr, length, max};
 ghost use Rattle.bump_cache.specs.Configs.{first_cache_fault};
 ghost use Rattle.replay_runs.specs.Faults.{RefusesStore};
 
@@ -8,9 +8,9 @@ use bump_cache::{CacheConfig, Config};
 use std::alloc::Global;
 
 /// How an access log is run.
-#[derive(Clone, Copy, Debug, PartialEq, Eq)]
+#[derive(Clone, Copy)]
 pub struct Plan {
-    /// What the cache is made from. Its readers get in turn.
+    /// What the cache is made from, also the seed of its keys' hashes. Its readers get in turn.
     pub config: CacheConfig,
 
     /// The cache is tended behind the first access, and then behind each so many; 0 is taken as 1.
@@ -28,6 +28,13 @@ impl Plan {
         ensures { result ≡ place % max self.now.config.readers 1 }
     {
         (place % self.config.readers.max(1) as usize) as u32
+    }
+
+    // How many chunks the plan's cache has.
+    pub(crate) fn chunks(&self) -> u64
+        ensures { result ≡ self.now.config.items + self.now.config.spare }
+    {
+        u64::from(self.config.items) + u64::from(self.config.spare)
     }
 
     // The configuration of the store that the plan's cache is made over.

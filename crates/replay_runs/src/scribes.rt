@@ -1,13 +1,15 @@
 //! A trace that is written line by line, each of which is made on a World at once.
 ghost use Rattle.std.specs.Prelude.{◌≡◌, ◌<◌, ◌∷◌, ◌++◌, [], true, false, length, codes, IfOk, IfErr, OnOk};
 ghost use Rattle.bump_trace.specs.Runs.{most_bytes};
-ghost use Rattle.replay_runs.specs.Writing.{with_end, get_instruction, set_instruction, header, is_upkeep, IsUpkeep, Adds, IsOfCalls};
+ghost use Rattle.replay_runs.specs.Writing.{with_end, get_instruction, set_instruction, header, is_upkeep, IsUpkeep, Adds};
+ghost use Rattle.replay_runs.specs.Writing.{IsOfCalls};
 
 use crate::faults::ReplayFault;
 use crate::plans::Plan;
-use bump_core::{Answer, Command, Config, ItemId, Refused, Tail, World};
+use bump_core::{Answer, Command, Config, ItemId, Place, Pulled, Refused, Tail, World};
 use bump_rules::CACHE_REFS;
 use bump_trace::MAX_BYTES;
+use cache_shelf::PUT_LOOKS;
 use std::alloc::Global;
 use std::collections::HashMap;
 use std::hash::RandomState;
@@ -25,6 +27,8 @@ pub(crate) struct Scribe {
     // the item of each key that has one
     items: HashMap<u32, ItemId, RandomState>,
     ring: u32,
+    // so many puts there were since the lists were balanced
+    puts: u32,
     ghost class: { 0 < length world.classes },
 }
 
@@ -37,7 +41,7 @@ fn header_of(alloc: Global, plan: &Plan) -> Result<Vec<u8>, ReplayFault>
     put_word(&mut text, b"store ", u64::from(plan.config.readers))?;
     put_word(&mut text, b" ", u64::from(plan.config.ring))?;
     put_word(&mut text, b" ", u64::from(CACHE_REFS))?;
-    put_word(&mut text, b" 1\nclass ", u64::from(plan.config.items))?;
+    put_word(&mut text, b" 1\nclass ", plan.chunks())?;
     text.extend_from_slice(b" 0 0\n")?;
     Ok(text)
 }
@@ -68,7 +72,7 @@ impl Scribe {
         ensures fault { IfErr result IsOfCalls }
     {
         let mut key_of_chunk = Vec::new(alloc);
-        key_of_chunk.resize(plan.config.items as usize, 0)?;
+        key_of_chunk.resize(plan.chunks() as usize, 0)?;
         Ok(Scribe {
             world: World::new(alloc, config)?,
             text: header_of(alloc, plan)?,
@@ -76,6 +80,7 @@ impl Scribe {
             key_of_chunk,
             items: HashMap::with_hasher(alloc, hasher),
             ring: plan.config.ring,
+            puts: 0,
         })
     }
 
@@ -155,8 +160,8 @@ impl Scribe {
         Ok(())
     }
 
-    /// Links an item for the key; whether a chunk was free for it.
-    pub(crate) fn link(&mut self, key: u32) -> Result<bool, ReplayFault>
+    /// Links an item for the key, where a chunk is free.
+    pub(crate) fn link(&mut self, key: u32) -> Result<(), ReplayFault>
         ensures text { OnOk result (self.new.text.items ≡ self.old.text.items ++ with_end (set_instruction key)) }
         ensures fault { IfErr result IsOfCalls }
     {
@@ -168,11 +173,8 @@ impl Scribe {
             now: self.lines,
         };
         match self.make(link)? {
-            Answer::Linked(id) => {
-                self.bind(key, id)?;
-                Ok(true)
-            }
-            _ => Ok(false),
+            Answer::Linked(id) => self.bind(key, id),
+            _ => Ok(()),
         }
     }
 
@@ -204,36 +206,67 @@ impl Scribe {
         let _ = self.items.remove(&key);
     }
 
-    /// Frees the chunks of ended items that nobody holds; whether there were any.
-    pub(crate) fn sweep(&mut self) -> Result<bool, ReplayFault>
+    /// How many items are linked.
+    pub(crate) fn linked(&self) -> u64 {
+        u64::from(self.world.list_len(0, Place::Hot))
+            + u64::from(self.world.list_len(0, Place::Warm))
+            + u64::from(self.world.list_len(0, Place::Cold))
+            + u64::from(self.world.list_len(0, Place::Temp))
+    }
+
+    /// Whether a chunk is free.
+    pub(crate) fn has_room(&self) -> bool {
+        self.world.list_len(0, Place::Unused) > 0
+    }
+
+    /// Counts one more put; whether it is one of those that balance the lists.
+    pub(crate) fn count_put(&mut self) -> bool
+        ensures { self.new.text ≡ self.old.text }
+    {
+        let puts = self.puts.saturating_add(1);
+        let balances = puts >= PUT_LOOKS;
+        self.puts = if balances { 0 } else { puts };
+        balances
+    }
+
+    /// Frees the chunks of ended items that nobody holds.
+    pub(crate) fn sweep(&mut self) -> Result<(), ReplayFault>
         ensures text { OnOk result (Adds IsUpkeep 1 self.old.text.items self.new.text.items) }
         ensures fault { IfErr result IsOfCalls }
     {
         self.write("sweep 0")?;
-        match self.make(Command::Sweep { class: 0 })? {
-            Answer::Swept(count) => Ok(count > 0),
-            _ => Ok(false),
-        }
+        self.make(Command::Sweep { class: 0 })?;
+        Ok(())
     }
 
-    // Looks at the last item of a list; which one that is.
-    fn pull(&mut self, tail: Tail) -> Result<Option<ItemId>, ReplayFault>
+    // Looks at the last item of a list; what came of it.
+    fn pull(&mut self, tail: Tail) -> Result<Pulled, ReplayFault>
         ensures text { OnOk result (Adds IsUpkeep 1 self.old.text.items self.new.text.items) }
         ensures fault { IfErr result IsOfCalls }
     {
         self.write(pull_line(tail))?;
         match self.make(Command::Pull { class: 0, tail })? {
-            Answer::Pulled(pulled) => Ok(pulled.item()),
-            _ => Ok(None),
+            Answer::Pulled(pulled) => Ok(pulled),
+            _ => Ok(Pulled::Empty),
         }
     }
 
-    /// Ends the last item of COLD; whether there was one.
-    pub(crate) fn evict(&mut self) -> Result<bool, ReplayFault>
+    /// Looks at the last item of COLD, which goes to WARM where it is ACTIVE; whether it went.
+    pub(crate) fn rescue_last(&mut self) -> Result<bool, ReplayFault>
         ensures text { OnOk result (Adds IsUpkeep 1 self.old.text.items self.new.text.items) }
         ensures fault { IfErr result IsOfCalls }
     {
-        match self.pull(Tail::Evict)? {
+        let pulled = self.pull(Tail::Cold)?;
+        Ok(pulled.to().is_some())
+    }
+
+    /// Ends the last item of COLD; whether there was one.
+    pub(crate) fn end_last_of_cold(&mut self) -> Result<bool, ReplayFault>
+        ensures text { OnOk result (Adds IsUpkeep 1 self.old.text.items self.new.text.items) }
+        ensures fault { IfErr result IsOfCalls }
+    {
+        let pulled = self.pull(Tail::Evict)?;
+        match pulled.item() {
             Some(id) => {
                 self.forget(id);
                 Ok(true)
@@ -247,7 +280,8 @@ impl Scribe {
         ensures text { OnOk result (Adds IsUpkeep 2 self.old.text.items self.new.text.items) }
         ensures fault { IfErr result IsOfCalls }
     {
-        let Some(id) = self.pull(tail)? else {
+        let pulled = self.pull(tail)?;
+        let Some(id) = pulled.item() else {
             return Ok(false);
         };
         let key = self.key_of(id);
@@ -268,6 +302,18 @@ impl Scribe {
         }
         self.pull(tail)?;
         Ok(true)
+    }
+
+    /// Whether more than so many bumps of a worker wait.
+    pub(crate) fn has_waiting(&self, most: u32) -> bool {
+        for worker in 0..self.world.workers() {
+            let received = self.world.received(worker).len();
+            let waiting = self.world.sent(worker).len().saturating_sub(received);
+            if waiting > most as usize {
+                return true;
+            }
+        }
+        false
     }
 
     /// Applies the bumps that wait, at most a ring's room of each worker.

@@ -1,19 +1,27 @@
 use crate::{Plan, ReplayFault, ReplayTrace, replay, trace_of};
-use bump_cache::{CacheConfig, CacheFault};
+use bump_cache::{CacheConfig, CacheFault, Seed};
+use bump_trace::{Counted, SimFault, run_model};
 use std::alloc::{AllocError, Global};
 use std::hash::RandomState;
 use std::process::Abort;
+use std::random::RandomSource;
 use std::test::*;
 
-// A plan of so many items, so many percent of them in HOT and in WARM, by one reader with room for 4 bumps.
+// A plan of so many items and a spare chunk, so many percent of the items in HOT and in WARM, by one reader with room for
+// 4 bumps.
 fn plan(items: u32, hot: u32, warm: u32, tend_every: u32) -> Plan {
     Plan {
         config: CacheConfig {
             items,
+            spare: 1,
             hot,
             warm,
             readers: 1,
             ring: 4,
+            seed: Seed {
+                first: 1,
+                second: 2,
+            },
         },
         tend_every,
     }
@@ -26,13 +34,16 @@ fn expect(rt: &impl Abort, trace: &ReplayTrace, hits: u64, text: &str) {
 }
 
 const ONE_KEY: &str =
-    "store 2 4 1023 1\nclass 1 0 0\nset k5 0 0\npull 0 hot\ndrain\nsweep 0\nget 1 k5\nget 0 k5\nshow\n";
+    "store 2 4 1023 1\nclass 2 0 0\nset k5 0 0\ndrain\nsweep 0\npull 0 hot\nget 1 k5\nget 0 k5\nshow\n";
 
 const THREE_KEYS: &str =
-    "store 1 4 1023 1\nclass 2 0 0\nset k1 0 0\ndrain\nsweep 0\nset k2 0 0\npull 0 hot\nget 0 k1\nset k3 0 0\nsweep 0\npull 0 evict\nset k3 0 0\npull 0 hot\ndrain\nsweep 0\nset k1 0 0\nsweep 0\npull 0 evict\nset k1 0 0\npull 0 hot\nset k2 0 0\nsweep 0\npull 0 evict\nset k2 0 0\npull 0 hot\nshow\n";
+    "store 1 4 1023 1\nclass 3 0 0\nset k1 0 0\ndrain\nsweep 0\nset k2 0 0\nget 0 k1\npull 0 cold\npull 0 evict\npull 0 warm\npull 0 hot\ndel k1\nset k3 0 0\ndrain\nsweep 0\npull 0 hot\npull 0 cold\npull 0 evict\nset k1 0 0\npull 0 cold\npull 0 evict\npull 0 warm\npull 0 hot\ndel k3\nset k2 0 0\nshow\n";
 
 const WITHOUT_COLD: &str =
-    "store 1 4 1023 1\nclass 1 0 0\nset k1 0 0\ndrain\nsweep 0\nset k2 0 0\nsweep 0\npull 0 evict\npull 0 warm\npull 0 hot\ndel k1\nset k2 0 0\nshow\n";
+    "store 1 4 1023 1\nclass 2 0 0\nset k1 0 0\ndrain\nsweep 0\npull 0 cold\npull 0 evict\npull 0 warm\npull 0 hot\ndel k1\nset k2 0 0\nshow\n";
+
+const BUMPED: &str =
+    "store 1 1 1023 1\nclass 4 0 0\nset k1 0 0\ndrain\nsweep 0\npull 0 hot\nset k2 0 0\nget 0 k1\nget 0 k2\nset k9 0 0\ndrain\nsweep 0\npull 0 hot\npull 0 hot\nget 0 k1\nget 0 k2\ndrain\npull 0 cold\npull 0 evict\nset k3 0 0\nshow\n";
 
 #[test]
 fn one_key(rt: HostRuntime) -> Result<(), Fail> {
@@ -59,6 +70,18 @@ fn last_of_hot_ends_where_cold_and_warm_are_empty(rt: HostRuntime) -> Result<(),
     let keys = RandomState::new(&rt)?;
     let trace = trace_of(rt.alloc(), keys, &plan(1, 100, 0, 9), &[1, 2])?;
     expect(&rt, &trace, 0, WITHOUT_COLD);
+    Ok(())
+}
+
+// The bump of key 1 is applied by the last put, and that of key 2 was dropped: so it is evicted.
+#[test]
+fn put_applies_the_bumps_that_wait(rt: HostRuntime) -> Result<(), Fail> {
+    let keys = RandomState::new(&rt)?;
+    let mut one = plan(3, 0, 100, 4);
+    one.config.ring = 1;
+    let trace = trace_of(rt.alloc(), keys, &one, &[1, 2, 1, 2, 9, 1, 2, 3])?;
+    expect(&rt, &trace, 4, BUMPED);
+    assert!(rt; trace.hits.first == 2 && trace.hits.queued == 1 && trace.hits.full == 1);
     Ok(())
 }
 
@@ -111,7 +134,7 @@ fn trace_tells_the_hits_and_bumps_that_the_replay_counts(rt: HostRuntime) -> Res
     let mut plan = plan(40, 20, 40, 100);
     plan.config.readers = 3;
     plan.config.ring = 1;
-    let outcome = replay(&&rt, rt.alloc(), &plan, &accesses)?;
+    let outcome = replay(&rt, rt.alloc(), &plan, &accesses)?;
     let hits = trace_of(rt.alloc(), RandomState::new(&rt)?, &plan, &accesses)?.hits;
     assert!(rt; outcome.hits == hits.total() && outcome.hits + outcome.misses == 600);
     assert!(rt; outcome.bumps.accepted == hits.queued && outcome.bumps.full == hits.full);
@@ -123,8 +146,103 @@ fn trace_tells_the_hits_and_bumps_that_the_replay_counts(rt: HostRuntime) -> Res
 fn plan_whose_shares_are_too_large_is_refused(rt: HostRuntime) -> Result<(), Fail> {
     let fault = Some(ReplayFault::Config(CacheFault::Shares));
     let plan = plan(10, 60, 50, 1);
-    assert!(rt; replay(&&rt, rt.alloc(), &plan, &[1]).err() == fault);
+    assert!(rt; replay(&rt, rt.alloc(), &plan, &[1]).err() == fault);
     let keys = RandomState::new(&rt)?;
     assert!(rt; trace_of(rt.alloc(), keys, &plan, &[1]).err() == fault);
+    Ok(())
+}
+
+// Three times the same 24 keys, and then another: all are in COLD when they are got for the second time, and one of the
+// bumps was applied when the last key is put.
+fn bumped(alloc: Global) -> Result<Vec<u32>, AllocError> {
+    let mut accesses = Vec::new(alloc);
+    for place in 0..72 {
+        accesses.push(place % 24)?;
+    }
+    accesses.push(99)?;
+    Ok(accesses)
+}
+
+#[test]
+fn put_at_which_more_bumps_wait_than_it_applies_is_refused(rt: HostRuntime) -> Result<(), Fail> {
+    let accesses = bumped(rt.alloc())?;
+    let mut plan = plan(40, 0, 100, 24);
+    plan.config.ring = 64;
+    let keys = RandomState::new(&rt)?;
+    let refused = trace_of(rt.alloc(), keys, &plan, &accesses).err();
+    assert!(rt; refused == Some(ReplayFault::Bumps));
+    Ok(())
+}
+
+#[test]
+fn ring_of_sixteen_has_no_more_bumps_than_a_put_applies(rt: HostRuntime) -> Result<(), Fail> {
+    let accesses = bumped(rt.alloc())?;
+    let mut plan = plan(40, 0, 100, 24);
+    plan.config.ring = 16;
+    let outcome = replay(&rt, rt.alloc(), &plan, &accesses)?;
+    let hits = trace_of(rt.alloc(), RandomState::new(&rt)?, &plan, &accesses)?.hits;
+    assert!(rt; outcome.hits == hits.total() && outcome.misses == 25);
+    assert!(rt; outcome.bumps.accepted == 17 && hits.queued == 17 && hits.full == 7);
+    Ok(())
+}
+
+// What a trace tells.
+fn told(rt: &(impl AllocGlobal + RandomSource), trace: &ReplayTrace) -> Result<Vec<u8>, Fail> {
+    let mut reader = Counted::new(trace.text.as_slice());
+    let mut writer = Counted::new(Vec::new(rt.alloc()));
+    run_model(rt.alloc(), RandomState::new(rt)?, &mut reader, &mut writer)?;
+    Ok(writer.into_inner())
+}
+
+// How many lines of a text begin and end so.
+fn lines_of(text: &[u8], begins: &[u8], ends: &[u8]) -> u64 {
+    let mut count = 0u64;
+    for line in text.split(|byte| *byte == b'\n') {
+        if line.starts_with(begins) && line.ends_with(ends) {
+            count = count.saturating_add(1);
+        }
+    }
+    count
+}
+
+// The number that stands behind such a beginning of a line.
+fn number_behind(text: &[u8], begins: &[u8]) -> u32 {
+    let mut number = 0u32;
+    for line in text.split(|byte| *byte == b'\n') {
+        if !line.starts_with(begins) {
+            continue;
+        }
+        for byte in &line[begins.len()..] {
+            if !byte.is_ascii_digit() {
+                break;
+            }
+            number = number
+                .saturating_mul(10)
+                .saturating_add(u32::from(byte.wrapping_sub(b'0')));
+        }
+    }
+    number
+}
+
+#[test]
+fn trace_moves_and_ends_items_as_the_cache_does(rt: HostRuntime) -> Result<(), Fail> {
+    let accesses = shuffled(rt.alloc(), 3_000, 64)?;
+    let mut plan = plan(24, 20, 40, 50);
+    plan.config.readers = 3;
+    plan.config.ring = 2;
+    let stats = replay(&rt, rt.alloc(), &plan, &accesses)?.stats;
+    let trace = trace_of(rt.alloc(), RandomState::new(&rt)?, &plan, &accesses)?;
+    let text = told(&rt, &trace)?;
+    let moved = lines_of(&text, b"pull 0 cold warm ", b"").saturating_add(lines_of(
+        &text, b"bump ", b" warm",
+    ));
+    let ended = lines_of(&text, b"pull 0 evict freed ", b"")
+        .saturating_add(lines_of(&text, b"pull 0 evict deferred ", b""))
+        .saturating_add(lines_of(&text, b"del ", b""));
+    assert!(rt; moved > 0 && stats.flow.cold_to_warm == moved);
+    assert!(rt; stats.evicted > 0 && stats.evicted == ended);
+    assert!(rt; stats.number_hot == number_behind(&text, b"class 0 hot "));
+    assert!(rt; stats.number_warm == number_behind(&text, b"class 0 warm "));
+    assert!(rt; stats.number_cold == number_behind(&text, b"class 0 cold "));
     Ok(())
 }

@@ -81,7 +81,8 @@ fn write_and_run(
 ///
 /// The trace is run on a World before it is given to anybody, so it has no fault. `keys` hash the keys and the names. It
 /// is refused as `Config` exactly where the plan's configuration has a fault, as `Long` where the trace would have more
-/// than 16,777,216 bytes, and as `Memory` for want of memory. `Refused` and `Run` are of no log that is known.
+/// than 16,777,216 bytes, as `Bumps` where more than 16 bumps of a reader wait at a put, which its ring must have room
+/// for, and as `Memory` for want of memory. `Refused` and `Run` are of no log that is known.
 #[tactic(auto, using(crate::proofs::FaultLemmas::store_refused, crate::proofs::FaultLemmas::trace_refused))]
 pub fn trace_of(
     alloc: Global,

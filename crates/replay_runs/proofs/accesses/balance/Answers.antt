@@ -1,8 +1,18 @@
-use Rattle.replay_runs.proofs.WritingLemmas.{adds_both}
+use Rattle.std.proofs.Common.{◌+◌, ◌*◌, arith, refl}
+use Rattle.replay_runs.specs.Writing.{IsUpkeep}
+use Rattle.replay_runs.proofs.WritingLemmas.{adds_none, adds_both, adds_fewer}
 use Rattle.replay_runs.proofs.accesses.balance.Goals as goal
 
-pub returns-then-hot-clause-text : goal.returns-then-hot-clause-text
-returns-then-hot-clause-text c = adds_both c.in_ok-hot.ensures.text c.in_ok-warm.ensures.text
+pub loop-init : goal.loop-init
+loop-init c = adds_none IsUpkeep (2 * 0) _ _ refl
 
-pub returns-else-hot-clause-text : goal.returns-else-hot-clause-text
-returns-else-hot-clause-text c = adds_both c.in_ok-hot.ensures.text c.in_ok-warm.ensures.text
+pub returns-then-not-branch-clause-text : goal.returns-then-not-branch-clause-text
+returns-then-not-branch-clause-text c =
+    adds_fewer (2 * c.args.count) (omega arith) (adds_both c.loop.invariant c.in_ok-look.ensures.text)
+
+pub loop-preserved : goal.loop-preserved
+loop-preserved c =
+    adds_fewer (2 * (c.loop.counter + 1)) (omega arith) (adds_both c.loop.invariant c.in_ok-look.ensures.text)
+
+pub returns-clause-text : goal.returns-clause-text
+returns-clause-text c = adds_fewer (2 * c.args.count) (omega arith) c.loop.invariant

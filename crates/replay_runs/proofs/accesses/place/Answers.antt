@@ -1,21 +1,18 @@
-use Rattle.std.proofs.Common.{◌+◌, ◌*◌, arith, refl, inl}
-use Rattle.replay_runs.specs.Writing.{set_instruction, IsPutOrUpkeep}
-use Rattle.replay_runs.proofs.WritingLemmas.{adds_one, adds_both, adds_fewer, adds_put}
+use Rattle.std.proofs.Common.{◌∙◌, ap, arith, subst, List, ℕ, vec_items}
+use Rattle.replay_runs.specs.Writing.{IsUpkeep, Adds}
+use Rattle.replay_runs.proofs.WritingLemmas.{adds_none, adds_fewer}
 use Rattle.replay_runs.proofs.accesses.place.Goals as goal
 
-pub returns-then-not-branch-clause-text : goal.returns-then-not-branch-clause-text
-returns-then-not-branch-clause-text c =
-    adds_fewer (7 * (c.args.plan.now.config.items + 1)) (omega (arith, c.saturating_add-end.ensures))
-    (adds_both c.loop.invariant (adds_put c.args.key c.in_ok-make_room.ensures.text))
+pub returns-then-not-count_put-clause-text : goal.returns-then-not-count_put-clause-text
+returns-then-not-count_put-clause-text c =
+    let linked = ap vec_items c.count_put.ensures ∙ c.in_ok-link.ensures.text in
+    (c.make_room.new.scribe.text.items, c.in_ok-make_room.ensures.text, adds_none IsUpkeep 16 _ _ linked)
 
-pub returns-then-branch-2-clause-text : goal.returns-then-branch-2-clause-text
-returns-then-branch-2-clause-text c =
-    let put = adds_one (IsPutOrUpkeep c.args.key) (set_instruction c.args.key) _ _ (inl refl) c.in_ok-link-2.ensures.text in
-    adds_fewer (7 * (c.args.plan.now.config.items + 1)) (omega (arith, c.saturating_add-end.ensures))
-    (adds_both (adds_both c.loop.invariant (adds_put c.args.key c.in_ok-make_room.ensures.text)) put)
-
-pub loop-preserved : goal.loop-preserved
-loop-preserved c =
-    let put = adds_one (IsPutOrUpkeep c.args.key) (set_instruction c.args.key) _ _ (inl refl) c.in_ok-link-2.ensures.text in
-    adds_fewer (7 * (c.loop.counter + 1)) (omega arith)
-    (adds_both (adds_both c.loop.invariant (adds_put c.args.key c.in_ok-make_room.ensures.text)) put)
+pub returns-clause-text : goal.returns-clause-text
+returns-clause-text c =
+    let linked = ap vec_items c.count_put.ensures ∙ c.in_ok-link.ensures.text in
+    let behind = adds_fewer 16 (omega arith) c.in_ok-balance.ensures.text in (
+      c.make_room.new.scribe.text.items,
+      c.in_ok-make_room.ensures.text,
+      subst (λ (t : List ℕ). Adds IsUpkeep 16 t c.balance.new.scribe.text.items) linked behind,
+    )

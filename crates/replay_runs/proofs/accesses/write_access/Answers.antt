@@ -1,4 +1,4 @@
-use Rattle.std.proofs.Common.{◌≡◌, ◌+◌, ◌*◌, ◌%◌, max, subst, arith, ℕ, rules}
+use Rattle.std.proofs.Common.{◌≡◌, ◌+◌, ◌%◌, max, subst, arith, ℕ, rules}
 use Rattle.replay_runs.specs.Writing.{AddsAccess, most_behind}
 use Rattle.replay_runs.proofs.WritingLemmas.{access_and_upkeep, access_fewer}
 use Rattle.replay_runs.proofs.accesses.write_access.Goals as goal
@@ -6,12 +6,12 @@ use Rattle.replay_runs.proofs.accesses.write_access.Goals as goal
 pub returns-then-not-is_time-clause-text : goal.returns-then-not-is_time-clause-text
 returns-then-not-is_time-clause-text c =
     let turn : c.reader_at.result ≡ c.args.place % max c.args.plan.now.config.readers 1 = search rules in
-    let access = access_fewer (7 * (c.args.plan.now.config.items + 1) + 2) c.reader_at.result c.args.key (most_behind c.args.plan.now) _ _ (omega arith) c.in_ok-get_or_put.ensures.text in
-    subst (λ (w : ℕ). AddsAccess w c.args.key (most_behind c.args.plan.now) c.args.scribe.now.text.items c.get_or_put.new.scribe.text.items) turn access
+    let access = access_fewer 16 c.reader_at.result c.args.key most_behind _ _ (omega arith) c.in_ok-get_or_put.ensures.text in
+    subst (λ (w : ℕ). AddsAccess w c.args.key most_behind c.args.scribe.now.text.items c.get_or_put.new.scribe.text.items) turn access
 
 pub returns-clause-text : goal.returns-clause-text
 returns-clause-text c =
     let turn : c.reader_at.result ≡ c.args.place % max c.args.plan.now.config.readers 1 = search rules in
-    let both = access_and_upkeep (7 * (c.args.plan.now.config.items + 1) + 2) 202 c.reader_at.result c.args.key _ _ _ c.in_ok-get_or_put.ensures.text c.in_ok-tend.ensures.text in
-    let access = access_fewer (7 * (c.args.plan.now.config.items + 1) + 2 + 202) c.reader_at.result c.args.key (most_behind c.args.plan.now) _ _ (omega arith) both in
-    subst (λ (w : ℕ). AddsAccess w c.args.key (most_behind c.args.plan.now) c.args.scribe.now.text.items c.tend.new.scribe.text.items) turn access
+    let both = access_and_upkeep 16 202 c.reader_at.result c.args.key _ _ _ c.in_ok-get_or_put.ensures.text c.in_ok-tend.ensures.text in
+    let access = access_fewer (16 + 202) c.reader_at.result c.args.key most_behind _ _ (omega arith) both in
+    subst (λ (w : ℕ). AddsAccess w c.args.key most_behind c.args.scribe.now.text.items c.tend.new.scribe.text.items) turn access

@@ -1,24 +1,20 @@
-use Rattle.std.proofs.Common.{◌≡◌, true, IfSome, subst}
-use Rattle.bump_cache.specs.Putting.{PutsOnce}
-use Rattle.bump_cache.proofs.Keys.{old_of_key}
+use Rattle.std.proofs.Common.{subst, sym, ◌∙◌}
+use Rattle.call_log.specs.Calls.{to_of}
+use Rattle.cache_shelf.specs.Entries.{AllKept, OthersKept}
+use Rattle.cache_shelf.proofs.Keeping.{where_err, where_ok}
+use Rattle.bump_cache.specs.Putting.{evicted_key}
 use Rattle.bump_cache.proofs.caches.Cache.put.Goals as goal
 
-pub returns-clause-old : goal.returns-clause-old
-returns-clause-old g c =
-    let shelf = c.deref_mut-shelf.result.now in
-    subst (λ e. IfSome c.put-put.result.old (λ had. g.K.PartialEq.eq e.0 had.key ≡ true)) c.new.ensures
-    (old_of_key g.K.PartialEq.eq c.new.result.0 c.put-put.result.refused c.put-put.result.old c.put-put.result.evicted.items
-    shelf.book.lists shelf.index.table c.put-put.new.self.book.lists c.put-put.new.self.index.table c.put-put.ensures.old
-    c.put-put.ensures.refused)
+pub returns-clause-others : goal.returns-clause-others
+returns-clause-others g c = where_ok c.put-put.result _ _ (λ did others.
+    subst (λ from. OthersKept (g.K.Packed.as_words c.args.key.now) (evicted_key g.K.Packed.as_words did.evicted) from.part
+    (to_of c.note.new.me).part) (c.logged.invariant ∙ sym c.note.ensures.from)
+    (subst (λ to. OthersKept (g.K.Packed.as_words c.args.key.now) (evicted_key g.K.Packed.as_words did.evicted)
+    c.logged.inside.value.part to.part) (sym c.note.ensures.to) others)) c.put-put.ensures.others
 
-pub returns-clause-once : goal.returns-clause-once
-returns-clause-once g c =
-    subst (λ e. PutsOnce g.K.PartialEq.eq e c.args.now c.put-put.result) c.new.ensures (record {
-      before = c.deref_mut-shelf.result.now;
-      after = c.put-put.new.self;
-      lawful = c.promise.ensures.items;
-      placed = c.put-put.ensures.placed;
-      old = c.put-put.ensures.old;
-      refused = c.put-put.ensures.refused;
-      counted = c.put-put.ensures.counted;
-    })
+pub returns-clause-stay : goal.returns-clause-stay
+returns-clause-stay g c = where_err c.put-put.result _ _ (λ why all.
+    subst (λ from. AllKept (evicted_key g.K.Packed.as_words why.evicted) from.part (to_of c.note.new.me).part)
+    (c.logged.invariant ∙ sym c.note.ensures.from)
+    (subst (λ to. AllKept (evicted_key g.K.Packed.as_words why.evicted) c.logged.inside.value.part to.part)
+    (sym c.note.ensures.to) all)) c.put-put.ensures.stay

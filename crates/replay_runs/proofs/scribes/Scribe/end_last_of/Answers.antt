@@ -9,4 +9,4 @@ returns-clause-text c =
     let key = decimal c.from.result in
     let wrote = ap vec_items (c.forget.ensures ∙ c.make.ensures.text) ∙ c.in_ok-end_line.ensures.text
     ∙ ap (λ (t : List ℕ). t ++ 10 ∷ []) c.in_ok-put_word.ensures ∙ line_of_parts c.pull.new.self.text.items del key in
-    adds_both c.in_ok-id.ensures.text (adds_one IsUpkeep (del ++ key) _ _ refl wrote)
+    adds_both c.in_ok-pulled.ensures.text (adds_one IsUpkeep (del ++ key) _ _ refl wrote)

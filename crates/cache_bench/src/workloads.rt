@@ -1,0 +1,62 @@
+//! What is measured.
+
+/// What is called.
+#[derive(Clone, Copy, PartialEq, Eq)]
+pub enum Subject {
+    /// A cache.
+    Cache,
+
+    /// The kit's `lru` behind a mutex.
+    Lru,
+
+    /// 16 of them, each behind a mutex of its own: a key's hash says which one has it.
+    Shards,
+}
+
+/// Which calls are made, of what is full with so many items.
+#[derive(Clone, Copy, PartialEq, Eq)]
+pub enum Work {
+    /// Gets of keys that are there, at random.
+    Get,
+
+    /// Gets of one key, by all threads.
+    Hot,
+
+    /// Puts of fresh keys, which were never there: each evicts an item.
+    Put,
+
+    /// Puts of keys that are there, at random.
+    PutSame,
+
+    /// None: what memory an item takes is measured.
+    Bytes,
+}
+
+/// A workload: which calls are made of what.
+#[derive(Clone, Copy)]
+pub struct Workload {
+    pub subject: Subject,
+    pub work: Work,
+}
+
+impl Workload {
+    /// The workload of a name: whose calls, and which, as `cache_get` and `lru16_put_same`.
+    pub fn named(name: &str) -> Option<Workload> {
+        let (subject, work) = name.split_once('_')?;
+        let subject = match subject {
+            "cache" => Subject::Cache,
+            "lru" => Subject::Lru,
+            "lru16" => Subject::Shards,
+            _ => return None,
+        };
+        let work = match work {
+            "get" => Work::Get,
+            "hot" => Work::Hot,
+            "put" => Work::Put,
+            "put_same" => Work::PutSame,
+            "bytes" => Work::Bytes,
+            _ => return None,
+        };
+        Some(Workload { subject, work })
+    }
+}

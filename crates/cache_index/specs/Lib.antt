@@ -1,4 +1,0 @@
-pub mod Tables
-pub mod Agreeing
-pub mod Changes
-pub mod Writing

@@ -1,0 +1,105 @@
+//! Loads a cache with threads: readers that get, writers that put and remove, and one that tends. Its words are how many
+//! readers there are, how many writers, and how many gets all readers make together. It looks at each value that it gets,
+//! and ends with status 1 where something was wrong. `checks/loaded_cache` runs it with big numbers.
+#![tactic(auto)]
+
+mod changers;
+mod loads;
+mod readers;
+mod values;
+mod writers;
+
+use bump_cache::{CacheBlank, CacheConfig, Seed};
+use loads::{Load, Report, run};
+use std::alloc::Global;
+use std::env;
+use std::marker::Brand;
+use std::process::ExitCode;
+use std::random::RandomSource;
+use std::rt::Env;
+use std::sync::Wait;
+use std::thread::Threads;
+use values::{MOST_WRITERS, Value};
+
+// A cache has room for so many items. The others are more than those.
+const ITEMS: u32 = 1_024;
+
+// A reader's ring has room for so many bumps.
+const RING: u32 = 64;
+
+// What the words of the command line ask for, if they are three numbers in range.
+fn load_of(words: &[String]) -> Option<Load> {
+    let readers = words.get(1)?.parse::<u32>().ok()?;
+    let writers = words.get(2)?.parse::<u32>().ok()?;
+    let gets = words.get(3)?.parse::<u64>().ok()?;
+    if readers < 1 || readers > 64 || writers < 1 || writers > MOST_WRITERS {
+        return None;
+    }
+    Some(Load {
+        readers,
+        writers,
+        gets,
+    })
+}
+
+// The configuration of a cache whose puts always find room: there is a chunk for each bump that may wait and for each
+// hold.
+fn config_of(load: Load, seed: Seed) -> CacheConfig {
+    CacheConfig {
+        spare: load.readers.saturating_mul(RING + 2),
+        ring: RING,
+        ..CacheConfig::new(ITEMS, load.readers, seed)
+    }
+}
+
+// Opens a cache, and loads it.
+fn load_cache<R: Threads + Wait + RandomSource + Sync>(
+    rt: &R,
+    alloc: Global,
+    load: Load,
+) -> Option<Report> {
+    let seed = Seed::random(rt).ok()?;
+    let blank = CacheBlank::<u64, Value>::new(alloc, &config_of(load, seed)).ok()?;
+    run::<Brand, R>(rt, alloc, blank, load).ok()
+}
+
+// Prints what doesn't depend on which thread was faster, and on standard error what does.
+fn print(rt: &(impl Print + Eprint), load: Load, report: &Report) -> std::io::Result<()> {
+    let Load {
+        readers,
+        writers,
+        gets: _,
+    } = load;
+    let seen = report.seen;
+    println!(rt; "{readers} readers, {writers} writers and one that tends")?;
+    println!(rt; "gets: {}", seen.gets)?;
+    println!(rt;
+        "of keys that are always there: {}, of which {} found nothing",
+        seen.staying, seen.missing
+    )?;
+    println!(rt; "wrong values: {}", seen.wrong)?;
+    println!(rt; "older values: {}", seen.older)?;
+    println!(rt; "puts without room: {}", report.wrote.refused)?;
+    println!(rt; "keys evicted that stay: {}", report.wrote.wrong)?;
+    println!(rt; "sums of the statistics: {}", report.add_up)?;
+    eprintln!(rt;
+        "gets of other keys that found something: {}; puts: {}, evicted: {}, removed: {}",
+        seen.others, report.wrote.puts, report.wrote.evicted, report.wrote.removed
+    )
+}
+
+fn main(rt: HostRuntime) -> std::io::Result<ExitCode> {
+    let words = env::args(&rt)?.collect::<Vec<String>>(rt.alloc())?;
+    let Some(load) = load_of(&words) else {
+        eprintln!(&rt;
+            "usage: cache_load READERS WRITERS GETS, of 1 to 64 readers and 1 to 4 writers"
+        )?;
+        return Ok(ExitCode::from(3));
+    };
+    let Some(report) = load_cache(&rt, rt.alloc(), load) else {
+        eprintln!(&rt; "memory or the system's random numbers are wanting")?;
+        return Ok(ExitCode::from(2));
+    };
+    print(&rt, load, &report)?;
+    Ok(ExitCode::from(u8::from(!report.is_right())))
+}

@@ -1,0 +1,140 @@
+//! What a writer and the tender do.
+
+use crate::changers::Changer;
+use crate::values::{STAYING, Value, count, next_other, value_of};
+use bump_cache::{Cache, LogName, Name, NoRoom, Put};
+use std::sync::Wait;
+use std::sync::atomic::{AtomicBool, AtomicU64, Ordering};
+
+/// What writers came to.
+#[derive(Clone, Copy)]
+pub struct Wrote {
+    /// So many puts they made.
+    pub puts: u64,
+
+    /// So many of them found no room.
+    pub refused: u64,
+
+    /// So many items were evicted.
+    pub evicted: u64,
+
+    /// So many of these have keys that are always there.
+    pub wrong: u64,
+
+    /// So many items were removed.
+    pub removed: u64,
+}
+
+impl Wrote {
+    /// Nothing was put yet.
+    pub fn new() -> Wrote {
+        Wrote {
+            puts: 0,
+            refused: 0,
+            evicted: 0,
+            wrong: 0,
+            removed: 0,
+        }
+    }
+
+    /// This and what another writer came to.
+    pub fn add(&mut self, other: &Wrote) {
+        self.puts = self.puts.saturating_add(other.puts);
+        self.refused = self.refused.saturating_add(other.refused);
+        self.evicted = self.evicted.saturating_add(other.evicted);
+        self.wrong = self.wrong.saturating_add(other.wrong);
+        self.removed = self.removed.saturating_add(other.removed);
+    }
+
+    // Notes what a put told.
+    fn note(&mut self, put: Result<Put<u64, Value>, NoRoom<u64, Value>>) {
+        count(&mut self.puts, true);
+        let evicted = match put {
+            Ok(did) => did.evicted,
+            Err(why) => {
+                count(&mut self.refused, true);
+                why.evicted
+            }
+        };
+        if let Some(entry) = evicted {
+            count(&mut self.evicted, true);
+            count(&mut self.wrong, entry.key < STAYING);
+        }
+    }
+
+    // Puts a key once more.
+    fn put<N: Name + LogName, W: Wait>(
+        &mut self,
+        rt: &W,
+        cache: &Cache<N, u64, Value>,
+        changer: &mut Changer<N>,
+        key: u64,
+    ) {
+        let now = self.puts.saturating_add(1);
+        let value = value_of(key, changer.number, now);
+        self.note(cache.put(rt, &mut changer.me, &key, &value, now));
+    }
+
+    // Ends a key's item.
+    fn remove<N: Name + LogName, W: Wait>(
+        &mut self,
+        rt: &W,
+        cache: &Cache<N, u64, Value>,
+        changer: &mut Changer<N>,
+        key: u64,
+    ) {
+        let removed = cache.remove(rt, &mut changer.me, &key);
+        count(&mut self.removed, removed.is_some());
+    }
+}
+
+/// Puts the keys that are always there.
+pub fn put_staying<N: Name + LogName, W: Wait>(
+    rt: &W,
+    cache: &Cache<N, u64, Value>,
+    changer: &mut Changer<N>,
+    wrote: &mut Wrote,
+) {
+    for key in 0..STAYING {
+        wrote.put(rt, cache, changer, key);
+    }
+}
+
+/// A writer's thread: it puts in turn a key that is always there and another one, and removes other ones, until the
+/// readers are done.
+pub fn write<N: Name + LogName, W: Wait>(
+    rt: &W,
+    cache: &Cache<N, u64, Value>,
+    mut changer: Changer<N>,
+    done: &AtomicBool,
+) -> Wrote {
+    let mut wrote = Wrote::new();
+    let mut seed = u64::from(changer.number);
+    for _ in rt.forever() {
+        if done.load(Ordering::SeqCst) {
+            return wrote;
+        }
+        for staying in 0..STAYING {
+            wrote.put(rt, cache, &mut changer, staying);
+            let other = next_other(&mut seed);
+            wrote.put(rt, cache, &mut changer, other);
+            if staying % 4 == 0 {
+                let key = next_other(&mut seed);
+                wrote.remove(rt, cache, &mut changer, key);
+            }
+        }
+    }
+    unreachable!()
+}
+
+/// The tender's thread, until the readers are done.
+pub fn tend<N: Name + LogName, W: Wait>(
+    rt: &W,
+    cache: &Cache<N, u64, Value>,
+    changer: Changer<N>,
+    done: &AtomicBool,
+) {
+    let Changer { number: _, mut me } = changer;
+    let clock = AtomicU64::new(7);
+    cache.tend_until(rt, &mut me, &clock, done);
+}

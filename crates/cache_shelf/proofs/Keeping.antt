@@ -1,0 +1,119 @@
+-- What a part keeps where its items and their words stay.
+use Rattle.std.proofs.Common.{◌≡◌, ◌≢◌, ◌↔◌, ℕ, List, Option, Some, None, IsSome, IfSome, Result, Ok, Err, IfOk, IfErr, refl, sym, ap, ap₂, ◌∙◌, subst}
+use std.Path.{fun_ext}
+use Rattle.bump_class.specs.Books.{BookView}
+use Rattle.bump_steps.specs.Rule.{RowPredicate}
+use Rattle.bump_steps.specs.Views.{last_word, last_words}
+use Rattle.cache_lists.specs.Items.{KeepsItems}
+use Rattle.cache_lists.specs.Linked.{linked_at}
+use Rattle.cache_part.specs.Keys.{key_at, value_at}
+use Rattle.cache_part.specs.Parts.{PartView, IsUnder, IsUnknown}
+use Rattle.cache_part.specs.Putting.{row_at}
+use Rattle.cache_part.proofs.KeyLemmas.{words_same}
+use Rattle.cache_shelf.specs.Entries.{Keeps, AllKept, Evicted, IsEvicted, evicted_key}
+use Rattle.cache_shelf.specs.Shelves.{IsLawful, Obeys}
+
+-- keys and values of both parts have as many words
+pub record IsAlike (before after : PartView) : Type 0 where
+  pub key_words : after.key_words ≡ before.key_words
+  pub value_words : after.value_words ≡ before.value_words
+
+pub alike_back : (before after : PartView) → IsAlike before after → IsAlike after before
+alike_back before after alike = record { key_words = sym alike.key_words; value_words = sym alike.value_words }
+
+pub alike_then : (before between after : PartView) → IsAlike before between → IsAlike between after
+    → IsAlike before after
+alike_then before between after one other = record {
+  key_words = other.key_words ∙ one.key_words;
+  value_words = other.value_words ∙ one.value_words;
+}
+
+-- this chunk has the words that it had
+abbrev pub SameWords : ℕ → PartView → PartView → Type 0
+SameWords chunk before after = (i : ℕ) → last_word i after.book.part chunk ≡ last_word i before.book.part chunk
+
+-- a chunk whose words stay has the key that it had
+pub key_stays : (before after : PartView) (chunk : ℕ) → IsAlike before after → SameWords chunk before after
+    → key_at after.key_words after.book.part chunk ≡ key_at before.key_words before.book.part chunk
+key_stays before after chunk alike words = ap (λ n. key_at n after.book.part chunk) alike.key_words
+    ∙ words_same before.book.part after.book.part chunk 0 before.key_words words
+
+-- and the value
+pub value_stays : (before after : PartView) (chunk : ℕ) → IsAlike before after → SameWords chunk before after
+    → value_at after.key_words after.value_words after.book.part chunk
+    ≡ value_at before.key_words before.value_words before.book.part chunk
+value_stays before after chunk alike words =
+    ap₂ (λ m n. value_at m n after.book.part chunk) alike.key_words alike.value_words
+    ∙ words_same before.book.part after.book.part chunk before.key_words before.value_words words
+
+-- and obeys the law as it did
+pub obeys_stays : (law : RowPredicate) (before after : PartView) (chunk : ℕ) → SameWords chunk before after
+    → Obeys law before chunk → Obeys law after chunk
+obeys_stays law before after chunk words obeys = subst law (sym (fun_ext words)) obeys
+
+-- an item that stays linked, and whose words stay, stays under its key
+pub under_stays : (key : List ℕ) (before after : PartView) (chunk : ℕ) → IsAlike before after
+    → linked_at after.book.part chunk ≡ linked_at before.book.part chunk → SameWords chunk before after
+    → IsUnder key chunk before → IsUnder key chunk after
+under_stays key before after chunk alike linked words under = record {
+  linked = subst IsSome (sym linked) under.linked;
+  key = key_stays before after chunk alike words ∙ under.key;
+}
+
+-- and what it keeps stays
+pub keeps_stays : (key value : List ℕ) (before after : PartView) → IsAlike before after → (kept : Keeps key value before)
+    → linked_at after.book.part kept.chunk ≡ linked_at before.book.part kept.chunk
+    → SameWords kept.chunk before after → Keeps key value after
+keeps_stays key value before after alike kept linked words = record {
+  chunk = kept.chunk;
+  under = under_stays key before after kept.chunk alike linked words kept.under;
+  value = value_stays before after kept.chunk alike words ∙ kept.value;
+}
+
+-- where the same items are linked with the same words
+module _ (before after : PartView) (alike : IsAlike before after) (items : KeepsItems before.book after.book) where
+  same_words : (chunk : ℕ) → SameWords chunk before after
+  same_words chunk i = items.words i chunk
+
+  words_back : (chunk : ℕ) → SameWords chunk after before
+  words_back chunk i = sym (items.words i chunk)
+
+  pub moved_keeps : (key value : List ℕ) → Keeps key value before → Keeps key value after
+  moved_keeps key value kept =
+      keeps_stays key value before after alike kept (items.linked kept.chunk) (same_words kept.chunk)
+
+  pub moved_kept : (key value : List ℕ) → Keeps key value after → Keeps key value before
+  moved_kept key value kept = keeps_stays key value after before (alike_back before after alike) kept
+      (sym (items.linked kept.chunk)) (words_back kept.chunk)
+
+  pub moved_all : AllKept None before after
+  moved_all key value other = (moved_keeps key value, moved_kept key value)
+
+  pub moved_under : (key : List ℕ) (chunk : ℕ) → IsUnder key chunk before → IsUnder key chunk after
+  moved_under key chunk under =
+      under_stays key before after chunk alike (items.linked chunk) (same_words chunk) under
+
+  pub moved_unknown : (key : List ℕ) → IsUnknown key before → IsUnknown key after
+  moved_unknown key unknown chunk under = unknown chunk (under_stays key after before chunk (alike_back before after alike)
+      (sym (items.linked chunk)) (words_back chunk) under)
+
+  pub unknown_before : (key : List ℕ) → IsUnknown key after → IsUnknown key before
+  unknown_before key unknown chunk under = unknown chunk (moved_under key chunk under)
+
+  pub moved_lawful : (law : RowPredicate) → IsLawful law before → IsLawful law after
+  moved_lawful law lawful chunk some = obeys_stays law before after chunk (same_words chunk)
+      (lawful chunk (subst IsSome (items.linked chunk) some))
+
+-- what holds where a call succeeded
+pub where_ok : {A B : Type 0} (r : Result A B) (P Q : A → Type 0) → ((a : A) → P a → Q a) → IfOk r P → IfOk r Q
+where_ok (Ok a) P Q then has = then a has
+where_ok (Err b) P Q then has = tt
+
+-- and where it was refused
+pub where_err : {A B : Type 0} (r : Result A B) (P Q : B → Type 0) → ((b : B) → P b → Q b) → IfErr r P → IfErr r Q
+where_err (Ok a) P Q then has = tt
+where_err (Err b) P Q then has = then b has
+
+-- a fact of the chunk that is told
+pub at_told : (told : Option ℕ) (P : ℕ → Type 0) → IfSome told P → (c : ℕ) → told ≡ Some c → P c
+at_told told P has c same = subst (λ o. IfSome o P) same has

@@ -1,0 +1,153 @@
+-- What is said of a change of a part, where its items move from list to list before or behind it.
+use Rattle.std.proofs.Common.{◌≡◌, ◌≢◌, ◌↔◌, ℕ, ◌+◌, List, ◌++◌, length, take, drop, Option, Some, None, IsSome, IfNone, refl, sym, ap, ap₂, ◌∙◌, subst}
+use Rattle.std.proofs.Math.Seq.{take-append_seam}
+use Rattle.bump_class.specs.Books.{BookView}
+use Rattle.bump_class.specs.Lanes.{LaneView}
+use Rattle.bump_steps.specs.Rule.{RowPredicate}
+use Rattle.bump_steps.specs.Views.{last_word}
+use Rattle.cache_lists.specs.Items.{KeepsItems}
+use Rattle.cache_lists.specs.Linked.{linked_at}
+use Rattle.cache_part.specs.Keys.{key_at, value_at, words_from}
+use Rattle.cache_part.specs.Parts.{PartView, IsItem, IsUnder, IsUnknown}
+use Rattle.cache_part.specs.Putting.{row_at}
+use Rattle.cache_part.proofs.KeyLemmas.{words_same}
+use Rattle.cache_part.proofs.LookLemmas.{looks_keep}
+use Rattle.cache_part.specs.Tending.{DrainsEach}
+use Rattle.cache_shelf.specs.Entries.{Keeps, AllKept, Evicted, Had, IsEvicted, OnlyReads, OthersKept, evicted_key}
+use Rattle.cache_shelf.specs.Shelves.{IsLawful, Obeys}
+use Rattle.cache_shelf.specs.Turns.{OnlyMoves}
+use Rattle.cache_shelf.proofs.Keeping.{IsAlike, alike_back, key_stays, moved_all, moved_unknown, moved_under, obeys_stays, unknown_before, value_stays}
+
+-- items stay linked with their words, and keys and values have as many words
+pub record Moves (before after : PartView) : Type 0 where
+  pub alike : IsAlike before after
+  pub items : KeepsItems before.book after.book
+
+-- loads do so
+pub reads_move : (before after : PartView) → OnlyReads before after → Moves before after
+reads_move before after reads = record {
+  alike = record {
+    key_words = ap (λ p. p.key_words) reads.rest;
+    value_words = ap (λ p. p.value_words) reads.rest;
+  };
+  items = looks_keep before.book after.book reads.looks;
+}
+
+-- and so do moves from list to list
+pub only_move : (before after : PartView) → OnlyMoves before after → Moves before after
+only_move before after moves = record {
+  alike = record {
+    key_words = ap (λ p. p.key_words) moves.rest;
+    value_words = ap (λ p. p.value_words) moves.rest;
+  };
+  items = moves.items;
+}
+
+-- behind a change
+module _ (before between after : PartView) (moves : Moves between after) where
+  pub others_then : (key : List ℕ) (out : Option (List ℕ)) → OthersKept key out before between
+      → OthersKept key out before after
+  others_then key out others other value differs not_out =
+      let one = others other value differs not_out in
+      let two = moved_all between after moves.alike moves.items other value (λ e. absurd (cc e)) in
+      (λ kept. two.0 (one.0 kept), λ kept. one.1 (two.1 kept))
+
+  pub all_then : (out : Option (List ℕ)) → AllKept out before between → AllKept out before after
+  all_then out all other value not_out =
+      let one = all other value not_out in
+      let two = moved_all between after moves.alike moves.items other value (λ e. absurd (cc e)) in
+      (λ kept. two.0 (one.0 kept), λ kept. one.1 (two.1 kept))
+
+  pub evicted_then : (law : RowPredicate) (evicted : Option ℕ) (from to : List ℕ)
+      → Evicted law evicted from to before between → Evicted law evicted from to before after
+  evicted_then law None from to same = same
+  evicted_then law (Some c) from to did = record {
+    linked = did.linked;
+    obeys = did.obeys;
+    told = did.told;
+    unknown = moved_unknown between after moves.alike moves.items (key_at before.key_words before.book.part c) did.unknown;
+  }
+
+-- before a change
+module _ (before between after : PartView) (moves : Moves before between) where
+  back : (c i : ℕ) → last_word i before.book.part c ≡ last_word i between.book.part c
+  back c i = sym (moves.items.words i c)
+
+  key_of : (c : ℕ) → key_at between.key_words between.book.part c ≡ key_at before.key_words before.book.part c
+  key_of c = key_stays before between c moves.alike (λ i. moves.items.words i c)
+
+  -- the key of what is evicted
+  pub out_before : (evicted : Option ℕ) → evicted_key evicted between ≡ evicted_key evicted before
+  out_before None = refl
+  out_before (Some c) = ap Some (key_of c)
+
+  pub others_before : (key : List ℕ) (out : Option (List ℕ)) → OthersKept key out between after
+      → OthersKept key out before after
+  others_before key out others other value differs not_out =
+      let one = moved_all before between moves.alike moves.items other value (λ e. absurd (cc e)) in
+      let two = others other value differs not_out in
+      (λ kept. two.0 (one.0 kept), λ kept. one.1 (two.1 kept))
+
+  pub all_before : (out : Option (List ℕ)) → AllKept out between after → AllKept out before after
+  all_before out all other value not_out =
+      let one = moved_all before between moves.alike moves.items other value (λ e. absurd (cc e)) in
+      let two = all other value not_out in
+      (λ kept. two.0 (one.0 kept), λ kept. one.1 (two.1 kept))
+
+  pub had_before : (law : RowPredicate) (key : List ℕ) (told : Option ℕ) (from to : List ℕ)
+      → Had law key told from to between → Had law key told from to before
+  had_before law key None from to (unknown, same) =
+      (unknown_before before between moves.alike moves.items key unknown, same)
+  had_before law key (Some c) from to had = record {
+    under = moved_under between before (alike_back before between moves.alike) items_back key c had.under;
+    obeys = obeys_stays law between before c (back c) had.obeys;
+    told = had.told ∙ value_stays before between c moves.alike (λ i. moves.items.words i c);
+  }
+    where
+      items_back : KeepsItems between.book before.book
+      items_back = record {
+        class = record { first = sym moves.items.class.first; count = sym moves.items.class.count };
+        linked = λ d. sym (moves.items.linked d);
+        words = λ i d. sym (moves.items.words i d);
+      }
+
+  pub evicted_before : (law : RowPredicate) (evicted : Option ℕ) (from to : List ℕ)
+      → Evicted law evicted from to between after → Evicted law evicted from to before after
+  evicted_before law None from to same = same
+  evicted_before law (Some c) from to did = record {
+    linked = subst IsSome (moves.items.linked c) did.linked;
+    obeys = obeys_stays law between before c (back c) did.obeys;
+    told = did.told ∙ (ap₂ (λ m n. row_of (m + n)) moves.alike.key_words moves.alike.value_words
+        ∙ words_same before.book.part between.book.part c 0 (before.key_words + before.value_words)
+        (λ i. moves.items.words i c));
+    unknown = subst (λ key. IsUnknown key after) (key_of c) did.unknown;
+  }
+    where
+      row_of : ℕ → List ℕ
+      row_of n = words_from 0 n between.book.part c
+
+-- what the key had, by what was read behind a change that keeps its words
+pub had_read : (law : RowPredicate) (key : List ℕ) (told : Option ℕ) (from to : List ℕ) (before seen : PartView)
+    → IsLawful law before → IsItem key told before → IsAlike before seen
+    → ((c : ℕ) → told ≡ Some c → (i : ℕ) → last_word i seen.book.part c ≡ last_word i before.book.part c)
+    → IfNone told (to ≡ from)
+    → ((c : ℕ) → told ≡ Some c → to ≡ value_at seen.key_words seen.value_words seen.book.part c)
+    → Had law key told from to before
+had_read law key None from to before seen lawful item alike words none some = (item, none)
+had_read law key (Some c) from to before seen lawful item alike words none some = record {
+  under = item;
+  obeys = lawful c item.linked;
+  told = some c refl ∙ value_stays before seen c alike (words c refl);
+}
+
+-- lanes that had their turns, as a slice of the vector that they lie in
+pub drains_whole : (most now : ℕ) (book left : BookView) (items from to : List LaneView) (len : ℕ)
+    → DrainsEach most now book from left to → from ≡ items → length to ≡ length from → length from ≡ len
+    → DrainsEach most now book items left (take len (to ++ drop (length to) items))
+drains_whole most now book left items from to len drains same even long =
+    subst (λ l. DrainsEach most now book items left l) (sym whole)
+    (subst (λ l. DrainsEach most now book l left to) same drains)
+  where
+    whole : take len (to ++ drop (length to) items) ≡ to
+    whole = ap (λ n. take n (to ++ drop (length to) items)) (sym (even ∙ long))
+        ∙ take-append_seam to (drop (length to) items)

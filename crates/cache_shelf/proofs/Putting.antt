@@ -1,0 +1,178 @@
+-- What a put of a part leaves of what it keeps.
+use Rattle.std.proofs.Common.{◌≡◌, ◌≢◌, ◌↔◌, ◌⊎◌, inl, inr, ℕ, Bool, true, false, ◌==◌, List, Option, Some, None, IsSome, IfSome, take, drop, refl, sym, ap, ◌∙◌, subst, eqb-true, eq-eqb}
+use Rattle.bump_class.specs.Links.{MayHave}
+use Rattle.bump_steps.specs.Rule.{RowPredicate}
+use Rattle.bump_steps.specs.Views.{last_word, last_words}
+use Rattle.cache_lists.specs.Items.{HasRow}
+use Rattle.cache_lists.specs.Linked.{linked_at}
+use Rattle.cache_part.specs.Keys.{key_at, value_at}
+use Rattle.cache_part.specs.Parts.{PartView, IsItem, IsPart, IsUnder, IsUnknown}
+use Rattle.cache_part.specs.Putting.{IsFresh, OthersStay, TellsRow, WasAnother, row_at}
+use Rattle.cache_shelf.specs.Entries.{Keeps, AllKept, Evicted, IsEvicted, OthersKept, evicted_key}
+use Rattle.cache_shelf.specs.Shelves.{IsLawful, Obeys}
+use Rattle.cache_shelf.proofs.Keeping.{IsAlike, alike_back, key_stays, keeps_stays, obeys_stays}
+
+-- whether it is this chunk
+is_this : (told : Option ℕ) (c : ℕ) → (told ≡ Some c) ⊎ (told ≢ Some c)
+is_this None c = inr (λ e. absurd (cc e))
+is_this (Some chunk) c = by (chunk == c) refl
+  where
+    by : (b : Bool) → (chunk == c) ≡ b → (Some chunk ≡ Some c) ⊎ (Some chunk ≢ Some c)
+    by true e = inl (ap Some (eqb-true chunk c e))
+    by false e = inr (λ same. let one : chunk ≡ c = cc in absurd (cc (sym e ∙ eq-eqb chunk c one)))
+
+-- what isn't linked isn't something
+not_linked : (linked : Option ℕ) → linked ≡ None → IsSome linked → ⊥
+not_linked linked none some = absurd (cc (subst IsSome none some))
+
+-- an item is put at this chunk under its key, in place of that of `old`, behind which that of `evicted` is gone
+module _ (key : List ℕ) (before after : PartView) (chunk : ℕ) (old evicted : Option ℕ) (alike : IsAlike before after)
+    (others : OthersStay (Some chunk) old evicted before.book after.book) (under : IsUnder key chunk after)
+    (was_old : IsItem key old before) (ended : IfSome old (λ c. linked_at after.book.part c ≡ None))
+    (was : WasAnother old evicted before) (gone : IfSome evicted (λ c. c ≢ chunk → linked_at after.book.part c ≡ None))
+    (fresh : IsFresh chunk evicted before) where
+  -- the old one isn't linked behind it
+  not_old : (c : ℕ) → IsSome (linked_at after.book.part c) → old ≢ Some c
+  not_old c some same =
+      not_linked (linked_at after.book.part c) (subst (λ o. IfSome o (λ d. linked_at after.book.part d ≡ None)) same ended) some
+
+  -- and not the evicted one, but where the new one is at its chunk
+  not_evicted : (c : ℕ) → Some chunk ≢ Some c → IsSome (linked_at after.book.part c) → evicted ≢ Some c
+  not_evicted c new some same = not_linked (linked_at after.book.part c)
+      (subst (λ e. IfSome e (λ d. d ≢ chunk → linked_at after.book.part d ≡ None)) same gone (λ e. new (ap Some (sym e)))) some
+
+  -- each other one was linked before, with the same words
+  was_linked : (c : ℕ) → Some chunk ≢ Some c → IsSome (linked_at after.book.part c)
+      → linked_at after.book.part c ≡ linked_at before.book.part c
+  was_linked c new some = others.linked c new (not_old c some) (not_evicted c new some)
+
+  -- under each other key stays what was there
+  pub put_others : OthersKept key (evicted_key evicted before) before after
+  put_others other value differs not_out = (forth, back)
+    where
+      forth : Keeps other value before → Keeps other value after
+      forth kept = keeps_stays other value before after alike kept (others.linked kept.chunk new old_one out)
+          (λ i. others.words i kept.chunk new)
+        where
+          out : evicted ≢ Some kept.chunk
+          out same = not_out (ap (λ e. evicted_key e before) same ∙ ap Some kept.under.key)
+
+          old_one : old ≢ Some kept.chunk
+          old_one same = differs (sym kept.under.key ∙ (subst (λ o. IsItem key o before) same was_old).key)
+
+          new : Some chunk ≢ Some kept.chunk
+          new same = not_linked (linked_at before.book.part kept.chunk)
+              (subst (λ o. IfSome o (λ c. linked_at before.book.part c ≡ None)) same (fresh (λ e. out (e ∙ same))))
+              kept.under.linked
+
+      back : Keeps other value after → Keeps other value before
+      back kept = keeps_stays other value after before (alike_back before after alike) kept
+          (sym (was_linked kept.chunk new kept.under.linked)) (λ i. sym (others.words i kept.chunk new))
+        where
+          new : Some chunk ≢ Some kept.chunk
+          new same = differs (sym kept.under.key
+              ∙ subst (λ o. IfSome o (λ c. key_at after.key_words after.book.part c ≡ key)) same under.key)
+
+  -- nothing is kept under the key of the evicted one
+  unknown : (c : ℕ) → evicted ≡ Some c → IsPart before.seed before.key_words before.book.part before.index
+      → IsUnknown (key_at before.key_words before.book.part c) after
+  unknown c out is d has = by (is_this (Some chunk) d)
+    where
+      there : IsSome (linked_at before.book.part c) × (old ≡ None)
+      there = subst (λ e. WasAnother old e before) out was
+
+      by : (Some chunk ≡ Some d) ⊎ (Some chunk ≢ Some d) → ⊥
+      by (inl same) = subst (λ o. IsItem key o before) there.1 was_old c (record {
+        linked = there.0;
+        key = sym has.key
+            ∙ subst (λ o. IfSome o (λ e. key_at after.key_words after.book.part e ≡ key)) same under.key;
+      })
+      by (inr new) =
+          let key_before : key_at before.key_words before.book.part d ≡ key_at before.key_words before.book.part c =
+          sym (key_stays before after d alike (λ i. others.words i d new)) ∙ has.key in
+          let linked : IsSome (linked_at before.book.part d) = subst IsSome (was_linked d new has.linked) has.linked in
+          not_evicted d new has.linked (out ∙ ap Some (sym (is.agrees.once d c linked there.0 key_before)))
+
+  -- what is told of the evicted one
+  pub put_evicted : (law : RowPredicate) (from to : List ℕ) → IsLawful law before
+      → IsPart before.seed before.key_words before.book.part before.index → TellsRow evicted from to before
+      → Evicted law evicted from to before after
+  put_evicted law from to lawful is told = by evicted refl told
+    where
+      by : (e : Option ℕ) → evicted ≡ e → TellsRow e from to before → Evicted law e from to before after
+      by None out same = same
+      by (Some c) out row =
+          let there : IsSome (linked_at before.book.part c) × (old ≡ None) =
+          subst (λ e. WasAnother old e before) out was in
+          record {
+            linked = there.0;
+            obeys = lawful c there.0;
+            told = row;
+            unknown = unknown c out is;
+          }
+
+  -- the law holds of each item
+  pub put_lawful : (law : RowPredicate) (row : List ℕ) → IsLawful law before → MayHave law 0 row
+      → HasRow chunk 0 row after.book → IsLawful law after
+  put_lawful law row lawful may has c some = by (is_this (Some chunk) c)
+    where
+      by : (Some chunk ≡ Some c) ⊎ (Some chunk ≢ Some c) → Obeys law after c
+      by (inl same) = subst (λ o. IfSome o (Obeys law after)) same (may (last_words after.book.part chunk) has)
+      by (inr new) = obeys_stays law before after c (λ i. others.words i c new)
+          (lawful c (subst IsSome (was_linked c new some) some))
+
+  -- the words of the old one stay
+  pub old_words : (c : ℕ) → old ≡ Some c → (i : ℕ) → last_word i after.book.part c ≡ last_word i before.book.part c
+  old_words c is_old i = others.words i c (λ same. not_old chunk under.linked (is_old ∙ sym same))
+
+-- no item is put, and that of `evicted` is gone
+module _ (before after : PartView) (evicted : Option ℕ) (alike : IsAlike before after)
+    (others : OthersStay None None evicted before.book after.book) (was : IfSome evicted (λ c. IsSome (linked_at before.book.part c)))
+    (gone : IfSome evicted (λ c. linked_at after.book.part c ≡ None)) where
+  -- the evicted one isn't linked
+  out_of : (c : ℕ) → IsSome (linked_at after.book.part c) → evicted ≢ Some c
+  out_of c some same = not_linked (linked_at after.book.part c) (subst (λ e. IfSome e (λ d. linked_at after.book.part d ≡ None)) same gone) some
+
+  still : (c : ℕ) → evicted ≢ Some c → linked_at after.book.part c ≡ linked_at before.book.part c
+  still c out = others.linked c (λ e. absurd (cc e)) (λ e. absurd (cc e)) out
+
+  words : (c i : ℕ) → last_word i after.book.part c ≡ last_word i before.book.part c
+  words c i = others.words i c (λ e. absurd (cc e))
+
+  -- under each other key stays what was there
+  pub refused_others : AllKept (evicted_key evicted before) before after
+  refused_others other value not_out = (forth, back)
+    where
+      forth : Keeps other value before → Keeps other value after
+      forth kept = keeps_stays other value before after alike kept (still kept.chunk (stays kept)) (words kept.chunk)
+        where
+          stays : (kept : Keeps other value before) → evicted ≢ Some kept.chunk
+          stays kept same = not_out (ap (λ e. evicted_key e before) same ∙ ap Some kept.under.key)
+
+      back : Keeps other value after → Keeps other value before
+      back kept = keeps_stays other value after before (alike_back before after alike) kept
+          (sym (still kept.chunk (out_of kept.chunk kept.under.linked))) (λ i. sym (words kept.chunk i))
+
+  -- what is told of the evicted one
+  pub refused_evicted : (law : RowPredicate) (from to : List ℕ) → IsLawful law before
+      → IsPart before.seed before.key_words before.book.part before.index → TellsRow evicted from to before
+      → Evicted law evicted from to before after
+  refused_evicted law from to lawful is told = by evicted refl told
+    where
+      by : (e : Option ℕ) → evicted ≡ e → TellsRow e from to before → Evicted law e from to before after
+      by None out same = same
+      by (Some c) out row =
+          let linked : IsSome (linked_at before.book.part c) = subst (λ e. IfSome e (λ d. IsSome (linked_at before.book.part d))) out was in
+          record {
+            linked = linked;
+            obeys = lawful c linked;
+            told = row;
+            unknown = λ d has. out_of d has.linked (out ∙ ap Some (sym (is.agrees.once d c
+                (subst IsSome (still d (out_of d has.linked)) has.linked) linked
+                (sym (key_stays before after d alike (words d)) ∙ has.key))));
+          }
+
+  -- the law holds of each item
+  pub refused_lawful : (law : RowPredicate) → IsLawful law before → IsLawful law after
+  refused_lawful law lawful c some = obeys_stays law before after c (words c)
+      (lawful c (subst IsSome (still c (out_of c some)) some))

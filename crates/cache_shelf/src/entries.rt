@@ -1,0 +1,103 @@
+//! Items as entries of a table of keys and values.
+ghost use Rattle.std.specs.Prelude.{◌≡◌, ℕ, ◌+◌, ◌≤◌, IfSome, IfNone, IfOk, IfErr, Option, None, true, length, take, drop};
+ghost use Rattle.bump_class.specs.Links.{MayHave};
+ghost use Rattle.bump_steps.specs.Views.{owns};
+ghost use Rattle.cache_lists.specs.Items.{EndsAt};
+ghost use Rattle.cache_part.specs.Keys.{value_at};
+ghost use Rattle.cache_part.specs.Looks.{LooksOnly};
+ghost use Rattle.cache_part.specs.Parts.{IsUnknown};
+ghost use Rattle.cache_shelf.specs.Entries.{AllKept, Evicted, FindsNoRoom, Had, Keeps, OnlyReads, OthersKept, PutsEntry, evicted_key};
+ghost use Rattle.cache_shelf.specs.Shelves.{IsLawful};
+
+use bump_heads::Name;
+use bump_steps::RowLaw;
+use cache_part::{NoRoom, Part, Put};
+
+// Reads the value of a chunk of the class, where there is one.
+fn read_value<N: Name, L: RowLaw>(part: &mut Part<N, L>, chunk: Option<u32>, value: &mut [u64])
+    requires own { IfSome chunk (λ c. owns c part.old.book.part ≡ true) }
+    requires value { length value.old ≡ part.old.value_words }
+    ensures none { IfNone chunk (value.new ≡ value.old) }
+    ensures some { IfSome chunk (λ c. value.new
+        ≡ value_at part.old.key_words part.old.value_words part.old.book.part c) }
+    ensures reads { OnlyReads part.old part.new }
+    ensures length { length value.new ≡ length value.old }
+{
+    part.promise();
+    if let Some(chunk) = chunk {
+        let key_words = part.key_words();
+        part.read(chunk, key_words, value);
+    }
+}
+
+// Puts an item, and reads the value that its key had. The table's law holds of each item, before and behind that.
+pub(crate) fn put_entry<N: Name, L: RowLaw>(
+    part: &mut Part<N, L>,
+    row: &[u64],
+    old: &mut [u64],
+    evicted: &mut [u64],
+    now: u64,
+) -> Result<Put, NoRoom>
+    requires lawful { IsLawful L.law part.old }
+    requires words { length row.now ≡ part.old.key_words + part.old.value_words }
+    requires old { length old.old ≡ part.old.value_words }
+    requires evicted { length evicted.old ≡ part.old.key_words + part.old.value_words }
+    requires law { MayHave L.law 0 row.now }
+    ensures lawful { IsLawful L.law part.new }
+    ensures kept { IfOk result (λ did. Keeps (take part.old.key_words row.now) (drop part.old.key_words row.now)
+        part.new) }
+    ensures had { IfOk result (λ did. Had L.law (take part.old.key_words row.now) did.old old.old old.new part.old) }
+    ensures evicted { IfOk result (λ did. Evicted L.law did.evicted evicted.old evicted.new part.old part.new) }
+    ensures others { IfOk result (λ did. OthersKept (take part.old.key_words row.now)
+        (evicted_key did.evicted part.old) part.old part.new) }
+    ensures puts { IfOk result (λ did. PutsEntry did.old did.evicted row.now now did.chunk part.old part.new) }
+    ensures evicted_refused { IfErr result (λ why. Evicted L.law why.evicted evicted.old evicted.new part.old part.new) }
+    ensures stay { IfErr result (λ why. AllKept (evicted_key why.evicted part.old) part.old part.new) }
+    ensures refuses { IfErr result (λ why. FindsNoRoom (take part.old.key_words row.now) why.evicted part.old part.new) }
+    ensures old_stays { IfErr result (λ why. old.new ≡ old.old) }
+    ensures lengths { (length old.new ≡ length old.old) × (length evicted.new ≡ length evicted.old) }
+    ensures rest { part.new ≡ record part.old {
+      book = part.new.book;
+      flow = part.new.flow;
+      evictions = part.new.evictions;
+      index = part.new.index;
+    } }
+{
+    part.promise();
+    match part.put(row, evicted, now) {
+        Ok(did) => {
+            read_value(part, did.old, old);
+            Ok(did)
+        }
+        Err(why) => Err(why),
+    }
+}
+
+// Ends the item of a key, and reads the value that it had.
+pub(crate) fn remove_entry<N: Name, L: RowLaw>(
+    part: &mut Part<N, L>,
+    key: &[u64],
+    old: &mut [u64],
+) -> Option<u32>
+    requires lawful { IsLawful L.law part.old }
+    requires key { length key.now ≡ part.old.key_words }
+    requires old { length old.old ≡ part.old.value_words }
+    ensures lawful { IsLawful L.law part.new }
+    ensures had { Had L.law key.now result old.old old.new part.old }
+    ensures gone { IsUnknown key.now part.new }
+    ensures others { OthersKept key.now None part.old part.new }
+    ensures ends { IfSome result (λ chunk. EndsAt chunk part.old.book part.new.book) }
+    ensures looks { IfNone result (LooksOnly part.old.book part.new.book) }
+    ensures unchanged { IfNone result (part.new ≡ record part.old { book = part.new.book }) }
+    ensures length { length old.new ≡ length old.old }
+    ensures rest { part.new ≡ record part.old {
+      book = part.new.book;
+      flow = part.new.flow;
+      index = part.new.index;
+    } }
+{
+    part.promise();
+    let chunk = part.remove(key);
+    read_value(part, chunk, old);
+    chunk
+}

@@ -1,0 +1,66 @@
+//! An item that a reader holds keeps its words, and its chunk, whatever is put meanwhile.
+ghost use Rattle.std.specs.Prelude.{◌≡◌};
+
+use crate::stands::Changer;
+use bump_cache::{CacheBlank, CacheConfig, CacheReader, Entry, LogName, Name, Opened, Seed, open};
+use std::alloc::Global;
+use std::marker::Brand;
+use std::process::Abort;
+use std::sync::Wait;
+use std::test::Fail;
+
+const SEED: Seed = Seed {
+    first: 3,
+    second: 4,
+};
+
+fn run<N: Name + LogName, R: Wait + Abort>(
+    rt: &R,
+    alloc: Global,
+    blank: CacheBlank<u64, u64>,
+) -> Result<(), Fail>
+    requires table { blank.table ≡ N.table }
+    requires book { blank.log.book ≡ N.book }
+    requires name { blank.log.name ≡ N.name }
+    requires parts { blank.log.parts ≡ N.parts }
+{
+    let Opened {
+        cache,
+        caller,
+        mut readers,
+    } = open::<N, u64, u64, R>(alloc, rt, blank)?;
+    let mut changer = Changer::new(caller);
+    let Some(reader) = readers.first_mut() else {
+        panic!(rt; "there is a reader")
+    };
+    let first = Entry { key: 1, value: 10 };
+    let second = Entry { key: 1, value: 11 };
+    let third = Entry { key: 1, value: 12 };
+    assert!(rt; changer.put(rt, &cache, &first, 0).is_ok());
+    let Some(mut held) = reader.get_with(&1, 1) else {
+        panic!(rt; "the key has a value")
+    };
+    assert!(rt; changer.put(rt, &cache, &second, 2).is_ok());
+    // There are two chunks: one has the new item, and the old one is held.
+    assert!(rt; changer.put(rt, &cache, &third, 3).is_err());
+    assert_eq!(rt; CacheReader::value_of(&mut held), 10);
+    assert_eq!(rt; held.word(0), 10);
+    drop(held);
+    assert!(rt; changer.put(rt, &cache, &third, 4).is_ok());
+    assert_eq!(rt; reader.get(&1, 5), Some(12));
+    assert!(rt; reader.get_with(&2, 6).is_none());
+    Ok(())
+}
+
+#[test]
+fn a_held_item_keeps_its_value(rt: HostRuntime) -> Result<(), Fail> {
+    let alloc = rt.alloc();
+    let config = CacheConfig {
+        spare: 1,
+        ..CacheConfig::new(1, 1, SEED)
+    };
+    let Ok(blank) = CacheBlank::new(alloc, &config) else {
+        panic!(rt; "the configuration")
+    };
+    run::<Brand, HostRuntime>(&rt, alloc, blank)
+}

@@ -1,0 +1,259 @@
+//! A model of a cache's lists, for one reader: in which list each item stands, and which one is evicted next.
+use std::alloc::{AllocError, Global};
+use std::collections::VecDeque;
+
+// A put applies at most so many bumps of a reader.
+const PUT_BUMPS: usize = 16;
+
+// An eviction rescues at most so many.
+const RESCUES: usize = 8;
+
+// Each so manieth put looks at the ends of HOT and WARM, and so often.
+const LOOKS: u32 = 8;
+
+// A tend looks so often.
+const TEND_LOOKS: u32 = 100;
+
+// An item.
+#[derive(Clone, Copy)]
+struct Item {
+    // no two items have one number
+    number: u64,
+    key: u64,
+    fetched: bool,
+    active: bool,
+}
+
+// A list of items. Its front is the front of the deque.
+type Items = VecDeque<Item>;
+
+/// The lists of a cache, and the bumps that wait.
+#[derive(Drop)]
+pub struct Lists {
+    room: usize,
+    hot_most: usize,
+    warm_most: usize,
+    ring: usize,
+    hot: Items,
+    warm: Items,
+    cold: Items,
+    // the numbers of the items that are to be bumped
+    bumps: VecDeque<u64>,
+    // how many items were put
+    placed: u64,
+    // how many puts there were since the last that looked at the ends
+    puts: u32,
+    evicted_active: u64,
+}
+
+// Where in a list the item of a key stands.
+fn place_of(items: &Items, key: u64) -> Option<usize> {
+    items.iter().position(|item| item.key == key)
+}
+
+// An item goes to the front of a list, and isn't ACTIVE any more.
+fn to_front(items: &mut Items, item: Item) -> Result<(), AllocError> {
+    items.push_front(Item {
+        active: false,
+        ..item
+    })?;
+    Ok(())
+}
+
+// Marks an item as a get does. It tells whether that set ACTIVE.
+fn touch(items: &mut Items, at: usize) -> bool {
+    let Some(item) = items.get_mut(at) else {
+        return false;
+    };
+    let sets = item.fetched && !item.active;
+    item.active = item.active || sets;
+    item.fetched = true;
+    sets
+}
+
+// Marks the item of a key. It tells whether there is one.
+fn touch_key(items: &mut Items, key: u64) -> bool {
+    let Some(at) = place_of(items, key) else {
+        return false;
+    };
+    touch(items, at);
+    true
+}
+
+// Ends the item of a key. It tells whether there was one.
+fn take_from(items: &mut Items, key: u64) -> bool {
+    match place_of(items, key) {
+        Some(at) => items.remove(at).is_some(),
+        None => false,
+    }
+}
+
+// The item at a place isn't ACTIVE any more.
+fn calm(items: &mut Items, at: usize) {
+    if let Some(item) = items.get_mut(at) {
+        item.active = false;
+    }
+}
+
+impl Lists {
+    /// Those of a cache without items: how many there may be, how many in HOT and in WARM, and in the ring.
+    pub fn new(alloc: Global, room: u32, hot_most: u32, warm_most: u32, ring: u32) -> Lists {
+        Lists {
+            room: room as usize,
+            hot_most: hot_most as usize,
+            warm_most: warm_most as usize,
+            ring: ring as usize,
+            hot: VecDeque::new(alloc),
+            warm: VecDeque::new(alloc),
+            cold: VecDeque::new(alloc),
+            bumps: VecDeque::new(alloc),
+            placed: 0,
+            puts: 0,
+            evicted_active: 0,
+        }
+    }
+
+    /// How many of the evicted ones were ACTIVE.
+    pub fn evicted_active(&self) -> u64 {
+        self.evicted_active
+    }
+
+    /// How many items are in HOT, in WARM and in COLD.
+    pub fn sizes(&self) -> (usize, usize, usize) {
+        (self.hot.len(), self.warm.len(), self.cold.len())
+    }
+
+    /// Ends the item of a key. It tells whether there was one.
+    pub fn take(&mut self, key: u64) -> bool {
+        take_from(&mut self.hot, key)
+            || take_from(&mut self.warm, key)
+            || take_from(&mut self.cold, key)
+    }
+
+    /// Ends each item.
+    pub fn clear(&mut self) {
+        self.hot.clear();
+        self.warm.clear();
+        self.cold.clear();
+    }
+
+    /// Gets a key, and tells whether it has an item. Where that becomes ACTIVE in COLD its bump waits, if the ring has room.
+    pub fn get(&mut self, key: u64) -> Result<bool, AllocError> {
+        if touch_key(&mut self.hot, key) || touch_key(&mut self.warm, key) {
+            return Ok(true);
+        }
+        let Some(at) = place_of(&self.cold, key) else {
+            return Ok(false);
+        };
+        if !touch(&mut self.cold, at) {
+            return Ok(true);
+        }
+        if self.bumps.len() >= self.ring {
+            calm(&mut self.cold, at);
+        } else if let Some(item) = self.cold.get(at) {
+            self.bumps.push_back(item.number)?;
+        }
+        Ok(true)
+    }
+
+    // Applies at most so many of the bumps that wait: an item that is ACTIVE in COLD goes to the front of WARM.
+    fn drain(&mut self, most: usize) -> Result<(), AllocError> {
+        for _ in 0..most {
+            let Some(number) = self.bumps.pop_front() else {
+                return Ok(());
+            };
+            let is_it = |item: &Item| item.number == number && item.active;
+            let Some(at) = self.cold.iter().position(is_it) else {
+                continue;
+            };
+            if let Some(item) = self.cold.remove(at) {
+                to_front(&mut self.warm, item)?;
+            }
+        }
+        Ok(())
+    }
+
+    // An item that was the last of HOT or WARM goes to the front of WARM or COLD.
+    fn move_on(&mut self, item: Item) -> Result<(), AllocError> {
+        if item.active {
+            to_front(&mut self.warm, item)
+        } else {
+            to_front(&mut self.cold, item)
+        }
+    }
+
+    // Looks at the last items of HOT and WARM so often, where these have more than they may have.
+    fn balance(&mut self, count: u32) -> Result<(), AllocError> {
+        for _ in 0..count {
+            if self.hot.len() > self.hot_most {
+                if let Some(item) = self.hot.pop_back() {
+                    self.move_on(item)?;
+                }
+            }
+            if self.warm.len() > self.warm_most {
+                if let Some(item) = self.warm.pop_back() {
+                    self.move_on(item)?;
+                }
+            }
+        }
+        Ok(())
+    }
+
+    /// Tends the lists.
+    pub fn tend(&mut self) -> Result<(), AllocError> {
+        self.drain(self.ring)?;
+        self.balance(TEND_LOOKS)
+    }
+
+    // Evicts an item, and tells its key.
+    fn evict(&mut self) -> Result<Option<u64>, AllocError> {
+        for _ in 0..RESCUES {
+            match self.cold.back().copied() {
+                Some(item) if item.active => {
+                    self.cold.pop_back();
+                    to_front(&mut self.warm, item)?;
+                }
+                _ => break,
+            }
+        }
+        if let Some(item) = self.cold.pop_back() {
+            if item.active {
+                self.evicted_active = self.evicted_active.saturating_add(1);
+            }
+            return Ok(Some(item.key));
+        }
+        let Some(item) = self.warm.pop_back() else {
+            return Ok(self.hot.pop_back().map(|item| item.key));
+        };
+        Ok(Some(item.key))
+    }
+
+    /// Puts a key for which there is a chunk, and tells which key is evicted.
+    pub fn put(&mut self, key: u64) -> Result<Option<u64>, AllocError> {
+        self.drain(PUT_BUMPS)?;
+        let (hot, warm, cold) = self.sizes();
+        let is_known = place_of(&self.hot, key).is_some()
+            || place_of(&self.warm, key).is_some()
+            || place_of(&self.cold, key).is_some();
+        let is_full = hot.saturating_add(warm).saturating_add(cold) >= self.room;
+        let evicted = if is_full && !is_known {
+            self.evict()?
+        } else {
+            None
+        };
+        self.take(key);
+        self.hot.push_front(Item {
+            number: self.placed,
+            key,
+            fetched: false,
+            active: false,
+        })?;
+        self.placed = self.placed.saturating_add(1);
+        self.puts = self.puts.saturating_add(1);
+        if self.puts == LOOKS {
+            self.puts = 0;
+            self.balance(LOOKS)?;
+        }
+        Ok(evicted)
+    }
+}

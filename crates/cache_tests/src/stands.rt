@@ -1,0 +1,213 @@
+//! A cache that a test was given, with whoever changes it.
+ghost use Rattle.std.specs.Prelude.{◌≡◌, ◌<◌};
+
+use bump_cache::{
+    Cache, CacheBlank, CacheConfig, CacheReader, CacheState, Caller, Entry, LogName, Name, NoRoom,
+    Opened, Packed, Put, Seed, Stats, open,
+};
+use std::alloc::{AllocError, Global};
+use std::sync::Wait;
+use std::sync::atomic::{AtomicBool, AtomicU64};
+
+/// Whoever changes a cache: a caller that has a part.
+#[derive(Drop)]
+pub struct Changer<N: Name + LogName> {
+    me: Caller<N, CacheState>,
+    ghost part: { 0 < me.parts },
+}
+
+impl<N: Name + LogName> Changer<N> {
+    /// A caller that has a part.
+    pub fn new(me: Caller<N, CacheState>) -> Changer<N>
+        requires { 0 < me.parts }
+    {
+        Changer { me }
+    }
+
+    /// Puts a value under a key.
+    pub fn put<K: Packed, V: Packed, W: Wait>(
+        &mut self,
+        rt: &W,
+        cache: &Cache<N, K, V>,
+        entry: &Entry<K, V>,
+        now: u64,
+    ) -> Result<Put<K, V>, NoRoom<K, V>> {
+        cache.put(rt, &mut self.me, &entry.key, &entry.value, now)
+    }
+
+    /// Ends the item of a key.
+    pub fn remove<K: Packed, V: Packed, W: Wait>(
+        &mut self,
+        rt: &W,
+        cache: &Cache<N, K, V>,
+        key: &K,
+    ) -> Option<V> {
+        cache.remove(rt, &mut self.me, key)
+    }
+
+    /// Tends the cache.
+    pub fn tend<K: Packed, V: Packed, W: Wait>(
+        &mut self,
+        rt: &W,
+        cache: &Cache<N, K, V>,
+        now: u64,
+    ) {
+        cache.tend(rt, &mut self.me, now);
+    }
+
+    /// Tends the cache again and again, until a flag is set.
+    pub fn tend_until<K: Packed, V: Packed, W: Wait>(
+        self,
+        rt: &W,
+        cache: &Cache<N, K, V>,
+        clock: &AtomicU64,
+        stop: &AtomicBool,
+    ) {
+        let Changer { mut me } = self;
+        cache.tend_until(rt, &mut me, clock, stop);
+    }
+
+    /// Ends each item.
+    pub fn clear<K: Packed, V: Packed, W: Wait>(&mut self, rt: &W, cache: &Cache<N, K, V>) {
+        cache.clear(rt, &mut self.me);
+    }
+
+    /// The statistics.
+    pub fn stats<K: Packed, V: Packed, W: Wait>(
+        &mut self,
+        rt: &W,
+        cache: &Cache<N, K, V>,
+    ) -> Stats {
+        cache.stats(rt, &mut self.me)
+    }
+}
+
+/// A cache that one thread has, with its readers.
+#[derive(Drop)]
+pub struct Stand<N: Name + LogName, K: Packed, V: Packed> {
+    cache: Cache<N, K, V>,
+    changer: Changer<N>,
+    readers: Vec<CacheReader<N, K, V>>,
+}
+
+impl<N: Name + LogName, K: Packed, V: Packed> Stand<N, K, V> {
+    /// Opens a cache. It is refused only for want of memory.
+    pub fn open<W: Wait>(
+        alloc: Global,
+        rt: &W,
+        blank: CacheBlank<K, V>,
+    ) -> Result<Stand<N, K, V>, AllocError>
+        requires table { blank.table ≡ N.table }
+        requires book { blank.log.book ≡ N.book }
+        requires name { blank.log.name ≡ N.name }
+        requires parts { blank.log.parts ≡ N.parts }
+    {
+        let Opened {
+            cache,
+            caller,
+            readers,
+        } = open::<N, K, V, W>(alloc, rt, blank)?;
+        Ok(Stand {
+            cache,
+            changer: Changer::new(caller),
+            readers,
+        })
+    }
+
+    /// Puts a value under a key.
+    pub fn put<W: Wait>(
+        &mut self,
+        rt: &W,
+        key: K,
+        value: V,
+        now: u64,
+    ) -> Result<Put<K, V>, NoRoom<K, V>> {
+        self.changer
+            .put(rt, &self.cache, &Entry { key, value }, now)
+    }
+
+    /// Ends the item of a key.
+    pub fn remove<W: Wait>(&mut self, rt: &W, key: &K) -> Option<V> {
+        self.changer.remove(rt, &self.cache, key)
+    }
+
+    /// Tends the cache.
+    pub fn tend<W: Wait>(&mut self, rt: &W, now: u64) {
+        self.changer.tend(rt, &self.cache, now);
+    }
+
+    /// Ends each item.
+    pub fn clear<W: Wait>(&mut self, rt: &W) {
+        self.changer.clear(rt, &self.cache);
+    }
+
+    /// The statistics.
+    pub fn stats<W: Wait>(&mut self, rt: &W) -> Stats {
+        self.changer.stats(rt, &self.cache)
+    }
+
+    /// What a reader gets under a key; nothing where there is no such reader.
+    pub fn get(&mut self, reader: usize, key: &K, now: u64) -> Option<V> {
+        self.readers.get_mut(reader)?.get(key, now)
+    }
+
+    /// What a reader finds there without a touch.
+    pub fn peek(&mut self, reader: usize, key: &K) -> Option<V> {
+        self.readers.get_mut(reader)?.peek(key)
+    }
+
+    /// Whether a reader finds something there.
+    pub fn contains(&mut self, reader: usize, key: &K) -> bool {
+        match self.readers.get_mut(reader) {
+            Some(reader) => reader.contains(key),
+            None => false,
+        }
+    }
+
+    /// How many gets of all readers found something, and how many nothing.
+    pub fn hits_and_misses(&self) -> (u64, u64) {
+        let mut hits = 0u64;
+        let mut misses = 0u64;
+        for reader in &self.readers {
+            hits = hits.saturating_add(reader.hits());
+            misses = misses.saturating_add(reader.misses());
+        }
+        (hits, misses)
+    }
+
+    /// How many bumps of all readers were dropped.
+    pub fn bumps_dropped(&self) -> u64 {
+        let mut dropped = 0u64;
+        for reader in &self.readers {
+            dropped = dropped.saturating_add(reader.bumps_dropped());
+        }
+        dropped
+    }
+}
+
+/// The seed of the tests: some numbers.
+pub const SEED: Seed = Seed {
+    first: 0x0123_4567_89ab_cdef,
+    second: 0xfedc_ba98_7654_3211,
+};
+
+/// The configuration of a small cache of one reader: at most so many percent of the items are in HOT and in WARM.
+pub fn config_of(items: u32, spare: u32, hot: u32, warm: u32, ring: u32) -> CacheConfig {
+    CacheConfig {
+        items,
+        spare,
+        hot,
+        warm,
+        readers: 1,
+        ring,
+        seed: SEED,
+    }
+}
+
+/// The next of the random numbers that a seed begins.
+pub fn next(seed: &mut u64) -> u64 {
+    *seed = seed
+        .wrapping_mul(6_364_136_223_846_793_005)
+        .wrapping_add(1_442_695_040_888_963_407);
+    *seed >> 33
+}

@@ -1,0 +1,7 @@
+use Rattle.std.proofs.Common.{refl}
+use Rattle.replay_runs.specs.Writing.{IsUpkeep}
+use Rattle.replay_runs.proofs.WritingLemmas.{adds_none}
+use Rattle.replay_runs.proofs.accesses.drain_for_put.Goals as goal
+
+pub returns-then-not-has_waiting-clause-text : goal.returns-then-not-has_waiting-clause-text
+returns-then-not-has_waiting-clause-text c = adds_none IsUpkeep 1 _ _ refl
