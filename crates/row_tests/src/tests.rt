@@ -173,6 +173,45 @@ fn run<N: Name, R: Abort>(rt: &R, alloc: Global, blank: Blank, config: &Config) 
     Ok(())
 }
 
+// An item is put and ends: a life of some chunk is over.
+fn use_up_one<N: Name>(rt: &impl Abort, part: &mut Part<N, AnyRow>, key: u64)
+    requires key { part.old.key_words ≡ 2 }
+    requires value { part.old.value_words ≡ 1 }
+    ensures key { part.new.key_words ≡ 2 }
+    ensures value { part.new.value_words ≡ 1 }
+{
+    let _ = put(rt, part, [key, key, key], &mut [0; 3], 5);
+    assert!(rt; part.remove(&[key, key]).is_some());
+}
+
+// Each of four chunks has one life; then none is free any more, and a put says so.
+fn use_up<N: Name, R: Abort>(
+    rt: &R,
+    alloc: Global,
+    blank: Blank,
+    config: &Config,
+) -> Result<(), Fail>
+    requires name { blank.table ≡ N.table }
+    requires config { blank.config ≡ config.now }
+    requires slots { N.table.slots ≡ 3 }
+    requires class { config.now.classes ≡ (record { chunks = 4; hot = 1; warm = 1 }) ∷ [] }
+{
+    let opened = StoreParts::<N>::open(alloc, blank, config)?;
+    let Some(book) = first_book(opened.books) else {
+        panic!(rt; "there is a class")
+    };
+    let index = Index::new(alloc, 4)?;
+    let mut part = Part::new(book, index, SEED, 2, 1, 2);
+    use_up_one(rt, &mut part, 1);
+    use_up_one(rt, &mut part, 2);
+    use_up_one(rt, &mut part, 3);
+    use_up_one(rt, &mut part, 4);
+    let mut evicted = [0; 3];
+    assert!(rt; part.put(&[5, 5, 5], &mut evicted, 6).is_err());
+    assert!(rt; part.find(&[5, 5]).is_none());
+    Ok(())
+}
+
 #[test]
 fn a_reader_sees_what_is_put(rt: HostRuntime) -> Result<(), Fail> {
     let alloc = rt.alloc();
@@ -181,4 +220,14 @@ fn a_reader_sees_what_is_put(rt: HostRuntime) -> Result<(), Fail> {
     };
     let blank = Blank::with_words(alloc, &config, 3)?;
     run::<Brand, HostRuntime>(&rt, alloc, blank, &config)
+}
+
+#[test]
+fn a_part_has_no_room_behind_the_last_generation(rt: HostRuntime) -> Result<(), Fail> {
+    let alloc = rt.alloc();
+    let Ok(config) = Config::new(1, 8, 4, u32::MAX, vec![in alloc; CLASS]?) else {
+        panic!(rt; "the configuration")
+    };
+    let blank = Blank::with_words(alloc, &config, 3)?;
+    use_up::<Brand, HostRuntime>(&rt, alloc, blank, &config)
 }
