@@ -1,5 +1,5 @@
 -- Rows that are those of a key and a value.
-use Rattle.std.proofs.Common.{◌≡◌, ℕ, zero, suc, ◌+◌, ◌<◌, List, [], ◌∷◌, ◌++◌, length, get_or, refl, sym, ap, ap₂, ◌∙◌, arith}
+use Rattle.std.proofs.Common.{◌≡◌, ℕ, suc, ◌+◌, ◌<◌, List, [], ◌∷◌, ◌++◌, length, get_or, refl, sym, ap, ap₂, ◌∙◌, arith}
 use Rattle.std.proofs.Math.ListN.{get_or-append}
 use Rattle.std.proofs.lemmas.List.{get_or-append-add, length-append}
 use Rattle.bump_steps.specs.declared.views.ClassPart.{ClassPart}

@@ -1,17 +1,20 @@
 -- What was told as words, told as keys and values.
-use Rattle.std.proofs.Common.{◌≡◌, ◌≢◌, ℕ, ◌+◌, List, ◌++◌, length, take, drop, Option, None, Some, IsSome, IfSome, is_some, option_map, refl, sym, ap, ◌∙◌, subst, arith}
-use Rattle.std.proofs.Math.Seq.{take-append_seam}
-use Rattle.std.proofs.Math.Seq.{drop-append_seam}
+use Rattle.std.proofs.Common.{◌≡◌, ℕ, Bool, List, ◌++◌, length, take, drop, Option, None, Some, IfSome, IfNone, is_some, option_map, refl, sym, ap, ◌∙◌, subst}
+use Rattle.std.proofs.Math.Seq.{drop-append_seam, take-append_seam}
+use Rattle.bump_rules.specs.Lists.{all_without}
 use Rattle.bump_steps.specs.Rule.{RowPredicate}
 use Rattle.bump_steps.specs.Views.{last_words}
+use Rattle.cache_lists.specs.Items.{EndsAt}
+use Rattle.cache_lists.specs.Segments.{SameSegments}
 use Rattle.cache_part.specs.Keys.{key_at, value_at}
+use Rattle.cache_part.specs.Looks.{LooksOnly}
 use Rattle.cache_part.specs.Parts.{PartView, IsUnknown}
 use Rattle.cache_part.specs.Putting.{row_at}
-use Rattle.cache_shelf.specs.Entries.{AllKept, Evicted, Had, Keeps, OthersKept, evicted_key as key_of_evicted}
+use Rattle.cache_shelf.specs.Entries.{Evicted, Had, key_of_evicted}
 use Rattle.packed_words.specs.Parts.{same_parts}
 use Rattle.bump_cache.specs.declared.answers.Entry.{Entry}
 use Rattle.bump_cache.specs.Pairs.{IsPair}
-use Rattle.bump_cache.specs.Putting.{HadValue, WasEvicted, evicted_key}
+use Rattle.bump_cache.specs.Putting.{EndsOne, HadValue, WasEvicted, evicted_key}
 use Rattle.bump_cache.proofs.PairLemmas.{IsPairRow, pair_row}
 
 -- the first of two lists
@@ -21,6 +24,17 @@ first_part first second n long = ap (λ m. take m (first ++ second)) long ∙ ta
 -- and the second
 pub second_part : (first second : List ℕ) (n : ℕ) → n ≡ length first → drop n (first ++ second) ≡ second
 second_part first second n long = ap (λ m. drop m (first ++ second)) long ∙ drop-append_seam first second
+
+-- one item ended, or none
+pub ends_told : (chunk : Option ℕ) (some : Bool) (before after : PartView) → some ≡ is_some chunk
+    → IfSome chunk (λ c. EndsAt c before.book after.book)
+    → IfSome chunk (λ c. SameSegments (all_without c before.book.lists) after.book.lists)
+    → IfNone chunk (LooksOnly before.book after.book) → IfNone chunk (after ≡ record before { book = after.book })
+    → EndsOne some before after
+ends_told None some before after same ends lists looks rest =
+    subst (λ s. EndsOne s before after) (sym same) (record { looks = looks; rest = rest })
+ends_told (Some c) some before after same ends lists looks rest =
+    subst (λ s. EndsOne s before after) (sym same) (record { chunk = c; ends = ends; lists = lists })
 
 module _ {K V : Type 0} (fits_key : K → Type 0) (key_words : K → List ℕ) (fits_value : V → Type 0)
     (value_words : V → List ℕ) (key_width value_width : ℕ)

@@ -4,6 +4,7 @@ use Rattle.bump_rules.specs.declared.configs.ClassConfig.{ClassConfig}
 use Rattle.bump_rules.specs.declared.configs.Config.{Config}
 use Rattle.bump_rules.specs.Caches.{cache_refs}
 use Rattle.bump_rules.specs.Configs.{is_within, most_chunks, most_capacity}
+use Rattle.cache_lists.specs.declared.ages.Bounds.{Bounds}
 use Rattle.bump_cache.specs.declared.config.CacheConfig.{CacheConfig}
 use Rattle.bump_cache.specs.declared.config.CacheFault.{CacheFault}
 use Rattle.bump_cache.specs.declared.config.CacheFault.TheVariants.{Items, Spare, Shares, Readers, Ring}
@@ -31,6 +32,15 @@ told_fault (Some Memory) = None
 -- so many percent of the items, and all of them where it is more than 100
 abbrev pub share_of : ℕ → ℕ → ℕ
 share_of items percent = items * min percent 100 / 100
+
+-- what keeps HOT and WARM short in a cache of this configuration
+abbrev pub bounds_of : CacheConfig → Bounds
+bounds_of config = record {
+  hot = share_of config.items config.hot;
+  warm = share_of config.items config.warm;
+  hot_age = config.hot_age;
+  warm_age = config.warm_age;
+}
 
 -- a spare chunk for each 64 items and one for each reader, as far as there may be chunks
 abbrev pub spare_of : ℕ → ℕ → ℕ

@@ -2,6 +2,7 @@ pub mod Configs
 pub mod Pairs
 pub mod States
 pub mod Readers
+pub mod Held
 pub mod Opening
 pub mod Putting
 pub mod Tending
@@ -15,17 +16,18 @@ pub use Rattle.bump_parts.specs.Touches
 pub use Rattle.bump_parts.specs.Workers
 pub use Rattle.bump_ring.specs.Ends
 pub use Rattle.bump_rules.specs.Configs as RulesConfigs
+pub use Rattle.bump_rules.specs.Lists
 pub use Rattle.bump_rules.specs.Rings
 pub use Rattle.bump_steps.specs.References
 pub use Rattle.bump_steps.specs.Rule
 pub use Rattle.bump_steps.specs.Views
 pub use Rattle.cache_lists.specs.Counts
 pub use Rattle.cache_lists.specs.Items
+pub use Rattle.cache_lists.specs.Segments
 pub use Rattle.cache_part.specs.Keys
 pub use Rattle.cache_part.specs.Parts
 pub use Rattle.cache_part.specs.Stats
 pub use Rattle.cache_part.specs.Tending as PartTending
-pub use Rattle.cache_readers.specs.Helds
 pub use Rattle.cache_readers.specs.Looks
 pub use Rattle.cache_readers.specs.Readers as WordReaders
 pub use Rattle.cache_shelf.specs.Entries

@@ -1,10 +1,8 @@
 -- What a cache is opened from, and what it is once it is opened.
-use Rattle.std.specs.Prelude.{◌≡◌, ℕ, List, [], map, replicate, All, None, length}
+use Rattle.std.specs.Prelude.{◌≡◌, ℕ, List, [], map, replicate, All, None}
 use Rattle.atomic_table.specs.Seated.{TableId}
 use Rattle.bump_rules.specs.declared.configs.Config.{Config}
 use Rattle.bump_steps.specs.Rule.{worker_parts}
-use Rattle.bump_class.specs.Books.{new_book}
-use Rattle.bump_class.specs.Lanes.{LaneView}
 use Rattle.bump_parts.specs.Parting.{raw_rings}
 use Rattle.bump_parts.specs.Workers.{worker_parts_of, WorkerState}
 use Rattle.bump_ring.specs.Ends.{Ring}
@@ -15,7 +13,7 @@ use Rattle.cache_lists.specs.Counts.{no_evictions, no_flow}
 use Rattle.cache_shelf.specs.Shelves.{ShelfView}
 use Rattle.cache_shelf.specs.declared.limits.Limits.{Limits}
 use Rattle.bump_cache.specs.declared.config.CacheConfig.{CacheConfig}
-use Rattle.bump_cache.specs.Configs.{first_cache_fault, share_of, class_of, IsStoreOf}
+use Rattle.bump_cache.specs.Configs.{IsStoreOf, bounds_of, class_of, first_cache_fault}
 use Rattle.bump_cache.specs.Readers.{new_readers}
 
 -- what contracts see of what a cache is opened from: which table its words are, its log, and its configuration
@@ -41,8 +39,7 @@ pub record IsCacheBlank (blank : BlankView) (store : Config) (config : CacheConf
 -- the limits of a cache of this configuration
 abbrev pub limits_of : CacheConfig → Limits
 limits_of config = record {
-  hot = share_of config.items config.hot;
-  warm = share_of config.items config.warm;
+  bounds = bounds_of config;
   most = config.ring;
 }
 

@@ -1,6 +1,8 @@
 -- What puts and removals do, by keys and values as words.
 use Rattle.std.specs.Prelude.{◌≡◌, ℕ, Bool, true, false, List, Option, None, Some, is_some, option_map}
+use Rattle.bump_rules.specs.Lists.{all_without}
 use Rattle.cache_lists.specs.Items.{EndsAt}
+use Rattle.cache_lists.specs.Segments.{SameSegments}
 use Rattle.cache_part.specs.Parts.{PartView, IsUnknown}
 use Rattle.cache_shelf.specs.Entries.{FindsNoRoom, Keeps, OnlyReads, PutsEntry}
 use Rattle.cache_shelf.specs.Shelves.{ShelfView}
@@ -38,18 +40,13 @@ pub record RefusesRow (key : List ℕ) (now : ℕ) (has_evicted : Bool) (before 
   pub told_evicted : is_some evicted ≡ has_evicted
   pub refuses : PutsInTurn (FindsNoRoom key evicted) now before after
 
--- One item ended, or none and nothing changed but what the class's seat notes of its loads.
-abbrev pub EndsOne : Bool → PartView → PartView → Type 0
-EndsOne true before after = (chunk : ℕ) × EndsAt chunk before.book after.book
-EndsOne false before after = OnlyReads before after
+-- One item ended, which is that of this chunk, and the others stay in their lists, in their order.
+pub record EndsItem (before after : PartView) : Type 0 where
+  pub chunk : ℕ
+  pub ends : EndsAt chunk before.book after.book
+  pub lists : SameSegments (all_without chunk before.book.lists) after.book.lists
 
--- Lists and the index of a shelf's part may have changed, and what is counted of them; all else stays.
-abbrev pub with_part : ShelfView → ShelfView → ShelfView
-with_part after before = record before {
-  part = record before.part {
-    book = after.part.book;
-    flow = after.part.flow;
-    evictions = after.part.evictions;
-    index = after.part.index;
-  };
-}
+-- so it is, or none ended and nothing changed but what the class's seat notes of its loads
+abbrev pub EndsOne : Bool → PartView → PartView → Type 0
+EndsOne true before after = EndsItem before after
+EndsOne false before after = OnlyReads before after

@@ -28,6 +28,6 @@ no_state = record {
     items = 0;
   };
   lanes = [];
-  limits = record { hot = 0; warm = 0; most = 0 };
+  limits = record { bounds = record { hot = 0; warm = 0; hot_age = None; warm_age = None }; most = 0 };
   puts = 0;
 }

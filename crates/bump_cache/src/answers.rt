@@ -20,7 +20,8 @@ pub struct Put<K, V> {
     pub evicted: Option<Entry<K, V>>,
 }
 
-/// A put was refused: each chunk that has no item is held by a reader, or by a bump that waits.
+/// A put was refused: each chunk that has no item is held by a reader, or by a bump that waits, or has had its last
+/// generation, and is used no more.
 #[derive(Clone, Copy, Debug, PartialEq, Eq, Drop)]
 pub struct NoRoom<K, V> {
     /// What was evicted to make room, if something was.

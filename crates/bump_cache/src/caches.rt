@@ -4,9 +4,10 @@ ghost use Rattle.bump_steps.specs.Views.{last_word};
 ghost use Rattle.cache_part.specs.Parts.{IsUnknown};
 ghost use Rattle.cache_part.specs.Stats.{stats_of};
 ghost use Rattle.cache_shelf.specs.Entries.{AllKept, Keeps, OthersKept};
+ghost use Rattle.cache_shelf.specs.Shelves.{with_ended, with_put};
 ghost use Rattle.cache_shelf.specs.Turns.{OnlyMoves, TendsShelf};
 ghost use Rattle.call_log.specs.Calls.{MakesOne, OnlyLooks, from_of, to_of};
-ghost use Rattle.bump_cache.specs.Putting.{EndsOne, HadValue, PutsRow, RefusesRow, WasEvicted, evicted_key, with_part};
+ghost use Rattle.bump_cache.specs.Putting.{EndsOne, HadValue, PutsRow, RefusesRow, WasEvicted, evicted_key};
 ghost use Rattle.bump_cache.specs.Tending.{TendsTimes};
 
 use crate::answers::{NoRoom, Put};
@@ -37,8 +38,9 @@ impl<N: Name + LogName, K: Packed, V: Packed> Cache<N, K, V> {
     /// the configuration says are there, one is evicted: of COLD's last ones those go to WARM that were in use since they
     /// came there, at most 8; and then COLD's last one ends, or WARM's where COLD is empty, or HOT's. What the key had
     /// before ends behind the new item's beginning, so a reader finds the one or the other. It is refused, as `NoRoom`,
-    /// exactly where each chunk without an item is held by a reader or a bump that waits; the key keeps what it had.
-    /// Each eighth put looks at the ends of HOT and WARM, as a tend does.
+    /// exactly where each chunk without an item is held by a reader or a bump that waits, or has had its last generation;
+    /// the key keeps what it had. Each eighth put balances HOT and WARM as a tend does, in eight rounds at
+    /// most.
     pub fn put<W: Wait>(
         &self,
         rt: &W,
@@ -64,10 +66,7 @@ impl<N: Name + LogName, K: Packed, V: Packed> Cache<N, K, V> {
             (to_of me.new).part) }
         ensures refuses { IfErr result (λ why. RefusesRow (K.as_words key.now) now (is_some why.evicted)
             (from_of me.new) (to_of me.new)) }
-        ensures same { to_of me.new ≡ record (with_part (to_of me.new) (from_of me.new)) {
-          lanes = (to_of me.new).lanes;
-          puts = (to_of me.new).puts;
-        } }
+        ensures same { to_of me.new ≡ with_put (to_of me.new) (from_of me.new) }
     {
         let mut guard = self.pairs.lock(rt);
         let logged = &mut *guard;
@@ -77,7 +76,7 @@ impl<N: Name + LogName, K: Packed, V: Packed> Cache<N, K, V> {
     }
 
     /// Ends the item of the key, and tells its value, as memcached's `delete`; or None exactly where nothing is under the
-    /// key. It waits until no other thread changes the cache.
+    /// key. The other items keep their order, and none counts as evicted. It waits until no other thread changes the cache.
     pub fn remove<W: Wait>(&self, rt: &W, me: &mut Caller<N, CacheState>, key: &K) -> Option<V>
         requires part { 0 < me.old.parts }
         ensures call { MakesOne me.old me.new }
@@ -85,7 +84,7 @@ impl<N: Name + LogName, K: Packed, V: Packed> Cache<N, K, V> {
         ensures gone { IsUnknown (K.as_words key.now) (to_of me.new).part }
         ensures others { OthersKept (K.as_words key.now) None (from_of me.new).part (to_of me.new).part }
         ensures ends { EndsOne (is_some result) (from_of me.new).part (to_of me.new).part }
-        ensures same { to_of me.new ≡ with_part (to_of me.new) (from_of me.new) }
+        ensures same { to_of me.new ≡ with_ended (to_of me.new) (from_of me.new) }
     {
         let mut guard = self.pairs.lock(rt);
         let logged = &mut *guard;
@@ -95,9 +94,12 @@ impl<N: Name + LogName, K: Packed, V: Packed> Cache<N, K, V> {
     }
 
     /// What memcached's maintainer does: it applies the bumps that the readers queued, at most a ring's room of each;
-    /// frees the chunks of ended items that nobody holds any more; and looks a hundred times at the ends of HOT and WARM,
-    /// and moves their last items on where there are too many. It waits until no other thread changes the cache. `now` is
-    /// the time of the bumped items, in the caller's ticks. The same keys have the same values.
+    /// frees the chunks of ended items that nobody holds any more; and balances HOT and WARM: it looks at the last item of
+    /// each in turn, until none of them is to go on, at most a hundred times. One that is ACTIVE loses that and goes to the
+    /// front of WARM; another goes to COLD where its list has more than its share, or where it was used longer ago than so
+    /// many percent of COLD's age, as the configuration says. It waits until no other thread changes the cache. `now` is
+    /// the time of the bumped items, and that by which ages are told, in the caller's ticks. The same keys have the same
+    /// values.
     pub fn tend<W: Wait>(&self, rt: &W, me: &mut Caller<N, CacheState>, now: u64)
         requires part { 0 < me.old.parts }
         ensures call { MakesOne me.old me.new }
@@ -133,15 +135,15 @@ impl<N: Name + LogName, K: Packed, V: Packed> Cache<N, K, V> {
         }
     }
 
-    /// Ends each item, as memcached's `flush_all`. It waits until no other thread changes the cache, and looks at each
-    /// chunk once: its time is in proportion to the items that the cache has room for.
+    /// Ends each item, as memcached's `flush_all`; none counts as evicted. It waits until no other thread changes the
+    /// cache, and looks at each chunk once: its time is in proportion to the items that the cache has room for.
     pub fn clear<W: Wait>(&self, rt: &W, me: &mut Caller<N, CacheState>)
         requires part { 0 < me.old.parts }
         ensures call { MakesOne me.old me.new }
         ensures empty { (key : List ℕ) → IsUnknown key (to_of me.new).part }
         ensures words { (i c : ℕ) → last_word i (to_of me.new).part.book.part c
             ≡ last_word i (from_of me.new).part.book.part c }
-        ensures same { to_of me.new ≡ with_part (to_of me.new) (from_of me.new) }
+        ensures same { to_of me.new ≡ with_ended (to_of me.new) (from_of me.new) }
     {
         let mut guard = self.pairs.lock(rt);
         let logged = &mut *guard;

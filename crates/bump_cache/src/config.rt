@@ -1,8 +1,9 @@
 //! What a cache is made from.
-ghost use Rattle.std.specs.Prelude.{◌≡◌, ◌≤◌, IfOk, None};
-ghost use Rattle.bump_cache.specs.Configs.{first_cache_fault, share_of, spare_of, IsStoreOf};
+ghost use Rattle.std.specs.Prelude.{◌≡◌, ◌≤◌, IfOk, None, Some};
+ghost use Rattle.bump_cache.specs.Configs.{IsStoreOf, bounds_of, first_cache_fault, share_of, spare_of};
 
 use bump_rules::{CACHE_REFS, ClassConfig, Classes, Config, MAX_CAPACITY, MAX_CHUNKS};
+use cache_shelf::Bounds;
 use keyed_hash::Seed;
 use std::alloc::{AllocError, Global};
 use thiserror::Error;
@@ -59,6 +60,13 @@ pub struct CacheConfig {
     /// At most so many percent of them are in WARM. memcached has 40.
     pub warm: u32,
 
+    /// HOT's last item goes to COLD also where it was used longer ago than so many percent of COLD's age, which is how long
+    /// ago COLD's last item was used. memcached has 20 (`hot_max_factor` 0.2). Without a percentage ages don't count.
+    pub hot_age: Option<u32>,
+
+    /// And WARM's where it was used longer ago than so many percent of it. memcached has 200 (`warm_max_factor` 2.0).
+    pub warm_age: Option<u32>,
+
     /// So many readers there are, 1 to 64: a thread that gets has one.
     pub readers: u32,
 
@@ -80,14 +88,17 @@ fn share(items: u32, percent: u32) -> u32
 
 impl CacheConfig {
     /// That of a cache of so many items, 1 to 1,000,000, and so many readers, 1 to 64, as memcached has it: at most 20
-    /// percent of the items are in HOT and 40 in WARM, and a reader's ring has room for 8,192 bumps
-    /// (`LRU_BUMP_BUF_SIZE`). There is a spare chunk for each 64 items and one for each reader, as far as there may be.
+    /// percent of the items are in HOT and 40 in WARM, their last ones are used no longer ago than 20 and 200 percent of
+    /// COLD's age, and a reader's ring has room for 8,192 bumps (`LRU_BUMP_BUF_SIZE`). There is a spare chunk for each 64
+    /// items and one for each reader, as far as there may be.
     pub fn new(items: u32, readers: u32, seed: Seed) -> CacheConfig
         ensures { result ≡ record {
           items = items;
           spare = spare_of items readers;
           hot = 20;
           warm = 40;
+          hot_age = Some 20;
+          warm_age = Some 200;
           readers = readers;
           ring = 8192;
           seed = seed;
@@ -100,6 +111,8 @@ impl CacheConfig {
                 .min(MAX_CHUNKS.saturating_sub(items)),
             hot: 20,
             warm: 40,
+            hot_age: Some(20),
+            warm_age: Some(200),
             readers,
             ring: 8_192,
             seed,
@@ -140,6 +153,18 @@ impl CacheConfig {
         ensures { result ≡ share_of self.now.items self.now.warm }
     {
         share(self.items, self.warm)
+    }
+
+    /// What keeps HOT and WARM short: their shares of the items, and the ages of their last ones.
+    pub fn bounds(&self) -> Bounds
+        ensures { result ≡ bounds_of self.now }
+    {
+        Bounds {
+            hot: self.hot_items(),
+            warm: self.warm_items(),
+            hot_age: self.hot_age,
+            warm_age: self.warm_age,
+        }
     }
 
     /// The configuration of the store that a cache of this configuration is made over: one class, whose lists have no

@@ -99,8 +99,7 @@ fn limits(config: &CacheConfig) -> Limits
     ensures { result ≡ limits_of config.now }
 {
     Limits {
-        hot: config.hot_items(),
-        warm: config.warm_items(),
+        bounds: config.bounds(),
         most: config.ring,
     }
 }

@@ -4,8 +4,9 @@ ghost use Rattle.bump_steps.specs.Views.{last_word};
 ghost use Rattle.cache_part.specs.Parts.{IsUnknown};
 ghost use Rattle.cache_part.specs.Stats.{stats_of};
 ghost use Rattle.cache_shelf.specs.Entries.{AllKept, Keeps, OthersKept};
+ghost use Rattle.cache_shelf.specs.Shelves.{with_ended, with_put};
 ghost use Rattle.cache_shelf.specs.Turns.{OnlyMoves, TendsShelf};
-ghost use Rattle.bump_cache.specs.Putting.{EndsOne, HadValue, PutsRow, RefusesRow, WasEvicted, evicted_key, with_part};
+ghost use Rattle.bump_cache.specs.Putting.{EndsOne, HadValue, PutsRow, RefusesRow, WasEvicted, evicted_key};
 
 use crate::answers::{Entry, NoRoom, Put};
 use crate::law::PairLaw;
@@ -121,7 +122,7 @@ fn put_row<N: Name, K: Packed, V: Packed>(
     ensures stay { IfErr result (λ why. AllKept (evicted_key K.as_words why.evicted) shelf.old.part shelf.new.part) }
     ensures refuses { IfErr result (λ why. RefusesRow (K.as_words _key.now) now (is_some why.evicted) shelf.old
         shelf.new) }
-    ensures same { shelf.new ≡ record (with_part shelf.new shelf.old) { lanes = shelf.new.lanes; puts = shelf.new.puts } }
+    ensures same { shelf.new ≡ with_put shelf.new shelf.old }
     ensures lengths { (length had.new ≡ length had.old) × (length evicted.new ≡ length evicted.old) }
 {
     let did = match shelf.put(row, had, evicted, now) {
@@ -155,7 +156,7 @@ fn remove_key<N: Name, K: Packed, V: Packed>(
     ensures gone { IsUnknown (K.as_words _key.now) shelf.new.part }
     ensures others { OthersKept (K.as_words _key.now) None shelf.old.part shelf.new.part }
     ensures ends { EndsOne (is_some result) shelf.old.part shelf.new.part }
-    ensures same { shelf.new ≡ with_part shelf.new shelf.old }
+    ensures same { shelf.new ≡ with_ended shelf.new shelf.old }
     ensures length { length had.new ≡ length had.old }
 {
     let chunk = shelf.remove(words, had);
@@ -200,7 +201,7 @@ impl<N: Name, K: Packed, V: Packed> Pairs<N, K, V> {
         ensures stay { IfErr result (λ why. AllKept (evicted_key K.as_words why.evicted) self.old.part self.new.part) }
         ensures refuses { IfErr result (λ why. RefusesRow (K.as_words key.now) now (is_some why.evicted) self.old
             self.new) }
-        ensures same { self.new ≡ record (with_part self.new self.old) { lanes = self.new.lanes; puts = self.new.puts } }
+        ensures same { self.new ≡ with_put self.new self.old }
     {
         pack_row(key, value, &mut self.row);
         put_row(
@@ -220,7 +221,7 @@ impl<N: Name, K: Packed, V: Packed> Pairs<N, K, V> {
         ensures gone { IsUnknown (K.as_words key.now) self.new.part }
         ensures others { OthersKept (K.as_words key.now) None self.old.part self.new.part }
         ensures ends { EndsOne (is_some result) self.old.part self.new.part }
-        ensures same { self.new ≡ with_part self.new self.old }
+        ensures same { self.new ≡ with_ended self.new self.old }
     {
         key.pack(&mut self.key);
         remove_key(&mut self.shelf, key, &self.key, &mut self.had)
@@ -240,7 +241,7 @@ impl<N: Name, K: Packed, V: Packed> Pairs<N, K, V> {
     pub(crate) fn clear(&mut self)
         ensures empty { (key : List ℕ) → IsUnknown key self.new.part }
         ensures words { (i c : ℕ) → last_word i self.new.part.book.part c ≡ last_word i self.old.part.book.part c }
-        ensures same { self.new ≡ with_part self.new self.old }
+        ensures same { self.new ≡ with_ended self.new self.old }
     {
         self.shelf.clear();
     }

@@ -2,17 +2,17 @@
 ghost use Rattle.std.specs.Prelude.{◌≡◌, ◌+◌, ◌≤◌, true, false, length, IfSome, IfNone};
 ghost use Rattle.bump_rules.specs.declared.hands.Hand.TheVariants as hand;
 ghost use Rattle.bump_rules.specs.Rings.{IsAccounts};
-ghost use Rattle.cache_readers.specs.Helds.{IsSame, hold_of, key_words_of, reader_of};
 ghost use Rattle.cache_readers.specs.Looks.{Finds, FindsNothing, HasWords, Hits, Peeks, Sees};
-ghost use Rattle.cache_readers.specs.Readers.{one_more};
+ghost use Rattle.cache_readers.specs.Readers.{Misses, one_more};
 ghost use Rattle.bump_cache.specs.Opening.{most_words};
 ghost use Rattle.bump_cache.specs.Pairs.{IsPair};
 ghost use Rattle.bump_cache.specs.Readers.{dropped_of};
 
+use crate::held::{HeldItem, PairHold};
 use crate::law::{MOST_WORDS, PairLaw};
 use bump_heads::Name;
 use bump_rules::Accounts;
-use cache_readers::{HeldItem, WordReader};
+use cache_readers::WordReader;
 use keyed_hash::Seed;
 use packed_words::Packed;
 use std::marker::{Model, PhantomData};
@@ -73,28 +73,31 @@ fn get_by<N: Name, K: Packed, V: Packed>(
 
 // Gets an item by a reader of words and holds it, with room for the words of the key.
 #[inline(always)]
-fn held_by<'a, N: Name, K: Packed, V: Packed>(
-    reader: &'a mut WordReader<N, PairLaw<K, V>>,
+fn hold_by<N: Name, K: Packed, V: Packed>(
+    reader: &mut WordReader<N, PairLaw<K, V>>,
     seed: Seed,
     key: &K,
     words: &mut [u64],
     now: u64,
-) -> Option<HeldItem<'a, N, PairLaw<K, V>>>
+) -> Option<PairHold<N, K, V>>
     requires few { K.width + V.width ≤ N.table.slots }
+    requires most { K.width + V.width ≤ most_words }
     requires words { length words.old ≡ K.width }
-    ensures found { IfSome result (λ held. Hits (IsPair K.fits K.as_words V.fits V.as_words) reader.old.config
-        (K.as_words key.now) now reader.old.worker (reader_of held).worker (hold_of held)) }
-    ensures counted { IfSome result (λ held. reader_of held ≡ record reader.old {
-      worker = (reader_of held).worker;
+    ensures found { IfSome result (λ hold. Hits (IsPair K.fits K.as_words V.fits V.as_words) reader.old.config
+        (K.as_words key.now) now reader.old.worker reader.new.worker hold) }
+    ensures counted { IfSome result (λ hold. reader.new ≡ record reader.old {
+      worker = reader.new.worker;
       hits = one_more reader.old.hits;
     }) }
-    ensures value { IfSome result (λ held. (v : V) × V.fits v × HasWords (V.as_words v) (key_words_of held)
-        (hold_of held).row) }
-    ensures key_words { IfSome result (λ held. key_words_of held ≡ K.width) }
-    ensures ring { IfSome result (λ held. (reader_of held).worker.sender.ring ≡ reader.old.worker.sender.ring) }
+    ensures value { IfSome result (λ hold. (v : V) × V.fits v × HasWords (V.as_words v) K.width hold.row) }
+    ensures missed { IfNone result (Misses (K.as_words key.now) reader.old reader.new) }
+    ensures ring { reader.new.worker.sender.ring ≡ reader.old.worker.sender.ring }
 {
     key.pack(words);
-    reader.get_with(seed.hash(words), words, now)
+    let Some(hold) = reader.hold(seed.hash(words), words, now) else {
+        return None;
+    };
+    Some(PairHold::new(hold))
 }
 
 // Peeks at a value by a reader of words, in the same way.
@@ -124,6 +127,9 @@ fn peek_by<N: Name, K: Packed, V: Packed>(
 }
 
 impl<N: Name, K: Packed, V: Packed> CacheReader<N, K, V> {
+    ghost use Rattle.std.specs.Borrow.{sem};
+    ghost use Rattle.bump_cache.specs.Held.{EndsIfNone, hold_of, loan_of, reader_of};
+
     /// A reader by one of words.
     pub(crate) fn new(reader: WordReader<N, PairLaw<K, V>>, seed: Seed) -> CacheReader<N, K, V>
         requires few { K.width + V.width ≤ N.table.slots }
@@ -135,6 +141,14 @@ impl<N: Name, K: Packed, V: Packed> CacheReader<N, K, V> {
             seed,
             of: PhantomData,
         }
+    }
+
+    // The reader of words by which it reads.
+    #[inline(always)]
+    pub(crate) fn words(&self) -> &WordReader<N, PairLaw<K, V>>
+        ensures { result.now ≡ self.now }
+    {
+        &self.reader
     }
 
     /// What was put under the key, as memcached's `get`; or None where nothing was found. `now` is the time that a touch
@@ -171,46 +185,33 @@ impl<N: Name, K: Packed, V: Packed> CacheReader<N, K, V> {
         get_by(&mut self.reader, seed, key, words, value, now)
     }
 
-    /// What was put under the key, as `get` finds it, but the item is handed out, held, in place of its value: its words
-    /// are read by `HeldItem::word` and `HeldItem::read`, and its value by `CacheReader::value_of`, and stay as they are
-    /// whatever is put, removed or evicted meanwhile. It touches and counts as `get` does. While there is such an item its
-    /// chunk isn't free, and the reader does nothing else; when it is dropped the hold is given back.
+    /// What was put under the key, as `get` finds it, but the item is handed out, held, in place of its value; or None
+    /// where nothing was found. Its value is read by `HeldItem::value`, and its words by `HeldItem::word` and
+    /// `HeldItem::read`; they stay as they are whatever is put, removed or evicted meanwhile. It touches and counts as
+    /// `get` does. While there is such an item its chunk isn't free, and the reader does nothing else; when it is dropped
+    /// the hold is given back.
     #[inline(always)]
-    pub fn get_with(&mut self, key: &K, now: u64) -> Option<HeldItem<'_, N, PairLaw<K, V>>>
+    pub fn get_with(&mut self, key: &K, now: u64) -> Option<HeldItem<'_, N, K, V>>
+        ensures* missed { sem 𝓛 (EndsIfNone N.row K.row V.row N.Name K.Packed V.Packed self.entry result
+            (Misses (K.as_words key.now) self.old)) }
+        ensures loan { IfSome result (λ held. loan_of held ≡ self.entry.ghost_name) }
         ensures found { IfSome result (λ held. Hits (IsPair K.fits K.as_words V.fits V.as_words) self.old.config
             (K.as_words key.now) now self.old.worker (reader_of held).worker (hold_of held)) }
         ensures counted { IfSome result (λ held. reader_of held ≡ record self.old {
           worker = (reader_of held).worker;
           hits = one_more self.old.hits;
         }) }
-        ensures value { IfSome result (λ held. (v : V) × V.fits v × HasWords (V.as_words v) (key_words_of held)
+        ensures value { IfSome result (λ held. (v : V) × V.fits v × HasWords (V.as_words v) K.width
             (hold_of held).row) }
-        ensures key_words { IfSome result (λ held. key_words_of held ≡ K.width) }
         ensures ring { IfSome result (λ held. (reader_of held).worker.sender.ring ≡ self.old.worker.sender.ring) }
-        ensures few { K.width + V.width ≤ N.table.slots }
-        ensures most { K.width + V.width ≤ most_words }
     {
         let seed = self.seed;
         let mut key_row = [0; MOST_WORDS];
         let words = &mut key_row[..K::words()];
-        held_by(&mut self.reader, seed, key, words, now)
-    }
-
-    /// The value of an item that `get_with` handed out. Nothing changes.
-    #[inline(always)]
-    pub fn value_of(held: &mut HeldItem<'_, N, PairLaw<K, V>>) -> V
-        requires few { key_words_of held.old + V.width ≤ N.table.slots }
-        requires most { V.width ≤ most_words }
-        requires value { (v : V) × V.fits v × HasWords (V.as_words v) (key_words_of held.old) (hold_of held.old).row }
-        ensures is { (v : V) → V.fits v → HasWords (V.as_words v) (key_words_of held.old) (hold_of held.old).row
-            → result ≡ v }
-        ensures fits { V.fits result }
-        ensures same { IsSame held.old held.new }
-    {
-        let mut row = [0; MOST_WORDS];
-        let words = &mut row[..V::words()];
-        held.read(words);
-        V::unpack(words)
+        let Some(hold) = hold_by(&mut self.reader, seed, key, words, now) else {
+            return None;
+        };
+        Some(HeldItem::new(self, hold))
     }
 
     /// What was put under the key, as `get` finds it, but without a touch, and without being counted: so the item may be

@@ -116,8 +116,8 @@ fn with_reading<'a>(alloc: Global, command: Command<'a>) -> Result<Command<'a>, 
         .arg(strict)
 }
 
-// What says how a cache is kept.
-fn with_keeping<'a>(alloc: Global, command: Command<'a>) -> Result<Command<'a>, AllocError> {
+// What says how many items there are.
+fn with_sizes<'a>(alloc: Global, command: Command<'a>) -> Result<Command<'a>, AllocError> {
     let items = Arg::new(alloc, "items")
         .long("items")
         .value_name("N")
@@ -137,33 +137,60 @@ fn with_keeping<'a>(alloc: Global, command: Command<'a>) -> Result<Command<'a>, 
         .value_name("CHUNKS")
         .value_parser(value_parser!(u32))
         .help("Chunks beside those of the items [default: one for each 64 items and each reader]");
+    command.arg(items)?.arg(spare)?.arg(classes)
+}
+
+// What says how HOT and WARM are kept short.
+fn with_shares<'a>(alloc: Global, command: Command<'a>) -> Result<Command<'a>, AllocError> {
+    let hot = number_arg(alloc, "hot", "PERCENT", "20", "The share of HOT");
+    let warm = number_arg(alloc, "warm", "PERCENT", "40", "The share of WARM");
+    let hot_age = number_arg(
+        alloc,
+        "hot-age",
+        "PERCENT",
+        "20",
+        "How old HOT's last item may be, of COLD's age",
+    );
+    let warm_age = number_arg(
+        alloc,
+        "warm-age",
+        "PERCENT",
+        "200",
+        "How old WARM's last item may be, of COLD's age",
+    );
+    let no_ages = flag_arg(alloc, "no-ages", "Ages don't count");
     command
-        .arg(items)?
-        .arg(spare)?
-        .arg(classes)?
-        .arg(number_arg(alloc, "hot", "PERCENT", "20", "The share of HOT"))?
-        .arg(number_arg(alloc, "warm", "PERCENT", "40", "The share of WARM"))?
-        .arg(number_arg(
-            alloc,
-            "workers",
-            "WORKERS",
-            "1",
-            "Readers that get in turn, 1 to 64",
-        ))?
-        .arg(number_arg(
-            alloc,
-            "ring",
-            "BUMPS",
-            "64",
-            "The room of a reader's ring, 1 to 65536",
-        ))?
-        .arg(number_arg(
-            alloc,
-            "drain-every",
-            "ACCESSES",
-            "64",
-            "After so many accesses the cache is tended",
-        ))
+        .arg(hot)?
+        .arg(warm)?
+        .arg(hot_age)?
+        .arg(warm_age)?
+        .arg(no_ages)
+}
+
+// What says who gets, and how often the cache is tended.
+fn with_readers<'a>(alloc: Global, command: Command<'a>) -> Result<Command<'a>, AllocError> {
+    let workers = number_arg(
+        alloc,
+        "workers",
+        "WORKERS",
+        "1",
+        "Readers that get in turn, 1 to 64",
+    );
+    let ring = number_arg(
+        alloc,
+        "ring",
+        "BUMPS",
+        "64",
+        "The room of a reader's ring, 1 to 65536",
+    );
+    let every = number_arg(
+        alloc,
+        "drain-every",
+        "ACCESSES",
+        "64",
+        "After so many accesses the cache is tended",
+    );
+    command.arg(workers)?.arg(ring)?.arg(every)
 }
 
 // What says what is told.
@@ -196,8 +223,10 @@ fn command<'a>(alloc: Global) -> Result<Command<'a>, AllocError> {
         "Runs an access log through caches, whose hashes have the same seed each time",
     );
     let reading = with_reading(alloc, bare)?;
-    let keeping = with_keeping(alloc, reading)?;
-    with_telling(alloc, keeping)
+    let sizes = with_sizes(alloc, reading)?;
+    let shares = with_shares(alloc, sizes)?;
+    let readers = with_readers(alloc, shares)?;
+    with_telling(alloc, readers)
 }
 
 fn number_of(matches: &ArgMatches<'_>, name: &str) -> u32 {
@@ -223,6 +252,15 @@ fn format_of(matches: &ArgMatches<'_>) -> Format {
     }
 }
 
+// So many percent of COLD's age, where ages count.
+fn age_of(matches: &ArgMatches<'_>, name: &str) -> Option<u32> {
+    if matches.get_flag("no-ages") {
+        None
+    } else {
+        Some(number_of(matches, name))
+    }
+}
+
 fn plan_of(matches: &ArgMatches<'_>) -> Plan {
     Plan {
         config: CacheConfig {
@@ -230,6 +268,8 @@ fn plan_of(matches: &ArgMatches<'_>) -> Plan {
             spare: 0,
             hot: number_of(matches, "hot"),
             warm: number_of(matches, "warm"),
+            hot_age: age_of(matches, "hot-age"),
+            warm_age: age_of(matches, "warm-age"),
             readers: number_of(matches, "workers"),
             ring: number_of(matches, "ring"),
             seed: SEED,

@@ -7,6 +7,7 @@ use Rattle.bump_rules.specs.declared.history.Change.TheVariants as change
 use Rattle.bump_rules.specs.declared.commands.Pulled.{Pulled}
 use Rattle.bump_rules.specs.declared.items.Head.{Head}
 use Rattle.bump_rules.specs.declared.items.ItemId.{ItemId}
+use Rattle.bump_rules.specs.declared.places.Limits.{Limits}
 use Rattle.bump_rules.specs.declared.places.Place.{Place}
 use Rattle.bump_rules.specs.declared.places.Place.TheVariants.{Hot, Warm, Cold, Temp, Dying, Unused, Retired}
 use Rattle.bump_rules.specs.declared.places.Segment.{Segment}
@@ -27,7 +28,7 @@ use Rattle.bump_steps.specs.Views.{owns, standing}
 use Rattle.bump_class.specs.Books.{BookView}
 use Rattle.bump_class.specs.Changes.{book_after_unlink, book_after_clear_active, book_after_load}
 use Rattle.bump_class.specs.Ends.{EndsItem, Unlinks}
-use Rattle.bump_class.specs.Pulls.{PullsAt, MovesItem, book_after_pull_to}
+use Rattle.bump_class.specs.Pulls.{PullsAt, PullsAtBy, MovesItemBy, book_after_pull_to}
 use Rattle.bump_class.specs.Sweeps.{SweepsThese}
 use Rattle.cache_lists.specs.Items.{victim, or_else}
 use Rattle.cache_lists.specs.Linked.{linked_at}
@@ -159,10 +160,10 @@ pub seen_others : (lists : Lists) (book seen : BookView) (c : ℕ) (head : Head)
 seen_others lists book seen c head is same = subst (λ (b : BookView). SameSegments lists b.lists) (sym is) same
 
 -- a pull leaves all but its chunk in place
-pub moves_others : (book left : BookView) (from : Tail) (chunk : ℕ) (answer : Pulled) (cleared moved : Head)
-    → MovesItem book from chunk answer left cleared moved
+pub moves_others : (limits : Limits) (book left : BookView) (from : Tail) (chunk : ℕ) (answer : Pulled) (cleared moved : Head)
+    → MovesItemBy limits book from chunk answer left cleared moved
     → SameSegments (all_without chunk book.lists) (all_without chunk left.lists)
-moves_others book left from chunk answer cleared moved moves =
+moves_others limits book left from chunk answer cleared moved moves =
     subst (λ (b : BookView). SameSegments (all_without chunk book.lists) (all_without chunk b.lists)) (sym moves.after)
     (by (pulled_to answer))
   where
@@ -175,14 +176,14 @@ moves_others book left from chunk answer cleared moved moves =
     by (Some to) place segment = list_at_without chunk place (to_front chunk (place_of to) book.lists)
         ∙ (front_without chunk (place_of to) place book.lists ∙ sym (list_at_without chunk place book.lists))
 
-pub pulls_others : (book left : BookView) (from : Tail) (answer : Pulled) → from ≢ tail.Evict → (at : Option ℕ)
-    → PullsAt book from at answer left
+pub pulls_others : (limits : Limits) (book left : BookView) (from : Tail) (answer : Pulled) → from ≢ tail.Evict → (at : Option ℕ)
+    → PullsAtBy limits book from at answer left
     → IfSome at (λ chunk. SameSegments (all_without chunk book.lists) (all_without chunk left.lists))
-pulls_others book left from answer ne None pulls = tt
-pulls_others book left tail.Hot answer ne (Some chunk) pulls = moves_others book left tail.Hot chunk answer pulls.0 pulls.1 pulls.2
-pulls_others book left tail.Warm answer ne (Some chunk) pulls = moves_others book left tail.Warm chunk answer pulls.0 pulls.1 pulls.2
-pulls_others book left tail.Cold answer ne (Some chunk) pulls = moves_others book left tail.Cold chunk answer pulls.0 pulls.1 pulls.2
-pulls_others book left tail.Evict answer ne (Some chunk) pulls = absurd (ne refl)
+pulls_others limits book left from answer ne None pulls = tt
+pulls_others limits book left tail.Hot answer ne (Some chunk) pulls = moves_others limits book left tail.Hot chunk answer pulls.0 pulls.1 pulls.2
+pulls_others limits book left tail.Warm answer ne (Some chunk) pulls = moves_others limits book left tail.Warm chunk answer pulls.0 pulls.1 pulls.2
+pulls_others limits book left tail.Cold answer ne (Some chunk) pulls = moves_others limits book left tail.Cold chunk answer pulls.0 pulls.1 pulls.2
+pulls_others limits book left tail.Evict answer ne (Some chunk) pulls = absurd (ne refl)
 
 -- by the item that a pull tells
 pub told_others : (book left : BookView) (at : Option ℕ) (told : Option ItemId) → told ≡ option_map (life_in book.part) at

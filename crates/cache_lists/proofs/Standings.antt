@@ -37,7 +37,7 @@ use Rattle.bump_steps.specs.declared.views.ClassPart.{ClassPart}
 use Rattle.bump_steps.specs.Applications.{life_in}
 use Rattle.bump_steps.specs.Views.{standing, owns, last_word}
 use Rattle.bump_class.specs.Books.{BookView}
-use Rattle.bump_class.specs.Pulls.{PullsAt, PullsItem, MovesItem, book_after_pull_to, limits_of_book}
+use Rattle.bump_class.specs.Pulls.{PullsAt, PullsAtBy, PullsItem, MovesItemBy, book_after_pull_to}
 use Rattle.bump_class.specs.Changes.{book_after_clear_active, book_after_unlink, book_after_load, book_with_words}
 use Rattle.bump_class.specs.Links.{linked_item, item_of, next_life}
 use Rattle.bump_class.specs.Sweeps.{SweepsThese}
@@ -118,10 +118,10 @@ stands_elsewhere class chunk q is no_segment =
     ∙ ap (λ b. if b then Some (standing class chunk).1 else None) no_segment
 
 -- a pull that moves an item keeps the items
-pub moves_keep : (book left : BookView) (from : Tail) (chunk : ℕ) (answer : Pulled) (cleared moved : Head)
-    → MovesItem book from chunk answer left cleared moved → (standing book.part chunk).0 ≡ place_of (segment_of from)
+pub moves_keep : (limits : Limits) (book left : BookView) (from : Tail) (chunk : ℕ) (answer : Pulled) (cleared moved : Head)
+    → MovesItemBy limits book from chunk answer left cleared moved → (standing book.part chunk).0 ≡ place_of (segment_of from)
     → KeepsItems book left
-moves_keep book left from chunk answer cleared moved moves is = subst (KeepsItems book) (sym moves.after) (by (pulled_to answer))
+moves_keep limits book left from chunk answer cleared moved moves is = subst (KeepsItems book) (sym moves.after) (by (pulled_to answer))
   where
     by : (to : Option Segment) → KeepsItems book (book_after_pull_to from chunk to moved (book_after_clear_active chunk cleared book))
     by None = record { class = record { first = refl; count = refl }; linked = λ c. refl; words = λ i c. refl }
@@ -133,17 +133,17 @@ moves_keep book left from chunk answer cleared moved moves is = subst (KeepsItem
     }
 
 -- a pull that isn't an evict keeps the items
-pub pulls_keep : (book left : BookView) (from : Tail) (answer : Pulled) → Stands book → from ≢ tail.Evict
-    → (at : Option ℕ) → at ≡ last_pulled from book.lists → PullsAt book from at answer left → KeepsItems book left
-pulls_keep book left from answer stands ne None is pulls =
+pub pulls_keep : (limits : Limits) (book left : BookView) (from : Tail) (answer : Pulled) → Stands book → from ≢ tail.Evict
+    → (at : Option ℕ) → at ≡ last_pulled from book.lists → PullsAtBy limits book from at answer left → KeepsItems book left
+pulls_keep limits book left from answer stands ne None is pulls =
     subst (KeepsItems book) (sym pulls.1) (record { class = record { first = refl; count = refl }; linked = λ c. refl; words = λ i c. refl })
-pulls_keep book left tail.Hot answer stands ne (Some chunk) is pulls = moves_keep book left tail.Hot chunk answer pulls.0 pulls.1 pulls.2
+pulls_keep limits book left tail.Hot answer stands ne (Some chunk) is pulls = moves_keep limits book left tail.Hot chunk answer pulls.0 pulls.1 pulls.2
     (listed_there book stands chunk Hot (last_there chunk book.lists.hot (sym is))).1
-pulls_keep book left tail.Warm answer stands ne (Some chunk) is pulls = moves_keep book left tail.Warm chunk answer pulls.0 pulls.1 pulls.2
+pulls_keep limits book left tail.Warm answer stands ne (Some chunk) is pulls = moves_keep limits book left tail.Warm chunk answer pulls.0 pulls.1 pulls.2
     (listed_there book stands chunk Warm (last_there chunk book.lists.warm (sym is))).1
-pulls_keep book left tail.Cold answer stands ne (Some chunk) is pulls = moves_keep book left tail.Cold chunk answer pulls.0 pulls.1 pulls.2
+pulls_keep limits book left tail.Cold answer stands ne (Some chunk) is pulls = moves_keep limits book left tail.Cold chunk answer pulls.0 pulls.1 pulls.2
     (listed_there book stands chunk Cold (last_there chunk book.lists.cold (sym is))).1
-pulls_keep book left tail.Evict answer stands ne (Some chunk) is pulls = absurd (ne refl)
+pulls_keep limits book left tail.Evict answer stands ne (Some chunk) is pulls = absurd (ne refl)
 
 -- the end of a life
 pub ends_at : (book left : BookView) (chunk : ℕ) (ended : Ended) (last behind : Head)
@@ -400,6 +400,16 @@ unlink_err book item refusal stands own is linked = by (is_segment_place (standi
         sym (ap (λ x. if x then Some (standing book.part item.chunk).1 else None) is_b) ∙ linked in
         absurd (cc none)
 
+-- where the life that a chunk has isn't linked, none is linked there
+pub unlinked_none : (book : BookView) (chunk generation : ℕ) → generation ≡ (standing book.part chunk).1
+    → linked_at book.part chunk ≢ Some generation → linked_at book.part chunk ≡ None
+unlinked_none book chunk generation is apart = by (is_segment_place (standing book.part chunk).0) refl
+  where
+    by : (b : Bool) → is_segment_place (standing book.part chunk).0 ≡ b → linked_at book.part chunk ≡ None
+    by true is_b =
+        absurd (apart (ap (λ x. if x then Some (standing book.part chunk).1 else None) is_b ∙ ap Some (sym is)))
+    by false is_b = ap (λ x. if x then Some (standing book.part chunk).1 else None) is_b
+
 -- what an unlink leaves, where it isn't refused
 pub unlinks_at : (book left : BookView) (item : ItemId) (ended : Ended) → owns item.chunk book.part ≡ true
     → linked_at book.part item.chunk ≡ Some item.generation → Unlinks book item (Ok ended) left → EndsAt item.chunk book left
@@ -450,27 +460,27 @@ tells_item tail.Evict head lists limits ended.Freed item = refl
 tells_item tail.Evict head lists limits ended.Deferred item = refl
 
 -- what a pull that isn't an evict tells
-pub pull_tells : (book left : BookView) (from : Tail) (answer : Pulled) → Stands book → from ≢ tail.Evict
-    → (at : Option ℕ) → at ≡ last_pulled from book.lists → PullsAt book from at answer left
+pub pull_tells : (limits : Limits) (book left : BookView) (from : Tail) (answer : Pulled) → Stands book → from ≢ tail.Evict
+    → (at : Option ℕ) → at ≡ last_pulled from book.lists → PullsAtBy limits book from at answer left
     → (item_told answer ≡ option_map (life_in book.part) at)
     × IfSome at (λ chunk. (owns chunk book.part ≡ true) × (linked_at book.part chunk ≡ Some (standing book.part chunk).1))
-pull_tells book left from answer stands ne None is pulls = (ap item_told pulls.0, tt)
-pull_tells book left tail.Hot answer stands ne (Some chunk) is pulls =
+pull_tells limits book left from answer stands ne None is pulls = (ap item_told pulls.0, tt)
+pull_tells limits book left tail.Hot answer stands ne (Some chunk) is pulls =
     let there = listed_there book stands chunk Hot (last_there chunk book.lists.hot (sym is)) in (
-      ap item_told (pulls.2.pulled ended.Freed) ∙ tells_item tail.Hot pulls.0 book.lists (limits_of_book book) ended.Freed (life_in book.part chunk),
+      ap item_told (pulls.2.pulled ended.Freed) ∙ tells_item tail.Hot pulls.0 book.lists limits ended.Freed (life_in book.part chunk),
       (there.0, stands_linked book.part chunk segment.Hot there.1),
     )
-pull_tells book left tail.Warm answer stands ne (Some chunk) is pulls =
+pull_tells limits book left tail.Warm answer stands ne (Some chunk) is pulls =
     let there = listed_there book stands chunk Warm (last_there chunk book.lists.warm (sym is)) in (
-      ap item_told (pulls.2.pulled ended.Freed) ∙ tells_item tail.Warm pulls.0 book.lists (limits_of_book book) ended.Freed (life_in book.part chunk),
+      ap item_told (pulls.2.pulled ended.Freed) ∙ tells_item tail.Warm pulls.0 book.lists limits ended.Freed (life_in book.part chunk),
       (there.0, stands_linked book.part chunk segment.Warm there.1),
     )
-pull_tells book left tail.Cold answer stands ne (Some chunk) is pulls =
+pull_tells limits book left tail.Cold answer stands ne (Some chunk) is pulls =
     let there = listed_there book stands chunk Cold (last_there chunk book.lists.cold (sym is)) in (
-      ap item_told (pulls.2.pulled ended.Freed) ∙ tells_item tail.Cold pulls.0 book.lists (limits_of_book book) ended.Freed (life_in book.part chunk),
+      ap item_told (pulls.2.pulled ended.Freed) ∙ tells_item tail.Cold pulls.0 book.lists limits ended.Freed (life_in book.part chunk),
       (there.0, stands_linked book.part chunk segment.Cold there.1),
     )
-pull_tells book left tail.Evict answer stands ne (Some chunk) is pulls = absurd (ne refl)
+pull_tells limits book left tail.Evict answer stands ne (Some chunk) is pulls = absurd (ne refl)
 
 -- the chunk of the item that a pull tells
 pub told_chunk : (class : ClassPart) (at : Option ℕ)
@@ -495,10 +505,10 @@ told_own book left (Some chunk) told e some keeps =
     subst (λ t. IfSome t (λ item. owns item.chunk left.part ≡ true)) (sym e) (owns_same book left keeps.class chunk ∙ some.0)
 
 -- where a pull tells no item, it changed nothing
-pub told_none : (book left : BookView) (from : Tail) (answer : Pulled) (at : Option ℕ) (told : Option ItemId)
-    → told ≡ option_map (life_in book.part) at → PullsAt book from at answer left → IfNone told (left ≡ book)
-told_none book left from answer None told e pulls = subst (λ t. IfNone t (left ≡ book)) (sym e) pulls.1
-told_none book left from answer (Some chunk) told e pulls = subst (λ t. IfNone t (left ≡ book)) (sym e) tt
+pub told_none : (limits : Limits) (book left : BookView) (from : Tail) (answer : Pulled) (at : Option ℕ) (told : Option ItemId)
+    → told ≡ option_map (life_in book.part) at → PullsAtBy limits book from at answer left → IfNone told (left ≡ book)
+told_none limits book left from answer None told e pulls = subst (λ t. IfNone t (left ≡ book)) (sym e) pulls.1
+told_none limits book left from answer (Some chunk) told e pulls = subst (λ t. IfNone t (left ≡ book)) (sym e) tt
 
 -- an item that began is linked
 pub begun_linked : (book left : BookView) (item : ItemId) → BeginsAt item book left → linked_at left.part item.chunk ≡ Some item.generation

@@ -44,7 +44,7 @@ use Rattle.bump_class.specs.Changes.{book_after_clear_active, book_after_unlink,
 use Rattle.bump_class.specs.Ends.{EndsItem, book_after_end, Unlinks}
 use Rattle.bump_class.specs.Lanes.{LaneView}
 use Rattle.bump_class.specs.Links.{linked_item, item_of, next_life}
-use Rattle.bump_class.specs.Pulls.{PullsAt, MovesItem, book_after_pull_to, limits_of_book}
+use Rattle.bump_class.specs.Pulls.{PullsAt, PullsAtBy, MovesItemBy, book_after_pull_to, limits_of_book}
 use Rattle.bump_class.specs.Sweeps.{SweepsThese}
 use Rattle.cache_lists.specs.Flows.{crosses, crossings_behind, crossings, Way, is_way, Flows, way_of_pull, way_of_applied, way_to}
 use Rattle.bump_rules.specs.Commands.{item_told}
@@ -246,16 +246,16 @@ may_told tail.Evict head lists limits ended.Freed item = refl
 may_told tail.Evict head lists limits ended.Deferred item = refl
 
 -- so each pull tells one of what it may tell
-pub pulls_told : (book left : BookView) (from : Tail) (answer : Pulled) (at : Option ℕ)
-    → PullsAt book from at answer left → may_tell from answer ≡ true
-pulls_told book left from answer None pulls = ap (may_tell from) pulls.0
-pulls_told book left tail.Hot answer (Some chunk) pulls = ap (may_tell tail.Hot) (pulls.2.pulled ended.Freed)
-    ∙ may_told tail.Hot pulls.0 book.lists (limits_of_book book) ended.Freed (life_in book.part chunk)
-pulls_told book left tail.Warm answer (Some chunk) pulls = ap (may_tell tail.Warm) (pulls.2.pulled ended.Freed)
-    ∙ may_told tail.Warm pulls.0 book.lists (limits_of_book book) ended.Freed (life_in book.part chunk)
-pulls_told book left tail.Cold answer (Some chunk) pulls = ap (may_tell tail.Cold) (pulls.2.pulled ended.Freed)
-    ∙ may_told tail.Cold pulls.0 book.lists (limits_of_book book) ended.Freed (life_in book.part chunk)
-pulls_told book left tail.Evict answer (Some chunk) pulls = ap (may_tell tail.Evict) pulls.3.pulled
+pub pulls_told : (limits : Limits) (book left : BookView) (from : Tail) (answer : Pulled) (at : Option ℕ)
+    → PullsAtBy limits book from at answer left → may_tell from answer ≡ true
+pulls_told limits book left from answer None pulls = ap (may_tell from) pulls.0
+pulls_told limits book left tail.Hot answer (Some chunk) pulls = ap (may_tell tail.Hot) (pulls.2.pulled ended.Freed)
+    ∙ may_told tail.Hot pulls.0 book.lists limits ended.Freed (life_in book.part chunk)
+pulls_told limits book left tail.Warm answer (Some chunk) pulls = ap (may_tell tail.Warm) (pulls.2.pulled ended.Freed)
+    ∙ may_told tail.Warm pulls.0 book.lists limits ended.Freed (life_in book.part chunk)
+pulls_told limits book left tail.Cold answer (Some chunk) pulls = ap (may_tell tail.Cold) (pulls.2.pulled ended.Freed)
+    ∙ may_told tail.Cold pulls.0 book.lists limits ended.Freed (life_in book.part chunk)
+pulls_told limits book left tail.Evict answer (Some chunk) pulls = ap (may_tell tail.Evict) pulls.3.pulled
     ∙ may_told tail.Evict pulls.1 book.lists (limits_of_book book) pulls.0 (life_in book.part chunk)
 
 -- the item of a pull that isn't an evict goes from its list to where it was moved, if it was
@@ -279,16 +279,16 @@ told_way tail.Cold (pulled.Deferred item) ne may = absurd (cc may)
 told_way tail.Evict (pulled.Deferred item) ne may = absurd (ne refl)
 
 -- so such a pull is this way
-moves_flow : (book left : BookView) (from : Tail) (chunk : ℕ) (answer : Pulled) (cleared moved : Head)
-    → from ≢ tail.Evict → MovesItem book from chunk answer left cleared moved
+moves_flow : (limits : Limits) (book left : BookView) (from : Tail) (chunk : ℕ) (answer : Pulled) (cleared moved : Head)
+    → from ≢ tail.Evict → MovesItemBy limits book from chunk answer left cleared moved
     → (standing book.part chunk).0 ≡ place_of (segment_of from) → Flows (way_of_pull from answer) book left
-moves_flow book left from chunk answer cleared moved ne moves stood =
+moves_flow limits book left from chunk answer cleared moved ne moves stood =
     subst (λ way. Flows way book left) (sym way)
     (subst (Flows (way_to (segment_of from) (pulled_to answer)) book) (sym moves.after) (by (pulled_to answer)))
   where
     way : way_of_pull from answer ≡ way_to (segment_of from) (pulled_to answer)
     way = told_way from answer ne (ap (may_tell from) (moves.pulled ended.Freed)
-        ∙ may_told from cleared book.lists (limits_of_book book) ended.Freed (life_in book.part chunk))
+        ∙ may_told from cleared book.lists limits ended.Freed (life_in book.part chunk))
 
     by : (to : Option Segment) → Flows (way_to (segment_of from) to) book
         (book_after_pull_to from chunk to moved (book_after_clear_active chunk cleared book))
@@ -299,21 +299,21 @@ moves_flow book left from chunk answer cleared moved ne moves stood =
         stood
 
 -- a pull is the way of its item, by its answer
-pub pulls_flow : (book left : BookView) (from : Tail) (answer : Pulled) → Stands book → (at : Option ℕ)
-    → at ≡ last_pulled from book.lists → PullsAt book from at answer left → Flows (way_of_pull from answer) book left
-pulls_flow book left from answer stands None is pulls =
+pub pulls_flow : (limits : Limits) (book left : BookView) (from : Tail) (answer : Pulled) → Stands book → (at : Option ℕ)
+    → at ≡ last_pulled from book.lists → PullsAtBy limits book from at answer left → Flows (way_of_pull from answer) book left
+pulls_flow limits book left from answer stands None is pulls =
     subst (λ a. Flows (way_of_pull from a) book left) (sym pulls.0)
     (still book left (ap (λ (b : BookView). b.part.fresh) pulls.1) (ap (λ (b : BookView). b.part.history) pulls.1))
-pulls_flow book left tail.Hot answer stands (Some chunk) is pulls =
-    moves_flow book left tail.Hot chunk answer pulls.0 pulls.1 (λ e. absurd (cc e)) pulls.2
+pulls_flow limits book left tail.Hot answer stands (Some chunk) is pulls =
+    moves_flow limits book left tail.Hot chunk answer pulls.0 pulls.1 (λ e. absurd (cc e)) pulls.2
     (listed_there book stands chunk Hot (last_there chunk book.lists.hot (sym is))).1
-pulls_flow book left tail.Warm answer stands (Some chunk) is pulls =
-    moves_flow book left tail.Warm chunk answer pulls.0 pulls.1 (λ e. absurd (cc e)) pulls.2
+pulls_flow limits book left tail.Warm answer stands (Some chunk) is pulls =
+    moves_flow limits book left tail.Warm chunk answer pulls.0 pulls.1 (λ e. absurd (cc e)) pulls.2
     (listed_there book stands chunk Warm (last_there chunk book.lists.warm (sym is))).1
-pulls_flow book left tail.Cold answer stands (Some chunk) is pulls =
-    moves_flow book left tail.Cold chunk answer pulls.0 pulls.1 (λ e. absurd (cc e)) pulls.2
+pulls_flow limits book left tail.Cold answer stands (Some chunk) is pulls =
+    moves_flow limits book left tail.Cold chunk answer pulls.0 pulls.1 (λ e. absurd (cc e)) pulls.2
     (listed_there book stands chunk Cold (last_there chunk book.lists.cold (sym is))).1
-pulls_flow book left tail.Evict answer stands (Some chunk) is pulls =
+pulls_flow limits book left tail.Evict answer stands (Some chunk) is pulls =
     subst (λ way. Flows way book left) (sym (ap (way_of_pull tail.Evict) pulls.3.pulled ∙ evicted pulls.0))
     (ends_flow book left chunk Cold pulls.0 pulls.1 pulls.2 pulls.3.ends pulls.3.cold)
   where
@@ -326,8 +326,8 @@ pub evicts_flow : (book left : BookView) (answer : Pulled) (item : ItemId) → S
     → PullsAt book tail.Evict (last_pulled tail.Evict book.lists) answer left → item_told answer ≡ Some item
     → Flows (Some (Cold, Dying)) book left
 evicts_flow book left answer item stands pulls told =
-    subst (λ way. Flows way book left) (by answer told (pulls_told book left tail.Evict answer _ pulls))
-    (pulls_flow book left tail.Evict answer stands _ refl pulls)
+    subst (λ way. Flows way book left) (by answer told (pulls_told (limits_of_book book) book left tail.Evict answer _ pulls))
+    (pulls_flow (limits_of_book book) book left tail.Evict answer stands _ refl pulls)
   where
     by : (a : Pulled) → item_told a ≡ Some item → may_tell tail.Evict a ≡ true
         → way_of_pull tail.Evict a ≡ Some (Cold, Dying)

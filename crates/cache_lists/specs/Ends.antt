@@ -1,7 +1,6 @@
 -- What the end of an item comes to.
-use Rattle.std.specs.Prelude.{◌≡◌, ◌≢◌, Option, None, Some, IfSome, IfNone}
+use Rattle.std.specs.Prelude.{◌≡◌, ℕ, Option, None, Some, IfSome, IfNone}
 use Rattle.bump_links.specs.Lists.{last_of}
-use Rattle.bump_rules.specs.declared.items.ItemId.{ItemId}
 use Rattle.bump_rules.specs.declared.places.Place.TheVariants.{Dying}
 use Rattle.bump_rules.specs.declared.places.Segment.{Segment}
 use Rattle.bump_rules.specs.Lists.{list_at, all_without}
@@ -15,14 +14,13 @@ use Rattle.cache_lists.specs.Linked.{linked_at}
 use Rattle.cache_lists.specs.Ours.{are_ours}
 use Rattle.cache_lists.specs.Segments.{SameSegments}
 
--- An item ended, where it was linked: the list is told in which it was, or None where it wasn't linked.
-pub record EndsLinked (id : ItemId) (from : Option Segment) (before after : BookView) : Type 0 where
-  -- it was linked, and is no more; no other item ended or was moved
-  pub linked : IfSome from (λ s. linked_at before.part id.chunk ≡ Some id.generation)
-  pub ends : IfSome from (λ s. EndsAt id.chunk before after)
-  pub others : IfSome from (λ s. SameSegments (all_without id.chunk before.lists) after.lists)
-  -- or it wasn't, and the linked items stay
-  pub not_linked : IfNone from (linked_at before.part id.chunk ≢ Some id.generation)
+-- The item of a chunk ended, where one was linked there: the list is told in which it was, or None where none was.
+pub record EndsLinked (chunk : ℕ) (from : Option Segment) (before after : BookView) : Type 0 where
+  -- one was linked, and is no more; no other item ended or was moved
+  pub ends : IfSome from (λ s. EndsAt chunk before after)
+  pub others : IfSome from (λ s. SameSegments (all_without chunk before.lists) after.lists)
+  -- or none was, and the linked items stay
+  pub not_linked : IfNone from (linked_at before.part chunk ≡ None)
   pub kept : IfNone from (KeepsItems before after)
 
 -- This item ended, and what is told of it is true.

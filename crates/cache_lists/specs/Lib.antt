@@ -4,7 +4,7 @@ pub mod Segments
 pub mod Flows
 pub mod Ours
 pub mod Counts
-pub mod Looking
+pub mod Ages
 pub mod Ends
 pub mod Draining
 pub mod Rescues

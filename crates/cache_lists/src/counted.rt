@@ -11,7 +11,6 @@ ghost use Rattle.bump_class.specs.Pulls.{Pulls};
 ghost use Rattle.bump_class.specs.Sweeps.{Sweeps};
 ghost use Rattle.bump_rules.specs.declared.items.Head.{Head as TheHead};
 ghost use Rattle.bump_rules.specs.declared.places.Start.TheVariants as start;
-ghost use Rattle.cache_lists.specs.Looking.{LooksOver};
 ghost use Rattle.bump_links.specs.Lists.{first_of};
 ghost use Rattle.bump_rules.specs.Commands.{item_told};
 ghost use Rattle.bump_rules.specs.Lists.{list_at, all_without};
@@ -39,7 +38,7 @@ use std::marker::Model;
 #[derive(Drop)]
 pub struct CountedBook<N: Name, L: RowLaw = AnyRow> {
     pub(crate) book: Book<N, L>,
-    flow: Flow,
+    pub(crate) flow: Flow,
     evictions: Evictions,
 }
 
@@ -161,14 +160,14 @@ impl<N: Name, L: RowLaw> CountedBook<N, L> {
         }
     }
 
-    /// Ends an item, where it is linked, and tells the list in which it was; or None exactly where it isn't linked, and
-    /// the linked items stay then. Its chunk is one of the class.
-    pub fn end(&mut self, id: ItemId) -> Option<Segment>
-        requires own { owns id.chunk self.old.book.part ≡ true }
-        ensures ends { EndsLinked id result self.old.book self.new.book }
+    /// Ends the item that is linked at a chunk of the class, and tells the list in which it was; or None exactly where
+    /// none is linked there, and the linked items stay then.
+    pub fn end(&mut self, chunk: u32) -> Option<Segment>
+        requires own { owns chunk self.old.book.part ≡ true }
+        ensures ends { EndsLinked chunk result self.old.book self.new.book }
         ensures evictions { self.new.evictions ≡ self.old.evictions }
     {
-        match items::end(&mut self.book, id) {
+        match items::end(&mut self.book, chunk) {
             Some(from) => {
                 self.flow.note_end(from);
                 Some(from)
@@ -223,18 +222,6 @@ impl<N: Name, L: RowLaw> CountedBook<N, L> {
         let pulled = items::look_at(&mut self.book, from);
         self.flow.note_move(from.segment(), pulled.to());
         pulled
-    }
-
-    /// The same where the list has more than `most` items; else nothing is changed.
-    pub fn look_over(&mut self, from: Tail, most: u32)
-        requires { from ≢ tail.Evict }
-        ensures looked { LooksOver from most self.old.book self.new.book }
-        ensures kept { KeepsItems self.old.book self.new.book }
-        ensures evictions { self.new.evictions ≡ self.old.evictions }
-    {
-        if self.size(from.segment().place()) > most {
-            self.look_at(from);
-        }
     }
 
     /// Looks at each chunk of an ended item once, frees those that nobody holds any more, and tells how many, as

@@ -1,5 +1,5 @@
 //! What is done with a Book's items.
-ghost use Rattle.std.specs.Prelude.{◌≡◌, ◌≢◌, ℕ, ◌+◌, ◌<◌, ◌≤◌, true, length, slice_index, IfSome, IfNone, option_map, None, Some};
+ghost use Rattle.std.specs.Prelude.{◌≡◌, ◌≢◌, ℕ, ◌+◌, ◌<◌, ◌≤◌, true, length, slice_index, IfSome, IfNone, option_map, None, Some, is_some};
 ghost use Rattle.bump_links.specs.Lists.{last_of, first_of};
 ghost use Rattle.bump_rules.specs.Commands.{item_told};
 ghost use Rattle.bump_rules.specs.Lists.{all_without};
@@ -18,15 +18,17 @@ ghost use Rattle.bump_class.specs.Books.{BookView as TheBookView};
 ghost use Rattle.bump_class.specs.Changes.{book_with_words};
 ghost use Rattle.bump_class.specs.Links.{MayHave};
 ghost use Rattle.bump_class.specs.Lanes.{entries, LaneView as TheLaneView};
-ghost use Rattle.bump_class.specs.Pulls.{Pulls};
+ghost use Rattle.bump_class.specs.Pulls.{Pulls, PullsBy, limits_of_call};
+ghost use Rattle.cache_lists.specs.Ages.{LooksPast};
 ghost use Rattle.bump_class.specs.Sweeps.{Sweeps};
 ghost use Rattle.bump_rules.specs.declared.items.Head.{Head as TheHead};
 ghost use Rattle.bump_rules.specs.declared.places.Start.TheVariants as start;
 ghost use Rattle.cache_lists.specs.Segments.{SameSegments};
 ghost use Rattle.cache_lists.specs.Flows.{Flows, way_of_pull, way_of_applied};
 ghost use Rattle.bump_rules.specs.declared.items.ItemId.{ItemId as TheItemId};
-ghost use Rattle.bump_rules.specs.Tables.{last_pulled};
+ghost use Rattle.bump_rules.specs.Tables.{last_pulled, pulled_to};
 
+use crate::ages::Bound;
 use crate::victims::Victim;
 use bump_class::{Book, RawLane};
 use bump_heads::Name;
@@ -51,6 +53,39 @@ pub(crate) fn look_at<N: Name, L: RowLaw>(book: &mut Book<N, L>, from: Tail) -> 
     book.pull(from)
 }
 
+// The last item of HOT, WARM or COLD is looked at, and moved by the tail table, by this limit in place of its list's.
+fn pull_past<N: Name, L: RowLaw>(book: &mut Book<N, L>, from: Tail, limit: u32) -> Pulled
+    requires { from ≢ tail.Evict }
+    ensures kept { KeepsItems book.old book.new }
+    ensures pulls { PullsBy (limits_of_call limit) book.old from result book.new }
+    ensures told { may_tell from result ≡ true }
+    ensures flows { Flows (way_of_pull from result) book.old book.new }
+{
+    book.promise();
+    book.pull_past(from, limit)
+}
+
+// The last item of HOT or WARM is looked at, by the limit that its list has for an item that was used when it was.
+pub(crate) fn look_past<N: Name, L: RowLaw>(
+    book: &mut Book<N, L>,
+    from: Tail,
+    bound: Bound,
+    now: u64,
+) -> Pulled
+    requires { from ≢ tail.Evict }
+    ensures kept { KeepsItems book.old book.new }
+    ensures looked { LooksPast from bound now (is_some (pulled_to result)) book.old book.new }
+    ensures told { may_tell from result ≡ true }
+    ensures flows { Flows (way_of_pull from result) book.old book.new }
+{
+    let Some(chunk) = book.last(from.segment().place()) else {
+        return Pulled::Empty;
+    };
+    let (_, time) = book.see(chunk);
+    let idle = now.saturating_sub(time);
+    pull_past(book, from, bound.most_at(idle))
+}
+
 // The last item of HOT or WARM ends. It answers None where there is no such item, and changes nothing then.
 fn look_and_end<N: Name, L: RowLaw>(book: &mut Book<N, L>, from: Tail) -> Option<Victim>
     requires { from ≢ tail.Evict }
@@ -61,7 +96,7 @@ fn look_and_end<N: Name, L: RowLaw>(book: &mut Book<N, L>, from: Tail) -> Option
     let Some(id) = pulled.item() else {
         return None;
     };
-    let Some(segment) = end(book, id) else {
+    let Some(segment) = end(book, id.chunk) else {
         unreachable!()
     };
     let head = book.load_head(id.chunk);
@@ -109,16 +144,17 @@ fn end_cold<N: Name, L: RowLaw>(book: &mut Book<N, L>) -> Option<Victim>
     })
 }
 
-// An item ends, where it is linked; and tells the list in which it was, or None where it isn't.
-pub(crate) fn end<N: Name, L: RowLaw>(book: &mut Book<N, L>, id: ItemId) -> Option<Segment>
-    requires own { owns id.chunk book.old.part ≡ true }
-    ensures ends { EndsLinked id result book.old book.new }
+// The item ends that is linked at a chunk; and tells the list in which it was, or None where none is.
+pub(crate) fn end<N: Name, L: RowLaw>(book: &mut Book<N, L>, chunk: u32) -> Option<Segment>
+    requires own { owns chunk book.old.part ≡ true }
+    ensures ends { EndsLinked chunk result book.old book.new }
     ensures flows { IfSome result (λ from. Flows (Some (place_of from, Dying)) book.old book.new) }
     ensures stays { IfNone result (Flows None book.old book.new) }
 {
-    let head = book.load_head(id.chunk);
+    let head = book.load_head(chunk);
+    let generation = head.generation;
     book.promise();
-    match book.unlink(id) {
+    match book.unlink(ItemId { chunk, generation }) {
         Ok(_) => Some(head.segment),
         Err(_) => None,
     }

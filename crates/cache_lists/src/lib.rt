@@ -1,6 +1,7 @@
 //! The lists of a cache's items: a Book that counts how its items go from list to list and how many are evicted.
 #![tactic(auto)]
 
+mod ages;
 mod counted;
 mod draining;
 mod evictions;
@@ -10,6 +11,7 @@ mod items;
 mod rescues;
 mod victims;
 
+pub use ages::{Bound, Bounds};
 pub use bump_class::{Book, RawLane};
 pub use bump_heads::Name;
 pub use bump_rules::{Applied, ItemId, Place, Pulled, Segment, Tail};

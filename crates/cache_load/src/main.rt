@@ -43,10 +43,12 @@ fn load_of(words: &[String]) -> Option<Load> {
 }
 
 // The configuration of a cache whose puts always find room: there is a chunk for each bump that may wait and for each
-// hold.
+// hold. By ages an item may leave HOT however few are there: then keys that are always there could be evicted.
 fn config_of(load: Load, seed: Seed) -> CacheConfig {
     CacheConfig {
         spare: load.readers.saturating_mul(RING + 2),
+        hot_age: None,
+        warm_age: None,
         ring: RING,
         ..CacheConfig::new(ITEMS, load.readers, seed)
     }

@@ -3,12 +3,11 @@ use Rattle.std.proofs.Common.{◌≡◌, ◌≢◌, ℕ, ◌+◌, ◌*◌, ◌/�
 use Rattle.std.proofs.Common.{Option, Some, IsSomeAnd, IfSome, List, map, get_or, sym, ap, ◌∙◌, subst}
 use Rattle.std.proofs.Common.{arith, ⊎_elim}
 use Rattle.std.proofs.lemmas.Bool.{cases_lt}
-use Rattle.cache_nests.specs.declared.led.Led.{Led}
 use Rattle.cache_nests.specs.declared.led.Way.{Way}
 use Rattle.cache_nests.specs.Tags.{tag_of}
 use Rattle.cache_nests.specs.Places.{IsPlace, tag_at, passed_at, home_of, nest_behind, place_in, tag_behind}
-use Rattle.cache_nests.specs.Leads.{led_by, way_to, AreLed, IsRoomy}
-use Rattle.cache_nests.specs.Views.{IndexView, SearchView, index_view, led_at, has_answered}
+use Rattle.cache_nests.specs.Leads.{chunk_in, generation_in, way_to, AreLed, IsRoomy}
+use Rattle.cache_nests.specs.Views.{Led, IndexView, SearchView, index_view, led_by, led_at, has_answered}
 use Rattle.cache_nests.proofs.StepsLemmas.{home_of-lt}
 use Rattle.cache_nests.proofs.RoomLemmas.{lane_is_off}
 use Rattle.cache_nests.proofs.SearchLemmas.{search_at, answered, IsFound, found_place, found_chunk, found_led}
@@ -17,7 +16,7 @@ use Rattle.cache_nests.proofs.SearchLemmas.{has_answered-way, led_at-way, led_by
 
 -- what a look found is found
 pub found_from : (nests n0 : ℕ) (words : List ℕ) (ways : List Way) (hash from at : ℕ) → n0 ≡ nests
-    → AreLed nests words ways → IsRoomy nests ways → hash < 2 ^ 64
+    → AreLed nests words ways → IsRoomy nests ways → hash < 2 ^ 32
     → (from ≤ at) × (at < 6 * n0) → tag_behind words n0 (home_of n0 hash) at ≡ tag_of hash
     → ((number : ℕ) → from ≤ number → number < at → tag_behind words n0 (home_of n0 hash) number ≢ tag_of hash)
     → IsFound nests words ways hash from at
@@ -27,7 +26,6 @@ found_from nests n0 words ways hash from at e led roomy fits within found first 
     ≢ tag_of hash in
     record {
       led = led;
-      roomy = roomy;
       home = home_of-lt nests hash fits (omega (arith, roomy.lanes_over));
       over = within.0;
       within = omega (arith, within.1, e);
@@ -46,26 +44,26 @@ life_found nests n0 nest number hash at words mid n0_is nest_is mid_is number_is
     ∙ ap (λ (n : ℕ). get_or words (place_in (nest_behind n (home_of n hash) (at / 6)) (at % 6)) 0) n0_is))
 
 module _ (v : IndexView) (s : SearchView) (nests : ℕ) (words : List ℕ) (ways : List Way) (hash from at chunk number : ℕ)
-    (seen : v ≡ index_view nests ways) (search : s ≡ search_at hash from)
+    (seen : v ≡ index_view nests words ways) (search : s ≡ search_at hash from)
     (it : IsFound nests words ways hash from at) (number_is : number ≡ get_or words (found_place nests words ways
     hash from at) 0)
-    (chunk_is : chunk ≡ number % 2 ^ 32) where
+    (chunk_is : chunk ≡ chunk_in number) where
   chunk_found : chunk ≡ found_chunk nests words ways hash from at
-  chunk_found = chunk_is ∙ ap (λ (n : ℕ). n % 2 ^ 32) number_is
+  chunk_found = chunk_is ∙ ap chunk_in number_is
 
-  before_is : (c : ℕ) → has_answered v s c ≡ answered nests (search_at hash from) (way_to ways c)
+  before_is : (c : ℕ) → has_answered v s c ≡ answered nests words (search_at hash from) (way_to ways c)
   before_is c =
       ap (λ (u : IndexView). has_answered u s c) seen
-      ∙ (ap (λ (t : SearchView). has_answered (index_view nests ways) t c) search
-      ∙ has_answered-way nests ways (search_at hash from) c)
+      ∙ (ap (λ (t : SearchView). has_answered (index_view nests words ways) t c) search
+      ∙ has_answered-way nests words ways (search_at hash from) c)
 
   pub answer_anew : has_answered v s chunk ≡ false
   answer_anew =
       before_is chunk
-      ∙ (ap (λ (c : ℕ). answered nests (search_at hash from) (way_to ways c)) chunk_found
+      ∙ (ap (λ (c : ℕ). answered nests words (search_at hash from) (way_to ways c)) chunk_found
       ∙ found_anew nests words ways hash from at it)
 
-  pub answer_led : (generation : ℕ) → generation ≡ number / 2 ^ 32
+  pub answer_led : (generation : ℕ) → generation ≡ generation_in number
       → IsSomeAnd (led_at v.table chunk) (λ (led : Led). (led.generation ≡ generation) × (tag_of led.hash ≡ tag_of
       s.hash))
   answer_led generation generation_is =
@@ -73,33 +71,32 @@ module _ (v : IndexView) (s : SearchView) (nests : ℕ) (words : List ℕ) (ways
       let led_is : led_at v.table chunk
       ≡ Some (record {
         hash = (way_to ways c).hash;
-        generation = get_or words (found_place nests words ways hash from
-            at) 0 / 2 ^ 32;
+        generation = generation_in (get_or words (found_place nests words ways hash from at) 0);
       }) =
       ap (λ (u : IndexView). led_at u.table chunk) seen
-      ∙ (ap (λ (k : ℕ). led_at (map led_by ways) k) chunk_found
-      ∙ (led_at-way ways c ∙ found_led nests words ways hash from at it)) in
+      ∙ (ap (λ (k : ℕ). led_at (map (led_by words) ways) k) chunk_found
+      ∙ (led_at-way words ways c ∙ found_led nests words ways hash from at it)) in
       let P : Option Led → Type 0 =
       λ o. IsSomeAnd o (λ (led : Led). (led.generation ≡ generation) × (tag_of led.hash ≡ tag_of s.hash)) in
       subst P (sym led_is) (
-        sym (generation_is ∙ ap (λ (n : ℕ). n / 2 ^ 32) number_is),
+        sym (generation_is ∙ ap generation_in number_is),
         found_same_tag nests words ways hash from at it ∙ ap (λ (t : SearchView). tag_of t.hash) (sym search),
       )
 
-  pub answer_answered : (u : IndexView) (t : SearchView) → u ≡ index_view nests ways → t ≡ search_at hash (at + 1)
+  pub answer_answered : (u : IndexView) (t : SearchView) → u ≡ index_view nests words ways → t ≡ search_at hash (at + 1)
       → (c : ℕ) → has_answered u t c ≡ (has_answered v s c || eqb c chunk)
   answer_answered u t u_is t_is c =
       ap (λ (w : IndexView). has_answered w t c) u_is
-      ∙ (ap (λ (r : SearchView). has_answered (index_view nests ways) r c) t_is
-      ∙ (has_answered-way nests ways (search_at hash (at + 1)) c
+      ∙ (ap (λ (r : SearchView). has_answered (index_view nests words ways) r c) t_is
+      ∙ (has_answered-way nests words ways (search_at hash (at + 1)) c
       ∙ (found_answered nests words ways hash from at it c
       ∙ (ap (λ (b : Bool). b || eqb c (found_chunk nests words ways hash from at)) (sym (before_is c))
       ∙ ap (λ (k : ℕ). has_answered v s c || eqb c k) (sym chunk_found)))))
 
 -- where the search ends, each chunk with its hash was answered
 pub end_all : (v : IndexView) (s : SearchView) (nests n0 : ℕ) (words : List ℕ) (ways : List Way) (hash from : ℕ)
-    → v ≡ index_view nests ways → s ≡ search_at hash from → n0 ≡ nests
-    → AreLed nests words ways → IsRoomy nests ways → hash < 2 ^ 64
+    → v ≡ index_view nests words ways → s ≡ search_at hash from → n0 ≡ nests
+    → AreLed nests words ways → IsRoomy nests ways → hash < 2 ^ 32
     → ((number : ℕ) → from ≤ number → number < 6 * n0
     → ((steps : ℕ) → steps < number / 6 → 0 < passed_at words (nest_behind n0 (home_of n0 hash) steps))
     → tag_behind words n0 (home_of n0 hash) number ≢ tag_of hash)
@@ -110,17 +107,17 @@ end_all v s nests n0 words ways hash from seen search e led roomy fits none chun
     let Q : ℕ → Type 0 = λ n. (number : ℕ) → from ≤ number → number < 6 * n
     → ((steps : ℕ) → steps < number / 6 → 0 < passed_at words (nest_behind n (home_of n hash) steps))
     → tag_behind words n (home_of n hash) number ≢ tag_of hash in
-    let way_is : led_at v.table chunk ≡ led_by way =
-    ap (λ (u : IndexView). led_at u.table chunk) seen ∙ led_at-way ways chunk in
+    let way_is : led_at v.table chunk ≡ led_by words way =
+    ap (λ (u : IndexView). led_at u.table chunk) seen ∙ led_at-way words ways chunk in
     ⊎_elim
-    (λ some. subst P (sym (way_is ∙ led_by-some way some))
+    (λ some. subst P (sym (way_is ∙ led_by-some words way some))
     (λ same.
     ap (λ (u : IndexView). has_answered u s chunk) seen
-    ∙ (ap (λ (t : SearchView). has_answered (index_view nests ways) t chunk) search
-    ∙ (has_answered-way nests ways (search_at hash from) chunk
+    ∙ (ap (λ (t : SearchView). has_answered (index_view nests words ways) t chunk) search
+    ∙ (has_answered-way nests words ways (search_at hash from) chunk
     ∙ all_answered nests words ways hash from led (home_of-lt nests hash fits (omega (arith, roomy.lanes_over)))
     (subst Q e none) chunk some (same ∙ ap (λ (t : SearchView). t.hash) search)))))
-    (λ none_led. subst P (sym (way_is ∙ led_by-none way (let z : way.place ≡ 0 = omega (arith, none_led) in z))) tt)
+    (λ none_led. subst P (sym (way_is ∙ led_by-none words way (let z : way.place ≡ 0 = omega (arith, none_led) in z))) tt)
     (cases_lt 0 way.place)
 
 -- some lane is off

@@ -62,15 +62,15 @@ new_tag nests place tag next words size is here elsewhere =
     }
 
 -- first the nests count the way, then its lane has the life, and then the tag
-pub put_lays : (nests : ℕ) (words counted tagged : List ℕ) (chunk : ℕ) (way : Way)
+pub put_lays : (nests : ℕ) (words counted tagged : List ℕ) (chunk generation : ℕ) (way : Way)
     → length words ≡ 8 * nests → IsPlace nests way.place
     → OneMorePassed nests (home_of nests way.hash) (steps_to nests (home_of nests way.hash) (nest_of way.place))
     words counted
-    → HasNewTag nests way.place (tag_of way.hash) (set counted way.place (life_number chunk way.generation)) tagged
-    → IsLaid nests words tagged chunk way
-put_lays nests words counted tagged chunk way size is passed tag =
+    → HasNewTag nests way.place (tag_of way.hash) (set counted way.place (life_number chunk generation)) tagged
+    → IsLaid nests words tagged chunk generation way
+put_lays nests words counted tagged chunk generation way size is passed tag =
     let place = way.place in
-    let number = life_number chunk way.generation in
+    let number = life_number chunk generation in
     let laid = set counted place number in
     let counted_size : length counted ≡ 8 * nests = passed.size ∙ size in
     let inside : place < length counted = omega (arith, counted_size, is.nest) in

@@ -9,16 +9,17 @@ use Rattle.std.proofs.lemmas.List.Sums.{sum_by-set}
 use Rattle.cache_nests.specs.declared.led.Way.{Way}
 use Rattle.cache_nests.specs.Tags.{tag_of, tag_in}
 use Rattle.cache_nests.specs.Places.{IsPlace, tag_at, passed_at, nest_of, lane_of, home_of, steps_to}
-use Rattle.cache_nests.specs.Leads.{life_number, no_way, way_to, passes, LeadsTo, AreLed, IsRoomy}
+use Rattle.cache_nests.specs.Leads.{life_number, chunk_in, generation_in, no_way, way_to, passes, LeadsTo, AreLed, IsRoomy}
 
 -- 1 for a way that passes a nest
 abbrev pub one_pass : ℕ → ℕ → Way → ℕ
 one_pass nests nest way = cond (passes nests nest way) 1 0
 
-pub life_chunk : (chunk generation : ℕ) → chunk < 2 ^ 32 → life_number chunk generation % 2 ^ 32 ≡ chunk
+-- a life's word has its chunk and its generation
+pub life_chunk : (chunk generation : ℕ) → chunk < 2 ^ 32 → chunk_in (life_number chunk generation) ≡ chunk
 life_chunk chunk generation fits = add-mul-mod_self_left chunk (2 ^ 32) generation ∙ mod-eq_of_lt fits
 
-pub life_generation : (chunk generation : ℕ) → chunk < 2 ^ 32 → life_number chunk generation / 2 ^ 32 ≡ generation
+pub life_generation : (chunk generation : ℕ) → chunk < 2 ^ 32 → generation_in (life_number chunk generation) ≡ generation
 life_generation chunk generation fits =
     add-mul-div_left chunk generation {y = 2 ^ 32} (omega arith)
     ∙ (let e : chunk / 2 ^ 32 ≡ 0 = div-eq_of_lt fits in omega (arith, e))
@@ -32,10 +33,6 @@ chunk_of_way ways chunk some =
       none,
     )))
     (cases_lt chunk (length ways))
-
-pub chunk_fits : (nests : ℕ) (ways : List Way) (chunk : ℕ) → IsRoomy nests ways → 0 < (way_to ways chunk).place
-    → chunk < 2 ^ 32
-chunk_fits nests ways chunk roomy some = omega (arith, chunk_of_way ways chunk some, roomy.few_chunks)
 
 pub place_some : (nests place : ℕ) → IsPlace nests place → 0 < place
 place_some nests place is = omega (arith, is.lane)
@@ -55,25 +52,18 @@ way_elsewhere ways chunk other way apart = get_or-set_other ways chunk other way
 
 -- two chunks have no lane together
 pub one_chunk : (nests : ℕ) (words : List ℕ) (ways : List Way) (chunk other : ℕ) → AreLed nests words ways
-    → IsRoomy nests ways
     → 0 < (way_to ways chunk).place → (way_to ways other).place ≡ (way_to ways chunk).place → other ≡ chunk
-one_chunk nests words ways chunk other led roomy some same =
+one_chunk nests words ways chunk other led some same =
     let other_some : 0 < (way_to ways other).place = omega arith in
-    let one = (led.leads chunk some).life in
-    let two = (led.leads other other_some).life in
-    let word = ap (λ (p : ℕ). get_or words p 0) same in
-    let numbers : life_number other (way_to ways other).generation ≡ life_number chunk (way_to ways chunk).generation =
-    sym two ∙ (word ∙ one) in
-    sym (life_chunk other (way_to ways other).generation (chunk_fits nests ways other roomy other_some))
-    ∙ (ap (λ (n : ℕ). n % 2 ^ 32) numbers
-    ∙ life_chunk chunk (way_to ways chunk).generation (chunk_fits nests ways chunk roomy some))
+    sym (led.leads other other_some).life
+    ∙ (ap (λ (p : ℕ). chunk_in (get_or words p 0)) same ∙ (led.leads chunk some).life)
 
--- the words after are those before, with one more way
-pub record IsLaid (nests : ℕ) (before after : List ℕ) (chunk : ℕ) (way : Way) : Type 0 where
+-- the words after are those before, with one more way, which leads to this life
+pub record IsLaid (nests : ℕ) (before after : List ℕ) (chunk generation : ℕ) (way : Way) : Type 0 where
   pub size : length after ≡ length before
   pub tag : tag_at after way.place ≡ tag_of way.hash
   pub tags : (place : ℕ) → IsPlace nests place → place ≢ way.place → tag_at after place ≡ tag_at before place
-  pub life : get_or after way.place 0 ≡ life_number chunk way.generation
+  pub life : get_or after way.place 0 ≡ life_number chunk generation
   pub lives : (place : ℕ) → IsPlace nests place → place ≢ way.place → get_or after place 0 ≡ get_or before place 0
   pub passed : (nest : ℕ) → nest < nests → passed_at after nest ≡ passed_at before nest + one_pass nests nest way
 
@@ -83,53 +73,57 @@ no_pass nests nest way none =
     (ltb (steps_to nests (home_of nests way.hash) nest) (steps_to nests (home_of nests way.hash) (nest_of p)))) 1 0)
     none
 
-pub laid_is_led : (nests : ℕ) (before after : List ℕ) (ways : List Way) (chunk : ℕ) (way : Way)
+-- where no way led to the chunk, and the lane was off, another way isn't that of the lane
+pub laid_apart : (nests : ℕ) (words : List ℕ) (ways : List Way) (chunk : ℕ) (way : Way) → AreLed nests words ways
+    → tag_at words way.place ≡ 0 → 0 < (way_to ways chunk).place → (way_to ways chunk).place ≢ way.place
+laid_apart nests words ways chunk way led off some same =
+    let tags : tag_at words (way_to ways chunk).place ≡ tag_at words way.place = ap (λ (p : ℕ). tag_at words p) same in
+    absurd (omega (arith, (led.leads chunk some).tag, tags, off, tag_some (way_to ways chunk).hash))
+
+-- with one more way the words and the ways agree again
+pub laid_is_led : (nests : ℕ) (before after : List ℕ) (ways : List Way) (chunk generation : ℕ) (way : Way)
     → AreLed nests before ways → IsRoomy nests ways → chunk < length ways → (way_to ways chunk).place ≡ 0
     → IsPlace nests way.place → tag_at before way.place ≡ 0
-    → IsLaid nests before after chunk way → AreLed nests after (set ways chunk way)
-laid_is_led nests before after ways chunk way led roomy within none is_place off laid =
+    → IsLaid nests before after chunk generation way → AreLed nests after (set ways chunk way)
+laid_is_led nests before after ways chunk generation way led roomy within none is_place off laid =
     let here = way_here ways chunk way within in
+    let life : chunk_in (get_or after way.place 0) ≡ chunk =
+    ap chunk_in laid.life ∙ life_chunk chunk generation (omega (arith, within, roomy.few_chunks)) in
     record {
       size = laid.size ∙ led.size;
       leads = λ c some. ⊎_elim
           (λ same.
           let P : Way → Type 0 = λ w. LeadsTo nests after chunk w in
           let Q : ℕ → Type 0 = λ k. LeadsTo nests after k (way_to (set ways chunk way) k) in
-          subst Q (sym same) (subst P (sym here) (record { place = is_place; tag = laid.tag; life = laid.life })))
+          subst Q (sym same) (subst P (sym here) (record { place = is_place; tag = laid.tag; life = life })))
           (λ apart.
           let there = way_elsewhere ways chunk c way apart in
           let P : Way → Type 0 = λ w. 0 < w.place in
           let old = led.leads c (subst P there some) in
           let w = way_to ways c in
-          let other : w.place ≢ way.place = λ e.
-          let tags : tag_at before w.place ≡ tag_at before way.place = ap (λ (p : ℕ). tag_at before p) e in
-          absurd (omega (arith, old.tag, tags, off, tag_some w.hash)) in
+          let other = laid_apart nests before ways c way led off (subst P there some) in
           let Q : Way → Type 0 = λ v. LeadsTo nests after c v in
           subst Q (sym there) (record {
             place = old.place;
             tag = laid.tags w.place old.place other ∙ old.tag;
-            life = laid.lives w.place old.place other ∙ old.life;
+            life = ap chunk_in (laid.lives w.place old.place other) ∙ old.life;
           }))
           (cases_eq c chunk);
       back = λ place is on. ⊎_elim
           (λ same.
-          let number : get_or after place 0 % 2 ^ 32 ≡ chunk =
-          ap (λ (p : ℕ). get_or after p 0 % 2 ^ 32) same
-          ∙ (ap (λ (n : ℕ). n % 2 ^ 32) laid.life ∙ life_chunk chunk way.generation (omega (
-            arith,
-            roomy.few_chunks,
-          ))) in
+          let number : chunk_in (get_or after place 0) ≡ chunk =
+          ap (λ (p : ℕ). chunk_in (get_or after p 0)) same ∙ life in
           ap (λ (k : ℕ). (way_to (set ways chunk way) k).place) number
           ∙ (ap (λ (w : Way). w.place) here ∙ sym same))
           (λ apart.
           let word = laid.lives place is apart in
           let was_on : 0 < tag_at before place = omega (arith, laid.tags place is apart) in
           let old = led.back place is was_on in
-          let c = get_or before place 0 % 2 ^ 32 in
+          let c = chunk_in (get_or before place 0) in
           let other : c ≢ chunk = λ e.
           let p : (way_to ways c).place ≡ (way_to ways chunk).place = ap (λ (k : ℕ). (way_to ways k).place) e in
           absurd (omega (arith, p, old, none, place_some nests place is)) in
-          ap (λ (n : ℕ). (way_to (set ways chunk way) (n % 2 ^ 32)).place) word
+          ap (λ (n : ℕ). (way_to (set ways chunk way) (chunk_in n)).place) word
           ∙ (ap (λ (w : Way). w.place) (way_elsewhere ways chunk c way other) ∙ old))
           (cases_eq place way.place);
       passed = λ nest inside.
@@ -148,10 +142,11 @@ pub record IsLifted (nests : ℕ) (before after : List ℕ) (way : Way) : Type 0
   pub lives : (place : ℕ) → IsPlace nests place → get_or after place 0 ≡ get_or before place 0
   pub passed : (nest : ℕ) → nest < nests → passed_at before nest ≡ passed_at after nest + one_pass nests nest way
 
+-- without a way the words and the ways agree again
 pub lifted_is_led : (nests : ℕ) (before after : List ℕ) (ways : List Way) (chunk : ℕ)
-    → AreLed nests before ways → IsRoomy nests ways → 0 < (way_to ways chunk).place
+    → AreLed nests before ways → 0 < (way_to ways chunk).place
     → IsLifted nests before after (way_to ways chunk) → AreLed nests after (set ways chunk no_way)
-lifted_is_led nests before after ways chunk led roomy some lifted =
+lifted_is_led nests before after ways chunk led some lifted =
     let within = chunk_of_way ways chunk some in
     let here = way_here ways chunk no_way within in
     let way = way_to ways chunk in
@@ -167,12 +162,12 @@ lifted_is_led nests before after ways chunk led roomy some lifted =
           let P : Way → Type 0 = λ w. 0 < w.place in
           let old = led.leads c (subst P there on) in
           let w = way_to ways c in
-          let other : w.place ≢ way.place = λ e. apart (one_chunk nests before ways chunk c led roomy some e) in
+          let other : w.place ≢ way.place = λ e. apart (one_chunk nests before ways chunk c led some e) in
           let Q : Way → Type 0 = λ v. LeadsTo nests after c v in
           subst Q (sym there) (record {
             place = old.place;
             tag = lifted.tags w.place old.place other ∙ old.tag;
-            life = lifted.lives w.place old.place ∙ old.life;
+            life = ap chunk_in (lifted.lives w.place old.place) ∙ old.life;
           }))
           (cases_eq c chunk);
       back = λ place is on. ⊎_elim
@@ -182,9 +177,9 @@ lifted_is_led nests before after ways chunk led roomy some lifted =
           (λ apart.
           let was_on : 0 < tag_at before place = omega (arith, lifted.tags place is apart) in
           let old = led.back place is was_on in
-          let c = get_or before place 0 % 2 ^ 32 in
+          let c = chunk_in (get_or before place 0) in
           let other : c ≢ chunk = λ e. apart (sym old ∙ ap (λ (k : ℕ). (way_to ways k).place) e) in
-          ap (λ (n : ℕ). (way_to (set ways chunk no_way) (n % 2 ^ 32)).place) (lifted.lives place is)
+          ap (λ (n : ℕ). (way_to (set ways chunk no_way) (chunk_in n)).place) (lifted.lives place is)
           ∙ (ap (λ (w : Way). w.place) (way_elsewhere ways chunk c no_way other) ∙ old))
           (cases_eq place way.place);
       passed = λ nest inside.
@@ -196,18 +191,20 @@ lifted_is_led nests before after ways chunk led roomy some lifted =
     }
 
 -- in the lane of a way stands the life of another chunk, which had no way or is the same
-pub led_anew : (nests : ℕ) (words : List ℕ) (ways : List Way) (old chunk : ℕ) (way : Way)
+pub led_anew : (nests : ℕ) (words : List ℕ) (ways : List Way) (old chunk generation : ℕ) (way : Way)
     → AreLed nests words ways → IsRoomy nests ways → 0 < (way_to ways old).place
     → chunk < length ways → ((way_to ways chunk).place ≡ 0) ⊎ (chunk ≡ old)
-    → way.place ≡ (way_to ways old).place → way.hash ≡ (way_to ways old).hash
-    → AreLed nests (set words way.place (life_number chunk way.generation)) (set (set ways old no_way) chunk way)
-led_anew nests words ways old chunk way led roomy some within anew same_place same_hash =
+    → way ≡ way_to ways old
+    → AreLed nests (set words way.place (life_number chunk generation)) (set (set ways old no_way) chunk way)
+led_anew nests words ways old chunk generation way led roomy some within anew same_way =
+    let same_place : way.place ≡ (way_to ways old).place = ap (λ (w : Way). w.place) same_way in
+    let same_hash : way.hash ≡ (way_to ways old).hash = ap (λ (w : Way). w.hash) same_way in
     let was = way_to ways old in
     let between = set ways old no_way in
     let inside : chunk < length between = omega (arith, length-set ways old no_way) in
     let old_within = chunk_of_way ways old some in
     let here = way_here between chunk way inside in
-    let number = life_number chunk way.generation in
+    let number = life_number chunk generation in
     let after = set words way.place number in
     let way_led = led.leads old some in
     let is_place : IsPlace nests way.place = (let P : ℕ → Type 0 = λ p. IsPlace nests p in subst P (sym same_place)
@@ -219,6 +216,8 @@ led_anew nests words ways old chunk way led roomy some within anew same_place sa
     let lives : (place : ℕ) → place ≢ way.place → get_or after place 0 ≡ get_or words place 0 =
     λ place apart. get_or-set_other words way.place place number 0 apart in
     let life_here : get_or after way.place 0 ≡ number = get_or-set_same words way.place number 0 in_words in
+    let life : chunk_in (get_or after way.place 0) ≡ chunk =
+    ap chunk_in life_here ∙ life_chunk chunk generation (omega (arith, within, roomy.few_chunks)) in
     let others : (c : ℕ) → c ≢ chunk → c ≢ old → way_to (set between chunk way) c ≡ way_to ways c =
     λ c apart apart_old. way_elsewhere between chunk c way apart ∙ way_elsewhere ways old c no_way apart_old in
     record {
@@ -230,7 +229,7 @@ led_anew nests words ways old chunk way led roomy some within anew same_place sa
           let tag : tag_at after way.place ≡ tag_of way.hash =
           tags way.place is_place
           ∙ (ap (λ (p : ℕ). tag_at words p) same_place ∙ (way_led.tag ∙ sym (ap (λ (h : ℕ). tag_of h) same_hash))) in
-          subst Q (sym same) (subst P (sym here) (record { place = is_place; tag = tag; life = life_here })))
+          subst Q (sym same) (subst P (sym here) (record { place = is_place; tag = tag; life = life })))
           (λ apart. ⊎_elim
           (λ same_old.
           let off : (way_to (set between chunk way) c).place ≡ 0 =
@@ -243,30 +242,26 @@ led_anew nests words ways old chunk way led roomy some within anew same_place sa
           let P : Way → Type 0 = λ w. 0 < w.place in
           let before = led.leads c (subst P there on) in
           let w = way_to ways c in
-          let other : w.place ≢ way.place = λ e. apart_old (one_chunk nests words ways old c led roomy some (e ∙
+          let other : w.place ≢ way.place = λ e. apart_old (one_chunk nests words ways old c led some (e ∙
           same_place)) in
           let Q : Way → Type 0 = λ v. LeadsTo nests after c v in
           subst Q (sym there) (record {
             place = before.place;
             tag = tags w.place before.place ∙ before.tag;
-            life = lives w.place other ∙ before.life;
+            life = ap chunk_in (lives w.place other) ∙ before.life;
           }))
           (cases_eq c old))
           (cases_eq c chunk);
       back = λ place is on. ⊎_elim
           (λ same.
-          let decoded : get_or after place 0 % 2 ^ 32 ≡ chunk =
-          ap (λ (p : ℕ). get_or after p 0 % 2 ^ 32) same
-          ∙ (ap (λ (n : ℕ). n % 2 ^ 32) life_here ∙ life_chunk chunk way.generation (omega (
-            arith,
-            roomy.few_chunks,
-          ))) in
+          let decoded : chunk_in (get_or after place 0) ≡ chunk =
+          ap (λ (p : ℕ). chunk_in (get_or after p 0)) same ∙ life in
           ap (λ (k : ℕ). (way_to (set between chunk way) k).place) decoded
           ∙ (ap (λ (w : Way). w.place) here ∙ sym same))
           (λ apart.
           let was_on : 0 < tag_at words place = omega (arith, tags place is) in
           let before = led.back place is was_on in
-          let c = get_or words place 0 % 2 ^ 32 in
+          let c = chunk_in (get_or words place 0) in
           let not_old : c ≢ old = λ e. apart (sym before ∙ (ap (λ (k : ℕ). (way_to ways k).place) e ∙ sym
           same_place)) in
           let not_chunk : c ≢ chunk = λ e. ⊎_elim
@@ -275,7 +270,7 @@ led_anew nests words ways old chunk way led roomy some within anew same_place sa
           absurd (omega (arith, p, before, none, place_some nests place is)))
           (λ is_old. not_old (e ∙ is_old))
           anew in
-          ap (λ (n : ℕ). (way_to (set between chunk way) (n % 2 ^ 32)).place) (lives place apart)
+          ap (λ (n : ℕ). (way_to (set between chunk way) (chunk_in n)).place) (lives place apart)
           ∙ (ap (λ (w : Way). w.place) (others c not_chunk not_old) ∙ before))
           (cases_eq place way.place);
       passed = λ nest within_nests.

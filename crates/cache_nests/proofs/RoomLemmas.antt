@@ -9,7 +9,7 @@ use Rattle.std.proofs.lemmas.List.Folds.{sum_by-replicate}
 use Rattle.cache_nests.specs.declared.led.Way.{Way}
 use Rattle.cache_nests.specs.Tags.{tag_in}
 use Rattle.cache_nests.specs.Places.{IsPlace, tag_at, passed_at, nest_of, lane_of}
-use Rattle.cache_nests.specs.Leads.{no_way, way_to, AreLed, IsRoomy}
+use Rattle.cache_nests.specs.Leads.{chunk_in, no_way, way_to, AreLed, IsRoomy}
 use Rattle.cache_nests.proofs.LedLemmas.{one_pass, chunk_of_way, place_some}
 
 -- what a function gives, but for one value what it gives in its place
@@ -83,7 +83,7 @@ place_of-one i j same = omega arith
 pub lane_is_off : (nests : ℕ) (words : List ℕ) (ways : List Way) → AreLed nests words ways → IsRoomy nests ways
     → ((place : ℕ) → IsPlace nests place → 0 < tag_at words place) → ⊥
 lane_is_off nests words ways led roomy full =
-    let chunk : ℕ → ℕ = λ k. get_or words (place_of k) 0 % 2 ^ 32 in
+    let chunk : ℕ → ℕ = λ k. chunk_in (get_or words (place_of k) 0) in
     let back : (k : ℕ) → k < 6 * nests → (way_to ways (chunk k)).place ≡ place_of k =
     λ k h. led.back (place_of k) (place_of-is nests k h) (full (place_of k) (place_of-is nests k h)) in
     let within : (k : ℕ) → k < 6 * nests → chunk k < length ways =

@@ -5,75 +5,72 @@ use Rattle.std.proofs.Common.{ap, ◌∙◌, subst, arith, ⊎_elim}
 use Rattle.std.proofs.Math.ListN.{get_or-map}
 use Rattle.std.proofs.lemmas.Bool.{cases_lt, cases_eq, cases_order, cases_Bool, cond-true, cond-false}
 use Rattle.std.proofs.lemmas.Bool.{lt-ltb, le-ltb, eqb-true, eq-eqb, ne_eqb, or_right}
-use Rattle.cache_nests.specs.declared.led.Led.{Led}
 use Rattle.cache_nests.specs.declared.led.Way.{Way}
 use Rattle.cache_nests.specs.Tags.{tag_of, tag_in}
 use Rattle.cache_nests.specs.Places.{IsPlace, tag_at, passed_at, nest_of, lane_of, home_of, nest_behind, steps_to}
 use Rattle.cache_nests.specs.Places.{place_in, lane_number, tag_behind}
-use Rattle.cache_nests.specs.Leads.{life_number, no_way, led_by, way_to, LeadsTo, AreLed, IsRoomy}
-use Rattle.cache_nests.specs.Views.{SearchView, index_view, led_at, has_tag, has_looked, has_answered}
+use Rattle.cache_nests.specs.Leads.{chunk_in, generation_in, no_way, way_to, LeadsTo, AreLed}
+use Rattle.cache_nests.specs.Views.{Led, SearchView, index_view, led_by, led_at, has_tag, has_looked, has_answered}
 use Rattle.cache_nests.proofs.StepsLemmas.{nest_behind-lt, steps_to-lt, steps_to-nest_behind}
 use Rattle.cache_nests.proofs.StepsLemmas.{nest_behind-steps_to}
-use Rattle.cache_nests.proofs.LedLemmas.{life_generation, chunk_fits, one_chunk, place_some, tag_some}
+use Rattle.cache_nests.proofs.LedLemmas.{one_chunk, place_some, tag_some}
 use Rattle.cache_nests.proofs.ChangeLemmas.{some_pass}
 
 abbrev pub search_at : ℕ → ℕ → SearchView
 search_at hash looked = record { hash = hash; looked = looked }
 
 -- whether a search has answered what a way leads to
-abbrev pub answered : ℕ → SearchView → Way → Bool
-answered nests search way = has_tag search.hash (led_by way) && has_looked nests search way.place
+abbrev pub answered : ℕ → List ℕ → SearchView → Way → Bool
+answered nests words search way = has_tag search.hash (led_by words way) && has_looked nests search way.place
 
 -- what the index has of a chunk, by its way
-pub led_at-way : (ways : List Way) (chunk : ℕ) → led_at (map led_by ways) chunk ≡ led_by (way_to ways chunk)
-led_at-way ways chunk = get_or-map led_by ways chunk no_way
+pub led_at-way : (words : List ℕ) (ways : List Way) (chunk : ℕ)
+    → led_at (map (led_by words) ways) chunk ≡ led_by words (way_to ways chunk)
+led_at-way words ways chunk = get_or-map (led_by words) ways chunk no_way
 
 place_at-way : (ways : List Way) (chunk : ℕ) → get_or (map (λ (w : Way). w.place) ways) chunk 0 ≡ (way_to ways
     chunk).place
 place_at-way ways chunk = get_or-map (λ (w : Way). w.place) ways chunk no_way
 
-pub has_answered-way : (nests : ℕ) (ways : List Way) (search : SearchView) (chunk : ℕ)
-    → has_answered (index_view nests ways) search chunk ≡ answered nests search (way_to ways chunk)
-has_answered-way nests ways search chunk =
+pub has_answered-way : (nests : ℕ) (words : List ℕ) (ways : List Way) (search : SearchView) (chunk : ℕ)
+    → has_answered (index_view nests words ways) search chunk ≡ answered nests words search (way_to ways chunk)
+has_answered-way nests words ways search chunk =
     ap (λ (o : Option Led). has_tag search.hash o
-    && has_looked nests search (get_or (map (λ (w : Way). w.place) ways) chunk 0)) (led_at-way ways chunk)
-    ∙ ap (λ (p : ℕ). has_tag search.hash (led_by (way_to ways chunk)) && has_looked nests search p) (place_at-way
+    && has_looked nests search (get_or (map (λ (w : Way). w.place) ways) chunk 0)) (led_at-way words ways chunk)
+    ∙ ap (λ (p : ℕ). has_tag search.hash (led_by words (way_to ways chunk)) && has_looked nests search p) (place_at-way
     ways chunk)
 
 -- a way that leads somewhere, and one that doesn't
-pub led_by-some : (way : Way) → 0 < way.place → led_by way ≡ Some (record {
-  hash = way.hash;
-  generation =
-      way.generation;
-})
-led_by-some way some =
-    cond-false (eqb way.place 0) None (Some (record { hash = way.hash; generation = way.generation }))
-    (ne_eqb way.place 0 (λ e. absurd (omega (arith, e, some))))
+abbrev pub led_so : List ℕ → Way → Option Led
+led_so words way = Some (record { hash = way.hash; generation = generation_in (get_or words way.place 0) })
 
-pub led_by-none : (way : Way) → way.place ≡ 0 → led_by way ≡ None
-led_by-none way none =
-    cond-true (eqb way.place 0) None (Some (record { hash = way.hash; generation = way.generation })) (eq-eqb
-    way.place 0 none)
+pub led_by-some : (words : List ℕ) (way : Way) → 0 < way.place → led_by words way ≡ led_so words way
+led_by-some words way some =
+    cond-false (eqb way.place 0) None (led_so words way) (ne_eqb way.place 0 (λ e. absurd (omega (arith, e, some))))
 
-answered-none : (nests : ℕ) (search : SearchView) (way : Way) → way.place ≡ 0 → answered nests search way ≡ false
-answered-none nests search way none =
-    ap (λ (o : Option Led). has_tag search.hash o && has_looked nests search way.place) (led_by-none way none)
+pub led_by-none : (words : List ℕ) (way : Way) → way.place ≡ 0 → led_by words way ≡ None
+led_by-none words way none = cond-true (eqb way.place 0) None (led_so words way) (eq-eqb way.place 0 none)
 
-answered-some : (nests : ℕ) (search : SearchView) (way : Way) → 0 < way.place
-    → answered nests search way ≡ (eqb (tag_of way.hash) (tag_of search.hash) && has_looked nests search way.place)
-answered-some nests search way some =
-    ap (λ (o : Option Led). has_tag search.hash o && has_looked nests search way.place) (led_by-some way some)
+answered-none : (nests : ℕ) (words : List ℕ) (search : SearchView) (way : Way) → way.place ≡ 0
+    → answered nests words search way ≡ false
+answered-none nests words search way none =
+    ap (λ (o : Option Led). has_tag search.hash o && has_looked nests search way.place) (led_by-none words way none)
 
-answered-other : (nests : ℕ) (search : SearchView) (way : Way) → 0 < way.place
+answered-some : (nests : ℕ) (words : List ℕ) (search : SearchView) (way : Way) → 0 < way.place
+    → answered nests words search way ≡ (eqb (tag_of way.hash) (tag_of search.hash) && has_looked nests search way.place)
+answered-some nests words search way some =
+    ap (λ (o : Option Led). has_tag search.hash o && has_looked nests search way.place) (led_by-some words way some)
+
+answered-other : (nests : ℕ) (words : List ℕ) (search : SearchView) (way : Way) → 0 < way.place
     → eqb (tag_of way.hash) (tag_of search.hash) ≡ false
-    → answered nests search way ≡ false
-answered-other nests search way some other =
-    answered-some nests search way some ∙ ap (λ (b : Bool). b && has_looked nests search way.place) other
+    → answered nests words search way ≡ false
+answered-other nests words search way some other =
+    answered-some nests words search way some ∙ ap (λ (b : Bool). b && has_looked nests search way.place) other
 
-answered-tagged : (nests : ℕ) (search : SearchView) (way : Way) → 0 < way.place → tag_of way.hash ≡ tag_of search.hash
-    → answered nests search way ≡ has_looked nests search way.place
-answered-tagged nests search way some same =
-    answered-some nests search way some
+answered-tagged : (nests : ℕ) (words : List ℕ) (search : SearchView) (way : Way) → 0 < way.place
+    → tag_of way.hash ≡ tag_of search.hash → answered nests words search way ≡ has_looked nests search way.place
+answered-tagged nests words search way some same =
+    answered-some nests words search way some
     ∙ ap (λ (b : Bool). b && has_looked nests search way.place) (eq-eqb (tag_of way.hash) (tag_of search.hash) same)
 
 pub looked-yes : (nests hash looked place : ℕ) → lane_number nests (home_of nests hash) place < looked
@@ -154,7 +151,6 @@ or_none false = refl
 -- a search answers the chunk whose life stands in the first lane that has its tag
 pub record IsFound (nests : ℕ) (words : List ℕ) (ways : List Way) (hash from at : ℕ) : Type 0 where
   pub led : AreLed nests words ways
-  pub roomy : IsRoomy nests ways
   pub home : home_of nests hash < nests
   pub over : from ≤ at
   pub within : at < 6 * nests
@@ -167,7 +163,7 @@ module _ (nests : ℕ) (words : List ℕ) (ways : List Way) (hash from at : ℕ)
   found_place = place_at nests (home_of nests hash) at
 
   abbrev pub found_chunk : ℕ
-  found_chunk = get_or words found_place 0 % 2 ^ 32
+  found_chunk = chunk_in (get_or words found_place 0)
 
   pub found_is : IsFound nests words ways hash from at → IsPlace nests found_place
   found_is it = place_at-is nests (home_of nests hash) at it.home it.within
@@ -195,40 +191,38 @@ module _ (nests : ℕ) (words : List ℕ) (ways : List Way) (hash from at : ℕ)
 
   -- what is answered is led to, by the same tag, with its generation
   pub found_led : IsFound nests words ways hash from at
-      → led_by (way_to ways found_chunk)
-      ≡ Some (record { hash = (way_to ways found_chunk).hash; generation = get_or words found_place 0 / 2 ^ 32 })
+      → led_by words (way_to ways found_chunk)
+      ≡ Some (record {
+        hash = (way_to ways found_chunk).hash;
+        generation = generation_in (get_or words found_place 0);
+      })
   found_led it =
       let way = way_to ways found_chunk in
-      let life : get_or words found_place 0 ≡ life_number found_chunk way.generation =
-      ap (λ (p : ℕ). get_or words p 0) (sym (found_back it)) ∙ (found_leads it).life in
-      let generation : get_or words found_place 0 / 2 ^ 32 ≡ way.generation =
-      ap (λ (n : ℕ). n / 2 ^ 32) life
-      ∙ life_generation found_chunk way.generation (chunk_fits nests ways found_chunk it.roomy (found_some it)) in
-      led_by-some way (found_some it)
-      ∙ ap (λ (g : ℕ). Some (record { hash = way.hash; generation = g })) (sym generation)
+      led_by-some words way (found_some it)
+      ∙ ap (λ (p : ℕ). Some (record { hash = way.hash; generation = generation_in (get_or words p 0) })) (found_back it)
 
   -- it wasn't answered before
-  pub found_anew : IsFound nests words ways hash from at → answered nests (search_at hash from) (way_to ways
+  pub found_anew : IsFound nests words ways hash from at → answered nests words (search_at hash from) (way_to ways
       found_chunk) ≡ false
   found_anew it =
       let way = way_to ways found_chunk in
-      answered-tagged nests (search_at hash from) way (found_some it) (found_same_tag it)
+      answered-tagged nests words (search_at hash from) way (found_some it) (found_same_tag it)
       ∙ looked-no nests hash from way.place
       (let n = ap (λ (p : ℕ). lane_number nests (home_of nests hash) p) (found_back it) ∙ found_number it in omega
       (arith, n, it.over))
 
-  found_now : IsFound nests words ways hash from at → answered nests (search_at hash (at + 1)) (way_to ways
+  found_now : IsFound nests words ways hash from at → answered nests words (search_at hash (at + 1)) (way_to ways
       found_chunk) ≡ true
   found_now it =
       let way = way_to ways found_chunk in
-      answered-tagged nests (search_at hash (at + 1)) way (found_some it) (found_same_tag it)
+      answered-tagged nests words (search_at hash (at + 1)) way (found_some it) (found_same_tag it)
       ∙ looked-yes nests hash (at + 1) way.place
       (let n = ap (λ (p : ℕ). lane_number nests (home_of nests hash) p) (found_back it) ∙ found_number it in omega
       (arith, n))
 
   -- every other chunk was answered before where it is after
   found_rest : IsFound nests words ways hash from at → (chunk : ℕ) → chunk ≢ found_chunk
-      → answered nests (search_at hash (at + 1)) (way_to ways chunk) ≡ answered nests (search_at hash from) (way_to
+      → answered nests words (search_at hash (at + 1)) (way_to ways chunk) ≡ answered nests words (search_at hash from) (way_to
       ways chunk)
   found_rest it chunk apart =
       let way = way_to ways chunk in
@@ -246,7 +240,7 @@ module _ (nests : ℕ) (words : List ℕ) (ways : List Way) (hash from at : ℕ)
       (λ below. looked-yes nests hash (at + 1) way.place (let o = it.over in omega (arith, below, o)) ∙ sym
       (looked-yes nests hash from way.place below))
       (λ not_before. ⊎_elim
-      (λ is_at. absurd (apart (one_chunk nests words ways found_chunk chunk it.led it.roomy (found_some it)
+      (λ is_at. absurd (apart (one_chunk nests words ways found_chunk chunk it.led (found_some it)
       (lane_number-one nests (home_of nests hash) way.place found_place it.home leads.place (found_is it) (is_at ∙
       sym (found_number it))
       ∙ sym (found_back it)))))
@@ -257,28 +251,28 @@ module _ (nests : ℕ) (words : List ℕ) (ways : List Way) (hash from at : ℕ)
       sides)
       (cases_order number at))
       (cases_lt number from) in
-      answered-tagged nests after way some same ∙ (looked ∙ sym (answered-tagged nests before way some same)))
-      (λ other. answered-other nests after way some other ∙ sym (answered-other nests before way some other))
+      answered-tagged nests words after way some same ∙ (looked ∙ sym (answered-tagged nests words before way some same)))
+      (λ other. answered-other nests words after way some other ∙ sym (answered-other nests words before way some other))
       (cases_Bool (eqb (tag_of way.hash) (tag_of hash))))
       (λ none.
       let zero : way.place ≡ 0 = omega (arith, none) in
-      answered-none nests after way zero ∙ sym (answered-none nests before way zero))
+      answered-none nests words after way zero ∙ sym (answered-none nests words before way zero))
       (cases_lt 0 way.place)
 
   -- after an answer, what was answered before and this chunk are answered
   pub found_answered : IsFound nests words ways hash from at → (chunk : ℕ)
-      → answered nests (search_at hash (at + 1)) (way_to ways chunk)
-      ≡ (answered nests (search_at hash from) (way_to ways chunk) || eqb chunk found_chunk)
+      → answered nests words (search_at hash (at + 1)) (way_to ways chunk)
+      ≡ (answered nests words (search_at hash from) (way_to ways chunk) || eqb chunk found_chunk)
   found_answered it chunk = ⊎_elim
       (λ same.
-      ap (λ (c : ℕ). answered nests (search_at hash (at + 1)) (way_to ways c)) same
+      ap (λ (c : ℕ). answered nests words (search_at hash (at + 1)) (way_to ways c)) same
       ∙ (found_now it
-      ∙ sym (or_right (answered nests (search_at hash from) (way_to ways chunk)) (eqb chunk found_chunk) (eq-eqb
+      ∙ sym (or_right (answered nests words (search_at hash from) (way_to ways chunk)) (eqb chunk found_chunk) (eq-eqb
       chunk found_chunk same))))
       (λ apart.
       found_rest it chunk apart
-      ∙ (or_none (answered nests (search_at hash from) (way_to ways chunk))
-      ∙ ap (λ (b : Bool). answered nests (search_at hash from) (way_to ways chunk) || b) (sym (ne_eqb chunk
+      ∙ (or_none (answered nests words (search_at hash from) (way_to ways chunk))
+      ∙ ap (λ (b : Bool). answered nests words (search_at hash from) (way_to ways chunk) || b) (sym (ne_eqb chunk
       found_chunk apart))))
       (cases_eq chunk found_chunk)
 
@@ -289,7 +283,7 @@ pub all_answered : (nests : ℕ) (words : List ℕ) (ways : List Way) (hash from
     → ((steps : ℕ) → steps < number / 6 → 0 < passed_at words (nest_behind nests (home_of nests hash) steps))
     → tag_behind words nests (home_of nests hash) number ≢ tag_of hash)
     → (chunk : ℕ) → 0 < (way_to ways chunk).place → (way_to ways chunk).hash ≡ hash
-    → answered nests (search_at hash from) (way_to ways chunk) ≡ true
+    → answered nests words (search_at hash from) (way_to ways chunk) ≡ true
 all_answered nests words ways hash from led in_home none chunk some same =
     let way = way_to ways chunk in
     let home = home_of nests hash in
@@ -298,7 +292,7 @@ all_answered nests words ways hash from led in_home none chunk some same =
     let same_tag : tag_of way.hash ≡ tag_of hash = ap (λ (h : ℕ). tag_of h) same in
     let far : number / 6 ≡ steps_to nests home (nest_of way.place) =
     number-nest (steps_to nests home (nest_of way.place)) (lane_of way.place) (omega arith) in
-    answered-tagged nests (search_at hash from) way some same_tag
+    answered-tagged nests words (search_at hash from) way some same_tag
     ∙ ⊎_elim
     (λ below. looked-yes nests hash from way.place below)
     (λ over. absurd (none number over (lane_number-lt nests home way.place in_home leads.place)

@@ -9,13 +9,11 @@ use Rattle.cache_nests.specs.Places.{nest_behind, steps_to, passed_at, home_of}
 use Rattle.cache_nests.specs.Changes.{OneMorePassed}
 
 -- a search begins at one of the nests
-pub home_of-lt : (nests hash : ℕ) → hash < 2 ^ 64 → 0 < nests → home_of nests hash < nests
+pub home_of-lt : (nests hash : ℕ) → hash < 2 ^ 32 → 0 < nests → home_of nests hash < nests
 home_of-lt nests hash fits some =
-    let half : hash / 2 ^ 32 < 2 ^ 32 = (div-lt_iff_lt-mul {k = 2 ^ 32} {x = hash} {y = 2 ^ 32} (omega arith)).1
-    (omega arith) in
-    let more = mul-le-mul_left nests (let e : hash / 2 ^ 32 + 1 ≤ 2 ^ 32 = omega arith in e) in
-    let product : hash / 2 ^ 32 * nests < nests * 2 ^ 32 = omega (arith, more) in
-    (div-lt_iff_lt-mul {k = 2 ^ 32} {x = hash / 2 ^ 32 * nests} {y = nests} (omega arith)).1 product
+    let more = mul-le-mul_left nests (let e : hash + 1 ≤ 2 ^ 32 = omega arith in e) in
+    let product : hash * nests < nests * 2 ^ 32 = omega (arith, more) in
+    (div-lt_iff_lt-mul {k = 2 ^ 32} {x = hash * nests} {y = nests} (omega arith)).1 product
 
 pub nest_behind-lt : (nests home steps : ℕ) → home < nests → steps < nests → nest_behind nests home steps < nests
 nest_behind-lt nests home steps in_home in_steps =

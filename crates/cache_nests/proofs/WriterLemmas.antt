@@ -1,59 +1,63 @@
 -- What the writer's calls need of the index, over plain values.
 use Rattle.std.proofs.Common.{◌≡◌, ℕ, zero, suc, ◌+◌, ◌-◌, ◌*◌, ◌/◌, ◌^◌, ◌<◌, ◌≤◌}
-use Rattle.std.proofs.Common.{Option, Some, None, IsSome, List, ◌∷◌, length, map}
+use Rattle.std.proofs.Common.{Option, Some, None, IsSome, is_some, not, eqb, List, [], ◌∷◌, length, map}
 use Rattle.std.proofs.Common.{replicate, set, get_or, refl, sym, ap, ◌∙◌, subst, arith, ⊎_elim, length-set}
+use Rattle.std.proofs.Common.{get_or-set_same, get_or-set_other}
 use Rattle.std.specs.Int.{trailing_zeros}
 use Rattle.std.proofs.Common.{w64}
-use Rattle.std.proofs.lemmas.Bool.{cases_lt, false≢true}
+use Rattle.std.proofs.lemmas.Bool.{cases_lt, cases_eq, eq-eqb, ne_eqb, false≢true}
 use Rattle.std.proofs.lemmas.List.{length-map, map-set}
 use Rattle.std.proofs.lemmas.Nat.Bits.{bit_at-trailing_zeros, bit_at_above}
-use Rattle.cache_nests.specs.declared.led.Led.{Led}
 use Rattle.cache_nests.specs.declared.led.Way.{Way}
 use Rattle.cache_nests.specs.Tags.{tag_of, tag_in}
 use Rattle.cache_nests.specs.Places.{IsPlace, tag_at, passed_at, nest_of, lane_of, home_of, nest_behind, steps_to}
 use Rattle.cache_nests.specs.Changes.{OneMorePassed, HasNewTag}
-use Rattle.cache_nests.specs.Leads.{life_number, no_way, led_by, way_to, AreLed, IsRoomy}
-use Rattle.cache_nests.specs.Views.{IndexView, index_view, led_at, with_generation}
+use Rattle.cache_nests.specs.Leads.{life_number, generation_in, no_way, way_to, AreLed, IsRoomy}
+use Rattle.cache_nests.specs.Views.{Led, IndexView, index_view, led_by, led_at, with_generation}
 use Rattle.cache_nests.proofs.StepsLemmas.{nest_behind-lt, steps_to-lt, steps_to-nest_behind}
 use Rattle.cache_nests.proofs.StepsLemmas.{nest_behind-steps_to, one_more_passed, one_less_passed, not_yet}
-use Rattle.cache_nests.proofs.LedLemmas.{laid_is_led, lifted_is_led}
+use Rattle.cache_nests.proofs.LedLemmas.{IsLaid, IsLifted, laid_apart, lifted_is_led, life_generation, one_chunk}
+use Rattle.cache_nests.proofs.LedLemmas.{chunk_of_way, place_some, way_here, way_elsewhere}
 use Rattle.cache_nests.proofs.ChangeLemmas.{put_lays, clear_lifts, some_pass}
-use Rattle.cache_nests.proofs.SearchLemmas.{led_at-way, led_by-some, led_by-none}
+use Rattle.cache_nests.proofs.SearchLemmas.{led_at-way, led_so, led_by-some, led_by-none}
 
 -- a chunk that has something has a way, and one that has nothing has none
-pub some_way : (v : IndexView) (nests : ℕ) (ways : List Way) (chunk : ℕ) → v ≡ index_view nests ways
+pub some_way : (v : IndexView) (nests : ℕ) (words : List ℕ) (ways : List Way) (chunk : ℕ)
+    → v ≡ index_view nests words ways
     → IsSome (led_at v.table chunk) → 0 < (way_to ways chunk).place
-some_way v nests ways chunk seen is =
+some_way v nests words ways chunk seen is =
     ⊎_elim (λ some. some)
     (λ none.
     let P : IndexView → Type 0 = λ u. IsSome (led_at u.table chunk) in
     let Q : Option Led → Type 0 = λ o. IsSome o in
-    let gone : led_at (map led_by ways) chunk ≡ None =
-    led_at-way ways chunk ∙ led_by-none (way_to ways chunk) (let e : (way_to ways chunk).place ≡ 0 = omega (
+    let gone : led_at (map (led_by words) ways) chunk ≡ None =
+    led_at-way words ways chunk ∙ led_by-none words (way_to ways chunk) (let e : (way_to ways chunk).place ≡ 0 = omega (
       arith,
       none,
     ) in e) in
     absurd (false≢true (subst Q gone (subst P seen is))))
     (cases_lt 0 (way_to ways chunk).place)
 
-pub none_way : (v : IndexView) (nests : ℕ) (ways : List Way) (chunk : ℕ) → v ≡ index_view nests ways
+pub none_way : (v : IndexView) (nests : ℕ) (words : List ℕ) (ways : List Way) (chunk : ℕ)
+    → v ≡ index_view nests words ways
     → led_at v.table chunk ≡ None → (way_to ways chunk).place ≡ 0
-none_way v nests ways chunk seen is =
+none_way v nests words ways chunk seen is =
     ⊎_elim
     (λ some.
     let P : Option Led → Type 0 = λ o. IsSome o in
-    let has : None ≡ Some (record { hash = (way_to ways chunk).hash; generation = (way_to ways chunk).generation }) =
+    let has : None ≡ led_so words (way_to ways chunk) =
     sym is ∙ (ap (λ (u : IndexView). led_at u.table chunk) seen
-    ∙ (led_at-way ways chunk ∙ led_by-some (way_to ways chunk) some)) in
+    ∙ (led_at-way words ways chunk ∙ led_by-some words (way_to ways chunk) some)) in
     absurd (false≢true (subst P (sym has) refl)))
     (λ none. omega (arith, none))
     (cases_lt 0 (way_to ways chunk).place)
 
-pub chunk_within : (v : IndexView) (nests : ℕ) (ways : List Way) (chunk : ℕ) → v ≡ index_view nests ways
+pub chunk_within : (v : IndexView) (nests : ℕ) (words : List ℕ) (ways : List Way) (chunk : ℕ)
+    → v ≡ index_view nests words ways
     → chunk < length v.table → chunk < length ways
-chunk_within v nests ways chunk seen within =
+chunk_within v nests words ways chunk seen within =
     let P : IndexView → Type 0 = λ u. chunk < length u.table in
-    omega (arith, subst P seen within, length-map ways led_by)
+    omega (arith, subst P seen within, length-map ways (led_by words))
 
 pub place_like : (n m p q : ℕ) → n ≡ m → p ≡ q → IsPlace m q → IsPlace n p
 place_like n m p q e f is = record { nest = (let h = is.nest in omega arith); lane = (let h = is.lane in omega arith) }
@@ -139,14 +143,14 @@ clear_passed nests n0 n1 words off ways chunk way e0 e1 led some is tag =
     let counted = some_pass nests words ways chunk led some nest within nearer in
     omega (arith, word, counted)))
 
--- after clear the words and the ways agree
-pub clear_led : (nests n0 n1 : ℕ) (words off after : List ℕ) (ways : List Way) (chunk : ℕ) (way : Way) → n0 ≡ nests
+-- what clear did, in the words of the nests: the way of its chunk is lifted
+pub clear_lifted : (nests n0 n1 : ℕ) (words off after : List ℕ) (ways : List Way) (chunk : ℕ) (way : Way) → n0 ≡ nests
     → n1 ≡ nests
-    → AreLed nests words ways → IsRoomy nests ways → 0 < (way_to ways chunk).place → way ≡ way_to ways chunk
+    → AreLed nests words ways → 0 < (way_to ways chunk).place → way ≡ way_to ways chunk
     → HasNewTag n0 way.place 0 words off
     → OneMorePassed n1 (home_of n1 way.hash) (steps_to n1 (home_of n1 way.hash) (nest_of way.place)) after off
-    → AreLed nests after (set ways chunk no_way)
-clear_led nests n0 n1 words off after ways chunk way e0 e1 led roomy some is tag passed =
+    → IsLifted nests words after (way_to ways chunk)
+clear_lifted nests n0 n1 words off after ways chunk way e0 e1 led some is tag passed =
     let w = way_to ways chunk in
     let P : ℕ → Type 0 = λ n. HasNewTag n way.place 0 words off in
     let P2 : Way → Type 0 = λ v. HasNewTag nests v.place 0 words off in
@@ -154,69 +158,149 @@ clear_led nests n0 n1 words off after ways chunk way e0 e1 led roomy some is tag
     way.place)) after off in
     let Q2 : Way → Type 0 = λ v. OneMorePassed nests (home_of nests v.hash) (steps_to nests (home_of nests v.hash)
     (nest_of v.place)) after off in
-    lifted_is_led nests words after ways chunk led roomy some
-    (clear_lifts nests words off after w (led.leads chunk some).place (subst P2 is (subst P e0 tag)) (subst Q2 is
-    (subst Q e1 passed)))
+    clear_lifts nests words off after w (led.leads chunk some).place (subst P2 is (subst P e0 tag)) (subst Q2 is
+    (subst Q e1 passed))
 
--- after put the words and the ways agree
-pub put_led : (nests n0 n1 tag number : ℕ) (words counted laid tagged : List ℕ) (ways : List Way) (chunk : ℕ) (way :
-    Way) → n0 ≡ nests → n1 ≡ nests
-    → AreLed nests words ways → IsRoomy nests ways → chunk < length ways → (way_to ways chunk).place ≡ 0
-    → IsPlace nests way.place → tag_at words way.place ≡ 0
+-- what put did, in the words of the nests: one more way is laid
+pub put_laid : (nests n0 n1 tag number : ℕ) (words counted laid tagged : List ℕ) (chunk generation : ℕ) (way : Way)
+    → n0 ≡ nests → n1 ≡ nests → length words ≡ 8 * nests → IsPlace nests way.place
     → OneMorePassed n0 (home_of n0 way.hash) (steps_to n0 (home_of n0 way.hash) (nest_of way.place)) words counted
-    → laid ≡ set counted way.place number → number ≡ life_number chunk way.generation
+    → laid ≡ set counted way.place number → number ≡ life_number chunk generation
     → tag ≡ tag_of way.hash → HasNewTag n1 way.place tag laid tagged
-    → AreLed nests tagged (set ways chunk way)
-put_led nests n0 n1 tag number words counted laid tagged ways chunk way e0 e1 led roomy within none is off passed
-    laid_is number_is tag_is tagged_is =
+    → IsLaid nests words tagged chunk generation way
+put_laid nests n0 n1 tag number words counted laid tagged chunk generation way e0 e1 size is passed laid_is number_is
+    tag_is tagged_is =
     let Q : ℕ → Type 0 = λ n. OneMorePassed n (home_of n way.hash) (steps_to n (home_of n way.hash) (nest_of
     way.place)) words counted in
     let P : ℕ → Type 0 = λ n. HasNewTag n way.place tag laid tagged in
     let P2 : ℕ → Type 0 = λ t. HasNewTag nests way.place t laid tagged in
     let P3 : List ℕ → Type 0 = λ ws. HasNewTag nests way.place (tag_of way.hash) ws tagged in
-    let there : laid ≡ set counted way.place (life_number chunk way.generation) =
+    let there : laid ≡ set counted way.place (life_number chunk generation) =
     laid_is ∙ ap (λ (n : ℕ). set counted way.place n) number_is in
-    laid_is_led nests words tagged ways chunk way led roomy within none is off
-    (put_lays nests words counted tagged chunk way led.size is (subst Q e0 passed) (subst P3 there (subst P2 tag_is
-    (subst P e1 tagged_is))))
+    put_lays nests words counted tagged chunk generation way size is (subst Q e0 passed) (subst P3 there (subst P2
+    tag_is (subst P e1 tagged_is)))
 
--- what the table has after put, lead and clear
-pub table_set : (v : IndexView) (nests : ℕ) (ways : List Way) (chunk : ℕ) (way : Way) (led : Option Led)
-    → v ≡ index_view nests ways
-    → led_by way ≡ led → map led_by (set ways chunk way) ≡ set v.table chunk led
-table_set v nests ways chunk way led seen is =
-    map-set led_by ways chunk way
-    ∙ (ap (λ (o : Option Led). set (map led_by ways) chunk o) is
-    ∙ ap (λ (u : IndexView). set u.table chunk led) (sym seen))
+-- words by which each way leads to the same give the same table
+pub same_led : (before after : List ℕ) (ways : List Way)
+    → ((chunk : ℕ) → led_by after (way_to ways chunk) ≡ led_by before (way_to ways chunk))
+    → map (led_by after) ways ≡ map (led_by before) ways
+same_led before after [] same = refl
+same_led before after (way ∷ ways) same =
+    ap (λ (o : Option Led). o ∷ map (led_by after) ways) (same 0)
+    ∙ ap (λ (t : List (Option Led)). led_by before way ∷ t) (same_led before after ways (λ chunk. same (suc chunk)))
 
-pub table_led : (v : IndexView) (nests : ℕ) (ways : List Way) (old chunk generation : ℕ) (way : Way)
-    → v ≡ index_view nests ways
-    → 0 < (way_to ways old).place → way ≡ way_to ways old
-    → map led_by (set (set ways old no_way) chunk (record {
-      hash = way.hash;
-      generation = generation;
-      place =
-          way.place;
-    }))
+-- a way leads to the same where it leads nowhere, or the word at its place stays
+same_way : (before after : List ℕ) (way : Way) → (0 < way.place → get_or after way.place 0 ≡ get_or before way.place 0)
+    → led_by after way ≡ led_by before way
+same_way before after way same =
+    ⊎_elim
+    (λ some. led_by-some after way some
+    ∙ (ap (λ (n : ℕ). Some (record { hash = way.hash; generation = generation_in n })) (same some)
+    ∙ sym (led_by-some before way some)))
+    (λ none. let zero : way.place ≡ 0 = omega (arith, none) in
+    led_by-none after way zero ∙ sym (led_by-none before way zero))
+    (cases_lt 0 way.place)
+
+-- what a way leads to whose lane has a life
+led_to : (words : List ℕ) (way : Way) (chunk generation : ℕ) → 0 < way.place → chunk < 2 ^ 32
+    → get_or words way.place 0 ≡ life_number chunk generation
+    → led_by words way ≡ Some (record { hash = way.hash; generation = generation })
+led_to words way chunk generation some fits life =
+    led_by-some words way some
+    ∙ ap (λ (g : ℕ). Some (record { hash = way.hash; generation = g }))
+    (ap generation_in life ∙ life_generation chunk generation fits)
+
+-- what the table has after put
+pub table_put : (v : IndexView) (nests : ℕ) (before after : List ℕ) (ways : List Way) (chunk generation : ℕ) (way : Way)
+    → v ≡ index_view nests before ways → AreLed nests before ways → IsRoomy nests ways → chunk < length ways
+    → IsPlace nests way.place → tag_at before way.place ≡ 0 → IsLaid nests before after chunk generation way
+    → map (led_by after) (set ways chunk way)
+    ≡ set v.table chunk (Some (record { hash = way.hash; generation = generation }))
+table_put v nests before after ways chunk generation way seen led roomy within is off laid =
+    let now : Option Led = Some (record { hash = way.hash; generation = generation }) in
+    map-set (led_by after) ways chunk way
+    ∙ (ap (λ (o : Option Led). set (map (led_by after) ways) chunk o)
+    (led_to after way chunk generation (place_some nests way.place is) (omega (arith, within, roomy.few_chunks)) laid.life)
+    ∙ (ap (λ (t : List (Option Led)). set t chunk now)
+    (same_led before after ways (λ c. same_way before after (way_to ways c)
+    (λ some. laid.lives (way_to ways c).place (led.leads c some).place (laid_apart nests before ways c way led off some))))
+    ∙ ap (λ (u : IndexView). set u.table chunk now) (sym seen)))
+
+-- and after clear
+pub table_clear : (v : IndexView) (nests : ℕ) (before after : List ℕ) (ways : List Way) (chunk : ℕ)
+    → v ≡ index_view nests before ways → AreLed nests before ways → IsLifted nests before after (way_to ways chunk)
+    → map (led_by after) (set ways chunk no_way) ≡ set v.table chunk None
+table_clear v nests before after ways chunk seen led lifted =
+    map-set (led_by after) ways chunk no_way
+    ∙ (ap (λ (t : List (Option Led)). set t chunk None)
+    (same_led before after ways (λ c. same_way before after (way_to ways c)
+    (λ some. lifted.lives (way_to ways c).place (led.leads c some).place)))
+    ∙ ap (λ (u : IndexView). set u.table chunk None) (sym seen))
+
+-- the ways of the other chunks lead to the same where a lane gets another life
+lead_others : (nests number : ℕ) (words : List ℕ) (ways : List Way) (old c : ℕ) → AreLed nests words ways
+    → 0 < (way_to ways old).place
+    → led_by (set words (way_to ways old).place number) (way_to (set ways old no_way) c)
+    ≡ led_by words (way_to (set ways old no_way) c)
+lead_others nests number words ways old c led some =
+    let place = (way_to ways old).place in
+    let after = set words place number in
+    let P : Way → Type 0 = λ w. led_by after w ≡ led_by words w in
+    ⊎_elim
+    (λ same. let Q : ℕ → Type 0 = λ k. led_by after (way_to (set ways old no_way) k)
+    ≡ led_by words (way_to (set ways old no_way) k) in
+    subst Q (sym same) (subst P (sym (way_here ways old no_way (chunk_of_way ways old some))) refl))
+    (λ apart. subst P (sym (way_elsewhere ways old c no_way apart)) (same_way words after (way_to ways c)
+    (λ on. get_or-set_other words place (way_to ways c).place number 0
+    (λ e. apart (one_chunk nests words ways old c led some e)))))
+    (cases_eq c old)
+
+-- and after lead
+pub table_lead : (v : IndexView) (nests : ℕ) (words : List ℕ) (ways : List Way) (old chunk generation : ℕ)
+    → v ≡ index_view nests words ways → AreLed nests words ways → IsRoomy nests ways → 0 < (way_to ways old).place
+    → chunk < length ways
+    → let way = way_to ways old in map (led_by (set words way.place (life_number chunk generation)))
+    (set (set ways old no_way) chunk way)
     ≡ set (set v.table old None) chunk (with_generation generation (led_at v.table old))
-table_led v nests ways old chunk generation way seen some is =
-    let new : Way = record { hash = way.hash; generation = generation; place = way.place } in
-    let new_some : 0 < new.place = (let P : Way → Type 0 = λ w. 0 < w.place in subst P (sym is) some) in
-    let was : led_at v.table old ≡ Some (record { hash = way.hash; generation = way.generation }) =
-    ap (λ (u : IndexView). led_at u.table old) seen ∙ (led_at-way ways old
-    ∙ (ap (λ (w : Way). led_by w) (sym is) ∙ led_by-some way new_some)) in
-    let leads : led_by new ≡ with_generation generation (led_at v.table old) =
-    led_by-some new new_some ∙ sym (ap (λ (o : Option Led). with_generation generation o) was) in
-    map-set led_by (set ways old no_way) chunk new
-    ∙ (ap (λ (t : List (Option Led)). set t chunk (led_by new)) (map-set led_by ways old no_way)
-    ∙ (ap (λ (o : Option Led). set (set (map led_by ways) old None) chunk o) leads
+table_lead v nests words ways old chunk generation seen led roomy some within =
+    let way = way_to ways old in
+    let number = life_number chunk generation in
+    let after = set words way.place number in
+    let between = set ways old no_way in
+    let is = (led.leads old some).place in
+    let was : led_at v.table old ≡ led_so words way =
+    ap (λ (u : IndexView). led_at u.table old) seen ∙ (led_at-way words ways old ∙ led_by-some words way some) in
+    let now : led_by after way ≡ with_generation generation (led_at v.table old) =
+    led_to after way chunk generation some (omega (arith, within, roomy.few_chunks))
+    (get_or-set_same words way.place number 0 (omega (arith, led.size, is.nest)))
+    ∙ sym (ap (λ (o : Option Led). with_generation generation o) was) in
+    map-set (led_by after) between chunk way
+    ∙ (ap (λ (o : Option Led). set (map (led_by after) between) chunk o) now
+    ∙ (ap (λ (t : List (Option Led)). set t chunk (with_generation generation (led_at v.table old)))
+    (same_led words after between (λ c. lead_others nests number words ways old c led some)
+    ∙ map-set (led_by words) ways old no_way)
     ∙ ap (λ (u : IndexView). set (set u.table old None) chunk (with_generation generation (led_at v.table old))) (sym
     seen)))
 
 -- a table of chunks that have nothing
-pub none_led : (chunks : ℕ) → map led_by (replicate chunks no_way) ≡ replicate chunks None
-none_led zero = refl
-none_led (suc n) = ap (λ (t : List (Option Led)). None ∷ t) (none_led n)
+pub none_led : (words : List ℕ) (chunks : ℕ) → map (led_by words) (replicate chunks no_way) ≡ replicate chunks None
+none_led words zero = refl
+none_led words (suc n) = ap (λ (t : List (Option Led)). None ∷ t) (none_led words n)
+
+-- whether a chunk has something, by its way
+pub leads_where : (v : IndexView) (nests : ℕ) (words : List ℕ) (ways : List Way) (chunk : ℕ)
+    → v ≡ index_view nests words ways
+    → not (eqb (way_to ways chunk).place 0) ≡ is_some (led_at v.table chunk)
+leads_where v nests words ways chunk seen =
+    let way = way_to ways chunk in
+    let led : led_at v.table chunk ≡ led_by words way =
+    ap (λ (u : IndexView). led_at u.table chunk) seen ∙ led_at-way words ways chunk in
+    ⊎_elim
+    (λ some. ap not (ne_eqb way.place 0 (λ e. absurd (omega (arith, e, some))))
+    ∙ sym (ap is_some (led ∙ led_by-some words way some)))
+    (λ none. let zero : way.place ≡ 0 = omega (arith, none) in
+    ap not (eq-eqb way.place 0 zero) ∙ sym (ap is_some (led ∙ led_by-none words way zero)))
+    (cases_lt 0 way.place)
 
 -- the lowest bit of the lanes that were found is that of a lane
 pub lane_of_bits : (found : ℕ) → 0 < found → found < 2 ^ 48 → trailing_zeros w64 found / 8 < 6

@@ -27,9 +27,10 @@ tag_at words place = tag_in (slice_index words (8 * nest_of place)) (lane_of pla
 abbrev pub passed_at : List ℕ → ℕ → ℕ
 passed_at words nest = slice_index words (8 * nest + 1)
 
--- the nest at which a search for a hash begins: its upper 32 bits, scaled to the number of nests
+-- the nest at which a search for a hash begins: the hash, scaled from 2^32 to the number of nests. So its upper bits
+-- tell, and the lowest 8, of which the tag is made, only where there are more than 2^24 nests.
 abbrev pub home_of : ℕ → ℕ → ℕ
-home_of nests hash = hash / 2 ^ 32 * nests / 2 ^ 32
+home_of nests hash = hash * nests / 2 ^ 32
 
 -- the nest so many steps behind another, where the first follows the last
 abbrev pub nest_behind : ℕ → ℕ → ℕ → ℕ

@@ -1,17 +1,22 @@
 -- What contracts see of an index and of the searches in it.
-use Rattle.std.specs.Prelude.{ℕ, ◌-◌, ◌*◌, ◌≤◌, ◌==◌, Bool, false, ◌&&◌, nat_lt}
+use Rattle.std.specs.Prelude.{ℕ, ◌-◌, ◌*◌, ◌≤◌, ◌==◌, Bool, false, ◌&&◌, nat_lt, if◌then◌else◌}
 use Rattle.std.specs.Prelude.{List, slice_index, slice_index_or, Option, Some, None, map}
 use Rattle.atomic_table.specs.Seated.{TableId}
-use Rattle.cache_nests.specs.declared.led.Led.{Led}
 use Rattle.cache_nests.specs.declared.led.Way.{Way}
 use Rattle.cache_nests.specs.Tags.{lanes, tag_of}
 use Rattle.cache_nests.specs.Places.{home_of, lane_number}
-use Rattle.cache_nests.specs.Leads.{led_by}
+use Rattle.cache_nests.specs.Leads.{generation_in}
 
 -- the nests: which table's words they are, and how many
 pub record NestsView : Type 0 where
   pub table : TableId
   pub nests : ℕ
+
+-- what an index has of a chunk to which it leads: the hash of the key of the chunk's life, and which of the chunk's
+-- lives it is
+pub record Led : Type 0 where
+  pub hash : ℕ
+  pub generation : ℕ
 
 -- an index: what it leads to, by chunk; how many nests it has; and by chunk the place of its lane
 pub record IndexView : Type 0 where
@@ -29,9 +34,15 @@ pub record SearchView : Type 0 where
   pub hash : ℕ
   pub looked : ℕ
 
-abbrev pub index_view : ℕ → List Way → IndexView
-index_view nests ways = record {
-  table = map led_by ways;
+-- what a way leads to: the way has the hash, and the life in its lane the generation
+abbrev pub led_by : List ℕ → Way → Option Led
+led_by words way =
+    if way.place == 0 then None
+    else Some (record { hash = way.hash; generation = generation_in (slice_index words way.place) })
+
+abbrev pub index_view : ℕ → List ℕ → List Way → IndexView
+index_view nests words ways = record {
+  table = map (led_by words) ways;
   nests = nests;
   places = map (λ (way : Way). way.place) ways;
 }

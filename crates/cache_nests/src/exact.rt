@@ -12,7 +12,7 @@ use std::marker::Model;
 /// The writer's search for the chunks that have keys of one hash.
 #[derive(Drop)]
 pub struct ExactSearch {
-    hash: u64,
+    hash: u32,
     // so many lanes from the hash's home on
     looked: u32,
 }
@@ -27,7 +27,7 @@ impl Model for ExactSearch {
 
 impl Index {
     /// Begins a search for the chunks that have keys of this hash. It has answered none.
-    pub fn search(&self, hash: u64) -> ExactSearch
+    pub fn search(&self, hash: u32) -> ExactSearch
         ensures hash { result.hash ≡ hash }
         ensures within { IsWithin self.now result }
         ensures none { (chunk : ℕ) → has_answered self.now result chunk ≡ false }

@@ -1,9 +1,9 @@
 //! The writer's side of the index.
-ghost use Rattle.std.specs.Prelude.{◌≡◌, ◌<◌, ◌≤◌, ◌⊎◌, IfOk, IsSome, None, Some, length, replicate, slice_set};
+ghost use Rattle.std.specs.Prelude.{◌≡◌, ◌<◌, ◌≤◌, ◌⊎◌, IfOk, IsSome, None, Some, is_some, length, replicate, slice_set};
 ghost use Rattle.std.specs.Arc.{arc_value};
 ghost use Rattle.cache_nests.specs.Views.{led_at, with_generation};
 
-use crate::led::{Led, NO_WAY, Way, number_of};
+use crate::led::{NO_WAY, Way, number_of};
 use crate::nests::Nests;
 use crate::readers::IndexReader;
 use crate::tags::tag_of;
@@ -36,7 +36,7 @@ impl Model for Index {
 
     ghost Value = { IndexView };
 
-    ghost view = { λ a. index_view (arc_value a.nests).nests a.ways.items };
+    ghost view = { λ a. index_view (arc_value a.nests).nests a.pen.words a.ways.items };
 
     ghost invariant = { λ a. (a.pen.table ≡ (arc_value a.nests).table)
         × AreLed (arc_value a.nests).nests a.pen.words a.ways.items
@@ -73,17 +73,17 @@ impl Index {
         self.ways.len() as u32
     }
 
-    /// What the index has of a chunk: `None` where it doesn't lead to it. `chunk` is below the count of chunks.
-    pub fn led(&self, chunk: u32) -> Option<Led>
+    /// Whether the index leads to a chunk. `chunk` is below the count of chunks.
+    pub fn leads(&self, chunk: u32) -> bool
         requires { chunk < length self.now.table }
-        ensures { result ≡ led_at self.now.table chunk }
+        ensures { result ≡ is_some (led_at self.now.table chunk) }
     {
-        self.ways[chunk as usize].led()
+        self.ways[chunk as usize].leads()
     }
 
     /// Leads from a hash to a life. Its chunk is below the count of chunks, and the index doesn't lead to it yet.
     /// Readers find it when this returns. There is a lane for each chunk, so it is never refused.
-    pub fn put(&mut self, hash: u64, life: ItemId)
+    pub fn put(&mut self, hash: u32, life: ItemId)
         requires chunk { life.chunk < length self.old.table }
         requires anew { led_at self.old.table life.chunk ≡ None }
         ensures table { self.new.table ≡ slice_set self.old.table life.chunk
@@ -96,11 +96,7 @@ impl Index {
         self.nests.pass(&mut self.pen, hash, place);
         self.nests.set_life(&mut self.pen, place, number_of(life));
         self.nests.set_tag(&mut self.pen, place, tag_of(hash));
-        self.ways[life.chunk as usize] = Way {
-            hash,
-            generation: life.generation,
-            place,
-        };
+        self.ways[life.chunk as usize] = Way { hash, place };
     }
 
     /// Leads to a new life of the same key in place of that of the chunk `old`, by the same lane and one store: a
@@ -118,11 +114,7 @@ impl Index {
         self.nests
             .set_life(&mut self.pen, way.place, number_of(life));
         self.ways[old as usize] = NO_WAY;
-        self.ways[life.chunk as usize] = Way {
-            hash: way.hash,
-            generation: life.generation,
-            place: way.place,
-        };
+        self.ways[life.chunk as usize] = way;
     }
 
     /// Leads no more to a chunk, to which it does. Readers find it no more when this returns.

@@ -13,5 +13,4 @@ mod tests;
 
 pub use exact::ExactSearch;
 pub use index::{Index, MOST_CHUNKS};
-pub use led::Led;
 pub use readers::{IndexReader, Search};

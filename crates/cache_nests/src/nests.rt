@@ -79,16 +79,16 @@ impl Nests {
 
     /// The nest at which a search for a hash begins.
     #[inline(always)]
-    pub(crate) fn home(&self, hash: u64) -> u32
+    pub(crate) fn home(&self, hash: u32) -> u32
         ensures home { result ≡ home_of self.now.nests hash }
         ensures within { result < self.now.nests }
     {
-        ((hash >> 32) * u64::from(self.count) >> 32) as u32
+        (u64::from(hash) * u64::from(self.count) >> 32) as u32
     }
 
     /// The nest so many steps behind a hash's home.
     #[inline(always)]
-    pub(crate) fn nest(&self, hash: u64, steps: u32) -> u32
+    pub(crate) fn nest(&self, hash: u32, steps: u32) -> u32
         requires { steps < self.now.nests }
         ensures nest { result ≡ nest_behind self.now.nests (home_of self.now.nests hash) steps }
         ensures within { result < self.now.nests }
@@ -97,7 +97,7 @@ impl Nests {
     }
 
     /// How many steps it is from the hash's home to the nest that has this word, which is one of the nests'.
-    pub(crate) fn steps(&self, hash: u64, word: u32) -> u32
+    pub(crate) fn steps(&self, hash: u32, word: u32) -> u32
         requires { nest_of word < self.now.nests }
         ensures steps { result ≡ steps_to self.now.nests (home_of self.now.nests hash) (nest_of word) }
         ensures within { result < self.now.nests }
@@ -182,7 +182,7 @@ impl Nests {
 
     /// The place of the first lane that is off, on the way from the hash's home over all nests, or `None` where all
     /// lanes are on.
-    pub(crate) fn free_place(&self, pen: &mut Pen, hash: u64) -> Option<u32>
+    pub(crate) fn free_place(&self, pen: &mut Pen, hash: u32) -> Option<u32>
         requires pen { pen.old.table ≡ self.now.table }
         ensures pen { pen.new ≡ pen.old }
         ensures place { IfSome result (λ place. IsPlace self.now.nests place) }
@@ -202,7 +202,7 @@ impl Nests {
 
     /// The number of the first lane with the tag of a hash, of the lanes counted from the hash's home on, from one of them
     /// on; or `None` where none has it that a key of this hash could be in. `from` is at most the count of all lanes.
-    pub(crate) fn look(&self, pen: &mut Pen, hash: u64, from: u32) -> Option<u32>
+    pub(crate) fn look(&self, pen: &mut Pen, hash: u32, from: u32) -> Option<u32>
         requires pen { pen.old.table ≡ self.now.table }
         requires from { from ≤ lanes * self.now.nests }
         ensures pen { pen.new ≡ pen.old }
@@ -236,7 +236,7 @@ impl Nests {
     }
 
     /// A key more, by this hash, passes the nests from its home up to the one that has this place.
-    pub(crate) fn pass(&self, pen: &mut Pen, hash: u64, place: u32)
+    pub(crate) fn pass(&self, pen: &mut Pen, hash: u32, place: u32)
         requires pen { pen.old.table ≡ self.now.table }
         requires size { length pen.old.words ≡ 8 * self.now.nests }
         requires place { nest_of place < self.now.nests }
@@ -254,7 +254,7 @@ impl Nests {
     }
 
     /// A key, by this hash, passes no more the nests from its home up to the one that has this place.
-    pub(crate) fn pass_no_more(&self, pen: &mut Pen, hash: u64, place: u32)
+    pub(crate) fn pass_no_more(&self, pen: &mut Pen, hash: u32, place: u32)
         requires pen { pen.old.table ≡ self.now.table }
         requires size { length pen.old.words ≡ 8 * self.now.nests }
         requires place { nest_of place < self.now.nests }

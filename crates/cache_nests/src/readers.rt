@@ -69,7 +69,7 @@ impl IndexReader {
 
     /// Begins a search for what has a key of this hash: a load of one word. It waits for nobody and takes no memory.
     #[inline(always)]
-    pub fn search(&self, hash: u64) -> Search
+    pub fn search(&self, hash: u32) -> Search
         ensures { result.nests ≡ self.now }
     {
         let nests = self.nests.count();

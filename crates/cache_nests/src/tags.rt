@@ -20,12 +20,12 @@ const HIGH_BITS: u64 = 0x0000_8080_8080_8080;
 
 /// The tag of a hash, by its lowest 8 bits: 1 to 255, since 0 says that a lane is off.
 #[inline(always)]
-pub(crate) fn tag_of(hash: u64) -> u64
+pub(crate) fn tag_of(hash: u32) -> u64
     ensures tag { result ≡ tag_of hash }
     ensures some { 0 < result }
     ensures narrow { result < 256 }
 {
-    let low = hash % TAG_NUMBERS;
+    let low = u64::from(hash) % TAG_NUMBERS;
     if low == 0 { 1 } else { low }
 }
 

@@ -1,5 +1,5 @@
 //! Tests of the index: random calls beside a plain list, and readers beside the writer.
-use crate::{Index, IndexReader, Led};
+use crate::{Index, IndexReader};
 use bump_rules::ItemId;
 use std::alloc::Global;
 use std::sync::atomic::AtomicBool;
@@ -10,6 +10,13 @@ use std::thread;
 /// How many random calls a test makes.
 const TURNS: u32 = 20_000;
 
+// What the plain list has of a chunk.
+#[derive(Clone, Copy)]
+struct Noted {
+    hash: u32,
+    generation: u32,
+}
+
 // The next random number after a state.
 fn random(state: &mut u64) -> u64 {
     *state = state
@@ -19,13 +26,13 @@ fn random(state: &mut u64) -> u64 {
 }
 
 // A hash with few homes and few tags, or one for all.
-fn hash_of(number: u64, hashes: u64) -> u64 {
-    (number % hashes.max(1)).wrapping_mul(0x9E37_79B9_7F4A_7C15)
+fn hash_of(number: u64, hashes: u64) -> u32 {
+    ((number % hashes.max(1)).wrapping_mul(0x9E37_79B9_7F4A_7C15) >> 32) as u32
 }
 
 // Puts a life, if its chunk has none.
-fn put(index: &mut Index, hash: u64, life: ItemId) {
-    if life.chunk < index.chunks() && index.led(life.chunk).is_none() {
+fn put(index: &mut Index, hash: u32, life: ItemId) {
+    if life.chunk < index.chunks() && !index.leads(life.chunk) {
         index.put(hash, life);
     }
 }
@@ -33,14 +40,14 @@ fn put(index: &mut Index, hash: u64, life: ItemId) {
 // Leads from the hash of a chunk to another life, if that may be; and tells whether it did.
 fn lead(index: &mut Index, old: u32, life: ItemId) -> bool {
     let chunks = index.chunks();
-    if old >= chunks || life.chunk >= chunks || index.led(old).is_none() {
+    if old >= chunks || life.chunk >= chunks || !index.leads(old) {
         return false;
     }
     if old == life.chunk {
         index.lead(old, life);
         return true;
     }
-    if index.led(life.chunk).is_some() {
+    if index.leads(life.chunk) {
         return false;
     }
     index.lead(old, life);
@@ -49,20 +56,20 @@ fn lead(index: &mut Index, old: u32, life: ItemId) -> bool {
 
 // Leads no more to a chunk, if it did.
 fn clear(index: &mut Index, chunk: u32) {
-    if chunk < index.chunks() && index.led(chunk).is_some() {
+    if chunk < index.chunks() && index.leads(chunk) {
         index.clear(chunk);
     }
 }
 
 // Writes what the plain list has of a chunk.
-fn note(plain: &mut Vec<Option<Led>>, chunk: u32, led: Option<Led>) {
+fn note(plain: &mut Vec<Option<Noted>>, chunk: u32, noted: Option<Noted>) {
     if let Some(one) = plain.get_mut(chunk as usize) {
-        *one = led;
+        *one = noted;
     }
 }
 
 // Puts, leads anew or clears, and notes it in the plain list.
-fn step(index: &mut Index, plain: &mut Vec<Option<Led>>, state: &mut u64, hashes: u64) {
+fn step(index: &mut Index, plain: &mut Vec<Option<Noted>>, state: &mut u64, hashes: u64) {
     let chunks = u64::from(index.chunks().max(1));
     let chunk = (random(state) % chunks) as u32;
     let other = (random(state) % chunks) as u32;
@@ -72,17 +79,17 @@ fn step(index: &mut Index, plain: &mut Vec<Option<Led>>, state: &mut u64, hashes
         None => {
             let hash = hash_of(random(state), hashes);
             put(index, hash, ItemId { chunk, generation });
-            note(plain, chunk, Some(Led { hash, generation }));
+            note(plain, chunk, Some(Noted { hash, generation }));
         }
-        Some(led) => {
-            let hash = led.hash;
+        Some(noted) => {
+            let hash = noted.hash;
             let life = ItemId {
                 chunk: other,
                 generation,
             };
             if lead(index, chunk, life) {
                 note(plain, chunk, None);
-                note(plain, other, Some(Led { hash, generation }));
+                note(plain, other, Some(Noted { hash, generation }));
             } else if generation % 3 == 0 {
                 clear(index, chunk);
                 note(plain, chunk, None);
@@ -92,7 +99,7 @@ fn step(index: &mut Index, plain: &mut Vec<Option<Led>>, state: &mut u64, hashes
 }
 
 // How many answers of a reader's search are this life.
-fn times(reader: &IndexReader, hash: u64, chunk: u32, generation: u32) -> u32 {
+fn times(reader: &IndexReader, hash: u32, chunk: u32, generation: u32) -> u32 {
     let mut search = reader.search(hash);
     let mut count = 0u32;
     while let Some(life) = search.next(reader) {
@@ -104,7 +111,7 @@ fn times(reader: &IndexReader, hash: u64, chunk: u32, generation: u32) -> u32 {
 }
 
 // How many answers of the writer's search are this life.
-fn exact_times(index: &mut Index, hash: u64, chunk: u32, generation: u32) -> u32 {
+fn exact_times(index: &mut Index, hash: u32, chunk: u32, generation: u32) -> u32 {
     let mut search = index.search(hash);
     let mut count = 0u32;
     while let Some(life) = index.next_of(&mut search) {
@@ -115,28 +122,24 @@ fn exact_times(index: &mut Index, hash: u64, chunk: u32, generation: u32) -> u32
     count
 }
 
-// What the index has of a chunk.
-fn led(index: &Index, chunk: u32) -> Option<Led> {
-    if chunk < index.chunks() {
-        index.led(chunk)
-    } else {
-        None
-    }
+// Whether the index leads to a chunk.
+fn leads(index: &Index, chunk: u32) -> bool {
+    chunk < index.chunks() && index.leads(chunk)
 }
 
 // In how many chunks the index isn't as the plain list.
-fn differences(index: &mut Index, reader: &IndexReader, plain: &[Option<Led>]) -> u32 {
+fn differences(index: &mut Index, reader: &IndexReader, plain: &[Option<Noted>]) -> u32 {
     let mut count = 0u32;
     let mut chunk = 0u32;
     for one in plain {
         let is_found = match *one {
             None => true,
-            Some(led) => {
-                times(reader, led.hash, chunk, led.generation) == 1
-                    && exact_times(index, led.hash, chunk, led.generation) == 1
+            Some(noted) => {
+                times(reader, noted.hash, chunk, noted.generation) == 1
+                    && exact_times(index, noted.hash, chunk, noted.generation) == 1
             }
         };
-        if led(index, chunk) != *one || !is_found {
+        if leads(index, chunk) != one.is_some() || !is_found {
             count = count.saturating_add(1);
         }
         chunk = chunk.saturating_add(1);
@@ -148,7 +151,7 @@ fn differences(index: &mut Index, reader: &IndexReader, plain: &[Option<Led>]) -
 fn run(alloc: Global, chunks: u32, hashes: u64) -> Result<u32, Fail> {
     let mut index = Index::new(alloc, chunks.min(1_000))?;
     let reader = index.reader()?;
-    let mut plain: Vec<Option<Led>> = Vec::new(alloc);
+    let mut plain: Vec<Option<Noted>> = Vec::new(alloc);
     for _chunk in 0..chunks.min(1_000) {
         plain.push(None)?;
     }

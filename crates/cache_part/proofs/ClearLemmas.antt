@@ -5,8 +5,7 @@ use Rattle.bump_steps.specs.Views.{last_word}
 use Rattle.cache_lists.specs.Counts.{CountedView}
 use Rattle.cache_lists.specs.Items.{EndsAt, IsSameClass}
 use Rattle.cache_lists.specs.Linked.{linked_at}
-use Rattle.cache_nests.specs.declared.led.Led.{Led}
-use Rattle.cache_nests.specs.Views.{led_at, IndexView}
+use Rattle.cache_nests.specs.Views.{Led, led_at, IndexView}
 use Rattle.keyed_hash.specs.declared.seed.Seed.{Seed}
 use Rattle.cache_part.specs.Parts.{generation_led, IsPart}
 use Rattle.cache_part.proofs.PartLemmas.{linked_within, part_ended}

@@ -3,8 +3,7 @@ use Rattle.std.proofs.Common.{◌≡◌, ℕ, Bool, true, false, ◌==◌, ◌||
 use Rattle.bump_steps.specs.declared.views.ClassPart.{ClassPart}
 use Rattle.bump_steps.specs.Views.{owns}
 use Rattle.cache_lists.specs.Linked.{linked_at}
-use Rattle.cache_nests.specs.declared.led.Led.{Led}
-use Rattle.cache_nests.specs.Views.{led_at}
+use Rattle.cache_nests.specs.Views.{Led, led_at}
 use Rattle.keyed_hash.specs.declared.seed.Seed.{Seed}
 use Rattle.keyed_hash.specs.Hashes.{hash_of}
 use Rattle.cache_part.specs.Keys.{key_at, HasKey}

@@ -7,8 +7,7 @@ use Rattle.bump_class.specs.Books.{BookView}
 use Rattle.cache_lists.specs.Items.{EndsAt, BeginsAt, HasRow}
 use Rattle.cache_lists.specs.Linked.{linked_at}
 use Rattle.cache_lists.proofs.Standings.{begun_linked}
-use Rattle.cache_nests.specs.declared.led.Led.{Led}
-use Rattle.cache_nests.specs.Views.{led_at, with_generation}
+use Rattle.cache_nests.specs.Views.{Led, led_at, with_generation}
 use Rattle.keyed_hash.specs.declared.seed.Seed.{Seed}
 use Rattle.keyed_hash.specs.Hashes.{hash_of}
 use Rattle.cache_part.specs.Keys.{key_at, value_at, HasKey, IsItemOf}

@@ -1,23 +1,21 @@
 -- What changes of the lists and of the index leave of a part.
-use Rattle.std.proofs.Common.{◌≡◌, ◌≢◌, ℕ, zero, suc, ◌+◌, ◌<◌, ◌≤◌, Bool, true, false, ◌==◌, ◌&&◌, nat_le, nat_lt, List, [], Option, Some, None, IsSome, IfSome, IfNone, if◌then◌else◌, length, take, replicate, get_or, slice_set, refl, sym, ap, ap₂, ◌∙◌, subst, eqb-true, eq-eqb, le-leb, lt-ltb, arith}
+use Rattle.std.proofs.Common.{◌≡◌, ℕ, zero, suc, ◌+◌, ◌<◌, ◌≤◌, Bool, true, false, ◌==◌, ◌&&◌, nat_le, nat_lt, List, [], Option, Some, None, IsSome, IfSome, IfNone, if◌then◌else◌, length, take, replicate, get_or, slice_set, refl, sym, ap, ap₂, ◌∙◌, subst, eqb-true, le-leb, lt-ltb, arith}
 use Rattle.std.proofs.lemmas.Bool.{and_parts}
 use Rattle.std.proofs.lemmas.List.{length-set, length-replicate}
 use Rattle.bump_steps.specs.declared.views.ClassPart.{ClassPart}
 use Rattle.bump_steps.specs.Views.{owns, last_word}
 use Rattle.bump_class.specs.Books.{BookView}
-use Rattle.cache_lists.specs.Items.{IsSameClass, KeepsItems, EndsAt, BeginsAt, HasRow}
+use Rattle.cache_lists.specs.Items.{KeepsItems, EndsAt, HasRow}
 use Rattle.bump_rules.specs.History.{standing_in}
 use Rattle.cache_lists.specs.Linked.{linked_standing, linked_at}
-use Rattle.cache_nests.specs.declared.led.Led.{Led}
-use Rattle.cache_nests.specs.Views.{led_at, IndexView}
+use Rattle.cache_nests.specs.Views.{Led, led_at, IndexView}
 use Rattle.keyed_hash.specs.declared.seed.Seed.{Seed}
-use Rattle.keyed_hash.specs.Hashes.{hash_of}
 use Rattle.cache_part.specs.Keys.{key_at, HasKey, IsItemOf}
 use Rattle.cache_part.specs.Looks.{LooksOnly}
 use Rattle.cache_part.specs.Parts.{generation_led, IsPart}
 use Rattle.cache_part.proofs.KeyLemmas.{words_same, key_of_row}
 use Rattle.cache_part.proofs.LookLemmas.{looks_keep}
-use Rattle.cache_part.proofs.Agreements.{led_some, led_within, agrees_same, agrees_without, agrees_with}
+use Rattle.cache_part.proofs.Agreements.{led_some, led_within, agrees_same, agrees_without}
 
 -- a chunk of the class is one of the index
 pub owned_within : (class : ClassPart) (index : List (Option Led)) → class.first ≡ 0 → class.count ≡ length index
@@ -83,10 +81,11 @@ key_begun book begun chunk label key_words row words has few c = by (chunk == c)
     by false e = words_same book.part begun.part c 0 key_words (λ i. words i c e)
         ∙ sym (ap (λ b. if b then take key_words row else key_at key_words book.part c) e)
 
--- what answers nothing only where a fact doesn't hold answers something where it does
-pub where_holds : {X : Type 0} (P E : Type 0) (it : Option X) → P → IfNone it (P → ⊥) → IfSome it (λ x. E) → E
-where_holds P E None holds none some = absurd (none holds)
-where_holds P E (Some x) holds none some = some
+-- what answers nothing only where nothing is linked answers something where something is
+pub where_some : {X : Type 0} (at : Option ℕ) (E : Type 0) (it : Option X) → IsSome at → IfNone it (at ≡ None)
+    → IfSome it (λ x. E) → E
+where_some at E None has none some = absurd (cc (subst IsSome none has))
+where_some at E (Some x) has none some = some
 
 -- it stays a part behind loads of the lists and of the index
 pub part_looked : (seed : Seed) (key_words : ℕ) (before after : BookView) (from to : IndexView)

@@ -1,17 +1,19 @@
 -- Bumps are applied, lanes have their turns and HOT and WARM are looked at, one after the other.
-use Rattle.std.proofs.Common.{◌≡◌, ℕ, zero, suc, ◌+◌, ◌<◌, List, [], ◌∷◌, length, slice_index_or, slice_set, refl, sym, subst, arith}
+use Rattle.std.proofs.Common.{◌≡◌, ℕ, zero, suc, ◌+◌, ◌<◌, true, List, [], ◌∷◌, length, slice_index_or, slice_set, refl, sym, subst, arith}
 use Rattle.bump_class.specs.Books.{BookView}
 use Rattle.bump_class.specs.Lanes.{LaneView}
 use Rattle.cache_part.specs.Tending.{DrainsEach, BalancesTimes}
 use Rattle.cache_lists.specs.Draining.{DrainsLane}
-use Rattle.cache_lists.specs.Looking.{Balances}
+use Rattle.cache_lists.specs.declared.ages.Bound.{Bound}
+use Rattle.cache_lists.specs.Ages.{Balances}
 
--- HOT and WARM were looked at once more
-pub balances_more : (count hot warm : ℕ) (before between after : BookView) → BalancesTimes count hot warm before between
-    → Balances hot warm between after → BalancesTimes (count + 1) hot warm before after
-balances_more count hot warm before between after balances once =
+-- one round more moved an item
+pub balances_more : (count : ℕ) (hot warm : Bound) (now : ℕ) (before between after : BookView)
+    → BalancesTimes count hot warm now before between → Balances hot warm now true between after
+    → BalancesTimes (count + 1) hot warm now before after
+balances_more count hot warm now before between after balances once =
     let one_more : suc count ≡ count + 1 = omega arith in
-    subst (λ n. BalancesTimes n hot warm before after) one_more (between, balances, once)
+    subst (λ n. BalancesTimes n hot warm now before after) one_more (between, balances, once)
 
 -- the first so many lanes had their turns, and the others are as they were
 abbrev pub DrainsFirst : ℕ → ℕ → ℕ → BookView → List LaneView → BookView → List LaneView → Type 0

@@ -1,9 +1,8 @@
 -- What of a part's view stays.
-use Rattle.std.proofs.Common.{◌≡◌, ℕ, List, Option, None, Some, IfNone, refl, sym, ap, ap₂, ◌∙◌}
+use Rattle.std.proofs.Common.{◌≡◌, ℕ, List, Option, None, Some, IfNone, ap, ap₂, ◌∙◌}
 use Rattle.cache_lists.specs.declared.evictions.Evictions.{Evictions}
 use Rattle.cache_lists.specs.Counts.{CountedView}
-use Rattle.cache_nests.specs.declared.led.Led.{Led}
-use Rattle.cache_nests.specs.Views.{IndexView}
+use Rattle.cache_nests.specs.Views.{Led, IndexView}
 use Rattle.cache_part.specs.Parts.{PartView, counted}
 
 -- a part with other lists and another index

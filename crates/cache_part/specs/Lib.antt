@@ -12,12 +12,12 @@ pub use Rattle.bump_class.specs.Sweeps
 pub use Rattle.bump_links.specs.Lists as LinksLists
 pub use Rattle.bump_rules.specs.Lists
 pub use Rattle.bump_steps.specs.Views
+pub use Rattle.cache_lists.specs.Ages
 pub use Rattle.cache_lists.specs.Counts
 pub use Rattle.cache_lists.specs.Draining
 pub use Rattle.cache_lists.specs.Freeing
 pub use Rattle.cache_lists.specs.Items
 pub use Rattle.cache_lists.specs.Linked
-pub use Rattle.cache_lists.specs.Looking
 pub use Rattle.cache_lists.specs.Rescues
 pub use Rattle.cache_lists.specs.Segments
 pub use Rattle.cache_nests.specs.Views as NestsViews

@@ -6,8 +6,7 @@ use Rattle.cache_lists.specs.declared.flow.Flow.{Flow}
 use Rattle.cache_lists.specs.declared.evictions.Evictions.{Evictions}
 use Rattle.cache_lists.specs.Counts.{CountedView}
 use Rattle.cache_lists.specs.Linked.{linked_at}
-use Rattle.cache_nests.specs.declared.led.Led.{Led}
-use Rattle.cache_nests.specs.Views.{led_at}
+use Rattle.cache_nests.specs.Views.{Led, led_at}
 use Rattle.keyed_hash.specs.declared.seed.Seed.{Seed}
 use Rattle.keyed_hash.specs.Hashes.{hash_of}
 use Rattle.cache_part.specs.Keys.{key_at, HasKey, IsItemOf}

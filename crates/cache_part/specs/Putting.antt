@@ -16,8 +16,7 @@ use Rattle.cache_lists.specs.Items.{victim, EndsAt, BeginsAt, HasRow}
 use Rattle.cache_lists.specs.Linked.{linked_at}
 use Rattle.cache_lists.specs.Rescues.{Evicts}
 use Rattle.cache_lists.specs.Segments.{SameSegments}
-use Rattle.cache_nests.specs.declared.led.Led.{Led}
-use Rattle.cache_nests.specs.Views.{led_at, with_generation}
+use Rattle.cache_nests.specs.Views.{Led, led_at, with_generation}
 use Rattle.cache_part.specs.Keys.{words_from}
 use Rattle.cache_part.specs.Looks.{LooksOnly}
 use Rattle.cache_part.specs.Parts.{PartView}

@@ -1,12 +1,14 @@
 -- What tending a part comes to.
-use Rattle.std.specs.Prelude.{◌≡◌, ℕ, zero, suc, List, [], ◌∷◌}
+use Rattle.std.specs.Prelude.{◌≡◌, ℕ, zero, suc, ◌≤◌, ◌⊎◌, true, false, List, [], ◌∷◌}
 use Rattle.bump_rules.specs.Caches.{looks}
 use Rattle.bump_rules.specs.declared.items.Head.{Head}
 use Rattle.bump_class.specs.Books.{BookView}
 use Rattle.bump_class.specs.Lanes.{LaneView}
 use Rattle.bump_class.specs.Sweeps.{Sweeps}
 use Rattle.cache_lists.specs.Draining.{DrainsLane}
-use Rattle.cache_lists.specs.Looking.{Balances}
+use Rattle.cache_lists.specs.declared.ages.Bound.{Bound}
+use Rattle.cache_lists.specs.declared.ages.Bounds.{Bounds}
+use Rattle.cache_lists.specs.Ages.{Balances, SeesColdAge, hot_bound, warm_bound}
 
 -- each lane has its turn, with the Book that the one before left; they stay as many
 abbrev pub DrainsEach : ℕ → ℕ → BookView → List LaneView → BookView → List LaneView → Type 0
@@ -15,23 +17,38 @@ DrainsEach most now book (from ∷ more) left (to ∷ rest) = (between : BookVie
     × DrainsLane most now book from between to × DrainsEach most now between more left rest
 DrainsEach most now book from left to = ⊥
 
--- HOT and WARM are looked at so many times
-abbrev pub BalancesTimes : ℕ → ℕ → ℕ → BookView → BookView → Type 0
-BalancesTimes zero hot warm before after = after ≡ before
-BalancesTimes (suc count) hot warm before after =
-    (between : BookView) × BalancesTimes count hot warm before between × Balances hot warm between after
+-- so many rounds of looks at HOT and WARM, each of which moved an item
+abbrev pub BalancesTimes : ℕ → Bound → Bound → ℕ → BookView → BookView → Type 0
+BalancesTimes zero hot warm now before after = after ≡ before
+BalancesTimes (suc count) hot warm now before after =
+    (between : BookView) × BalancesTimes count hot warm now before between × Balances hot warm now true between after
 
--- HOT and WARM are looked at as often as a tend does.
-pub record BalancesOften (hot warm : ℕ) (before after : BookView) : Type 0 where
-  pub count : ℕ
-  pub often : count ≡ looks
-  pub balances : BalancesTimes count hot warm before after
+-- HOT and WARM are looked at in rounds, at most so many: fewer only where one more round moved nothing
+pub record BalancesUpTo (most : ℕ) (hot warm : Bound) (now : ℕ) (before after : BookView) : Type 0 where
+  pub rounds : ℕ
+  pub few : rounds ≤ most
+  pub between : BookView
+  pub moved : BalancesTimes rounds hot warm now before between
+  pub ends : ((rounds ≡ most) × (after ≡ between)) ⊎ Balances hot warm now false between after
+
+-- The age of COLD is looked at, and then HOT and WARM, by the bounds that follow.
+pub record BalancesByAge (most : ℕ) (bounds : Bounds) (now : ℕ) (before after : BookView) : Type 0 where
+  pub age : ℕ
+  pub seen : BookView
+  pub sees : SeesColdAge age now before seen
+  pub balances : BalancesUpTo most (hot_bound bounds age) (warm_bound bounds age) now seen after
+
+-- as a tend does
+pub record BalancesOften (bounds : Bounds) (now : ℕ) (before after : BookView) : Type 0 where
+  pub most : ℕ
+  pub often : most ≡ looks
+  pub balances : BalancesByAge most bounds now before after
 
 -- The lanes have their turns, ended items are swept, and then HOT and WARM are looked at.
-pub record Tends (most now hot warm : ℕ) (before : BookView) (from : List LaneView) (after : BookView)
+pub record Tends (most now : ℕ) (bounds : Bounds) (before : BookView) (from : List LaneView) (after : BookView)
     (to : List LaneView) : Type 0 where
   pub drained : BookView
   pub drains : DrainsEach most now before from drained to
   pub swept : BookView
   pub sweeps : (freed : ℕ) × (heads : ℕ → Head) × Sweeps drained freed swept heads
-  pub balances : BalancesOften hot warm swept after
+  pub balances : BalancesOften bounds now swept after

@@ -26,7 +26,7 @@ pub(crate) fn clear<N: Name, L: RowLaw>(
     ensures evictions { lists.new.evictions ≡ lists.old.evictions }
 {
     for chunk in 0..index.chunks() {
-        if index.led(chunk).is_some() {
+        if index.leads(chunk) {
             ending::end_led(lists, index, chunk);
         }
     }

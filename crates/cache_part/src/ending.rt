@@ -1,5 +1,5 @@
 //! The item of a key ends.
-ghost use Rattle.std.specs.Prelude.{◌≡◌, ℕ, ◌<◌, ◌≤◌, IfSome, IfNone, IsSome, None, Some, true, length, slice_set};
+ghost use Rattle.std.specs.Prelude.{◌≡◌, ℕ, ◌<◌, ◌≤◌, IfSome, IfNone, IsSome, None, true, length, slice_set};
 ghost use Rattle.bump_rules.specs.Lists.{all_without};
 ghost use Rattle.bump_steps.specs.Views.{owns};
 ghost use Rattle.cache_lists.specs.Items.{EndsAt};
@@ -12,26 +12,25 @@ ghost use Rattle.cache_part.specs.Parts.{IsPart, generation_led};
 
 use crate::finding;
 use bump_heads::Name;
-use bump_rules::ItemId;
 use bump_steps::RowLaw;
 use cache_lists::CountedBook;
 use cache_nests::Index;
 use keyed_hash::Seed;
 
-// Ends an item to which the index leads no more.
+// Ends the item of a chunk to which the index leads no more.
 pub(crate) fn end_unled<N: Name, L: RowLaw>(
     lists: &mut CountedBook<N, L>,
     _index: &Index,
-    id: ItemId,
+    chunk: u32,
 )
-    requires unled { led_at _index.now.table id.chunk ≡ None }
-    requires own { owns id.chunk lists.old.book.part ≡ true }
-    requires linked { linked_at lists.old.book.part id.chunk ≡ Some id.generation }
-    ensures ends { EndsAt id.chunk lists.old.book lists.new.book }
-    ensures others { SameSegments (all_without id.chunk lists.old.book.lists) lists.new.book.lists }
+    requires unled { led_at _index.now.table chunk ≡ None }
+    requires own { owns chunk lists.old.book.part ≡ true }
+    requires linked { IsSome (linked_at lists.old.book.part chunk) }
+    ensures ends { EndsAt chunk lists.old.book lists.new.book }
+    ensures others { SameSegments (all_without chunk lists.old.book.lists) lists.new.book.lists }
     ensures evictions { lists.new.evictions ≡ lists.old.evictions }
 {
-    lists.end(id);
+    lists.end(chunk);
 }
 
 // The index leads to the item of a chunk no more, and then the item ends.
@@ -49,12 +48,8 @@ pub(crate) fn end_led<N: Name, L: RowLaw>(
     ensures evictions { lists.new.evictions ≡ lists.old.evictions }
     ensures table { index.new.table ≡ slice_set index.old.table chunk None }
 {
-    let Some(led) = index.led(chunk) else {
-        unreachable!()
-    };
     index.clear(chunk);
-    let generation = led.generation;
-    end_unled(lists, index, ItemId { chunk, generation });
+    end_unled(lists, index, chunk);
 }
 
 // The item of a key ends, and its chunk is told; or None where the key has none.

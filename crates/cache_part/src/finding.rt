@@ -16,7 +16,7 @@ use keyed_hash::Seed;
 #[derive(Clone, Copy)]
 pub(crate) struct Found {
     // the key's hash
-    pub(crate) hash: u64,
+    pub(crate) hash: u32,
 
     // the chunk of the key's item, if it has one
     pub(crate) chunk: Option<u32>,

@@ -13,9 +13,9 @@ mod room;
 mod stats;
 mod tending;
 
-pub use cache_lists::{Book, CountedBook, Evictions, Flow, Name, RawLane, RowLaw};
+pub use cache_lists::{Book, Bound, Bounds, CountedBook, Evictions, Flow, Name, RawLane, RowLaw};
 pub use cache_nests::{Index, IndexReader};
 pub use keyed_hash::Seed;
 pub use parts::Part;
-pub use putting::{NoRoom, Put};
+pub use putting::{NoChunk, PutItem};
 pub use stats::Stats;

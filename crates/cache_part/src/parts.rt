@@ -13,14 +13,14 @@ ghost use Rattle.cache_part.specs.Keys.{value_at, words_from};
 ghost use Rattle.cache_part.specs.Looks.{LooksOnly};
 ghost use Rattle.cache_part.specs.Parts.{PartView as ThePartView, IsPart, IsUnder, IsUnknown, IsItem, counted};
 ghost use Rattle.cache_part.specs.Putting.{MakesRoom, Puts, IsFresh, OthersStay, TellsRow, WasAnother};
-ghost use Rattle.cache_part.specs.Tending.{DrainsEach, BalancesTimes, Tends};
+ghost use Rattle.cache_part.specs.Tending.{BalancesByAge, DrainsEach, Tends};
 
-use crate::putting::{self, NoRoom, Put, Settings};
+use crate::putting::{self, NoChunk, PutItem, Settings};
 use crate::{clearing, ending, finding, reading, tending};
 use bump_class::{Book, RawLane};
 use bump_heads::Name;
 use bump_steps::{AnyRow, RowLaw};
-use cache_lists::CountedBook;
+use cache_lists::{Bounds, CountedBook};
 use cache_nests::Index;
 use keyed_hash::Seed;
 use std::marker::Model;
@@ -212,7 +212,7 @@ impl<N: Name, L: RowLaw> Part<N, L> {
     /// `evicted` has room for a row. Where an item is evicted, also where the put is refused then, the words of its key
     /// and of its value are written there. They are read before chunks come free, since the new item may be linked in
     /// its chunk. Where none is evicted `evicted` stays.
-    pub fn put(&mut self, row: &[u64], evicted: &mut [u64], now: u64) -> Result<Put, NoRoom>
+    pub fn put(&mut self, row: &[u64], evicted: &mut [u64], now: u64) -> Result<PutItem, NoChunk>
         requires words { length row.now ≡ self.old.key_words + self.old.value_words }
         requires evicted { length evicted.old ≡ self.old.key_words + self.old.value_words }
         requires law { MayHave L.law 0 row.now }
@@ -258,15 +258,14 @@ impl<N: Name, L: RowLaw> Part<N, L> {
     }
 
     /// Tends the part: the bumps that wait in the lanes are applied, lane by lane, at most `most` of each, with `now` as
-    /// their items' new time, in the caller's ticks; ended items are swept; and then the last items of HOT and WARM are
-    /// looked at `LOOKS` times each, where these have more than `hot` and `warm` items. The same items are linked, and
-    /// the index stays.
-    pub fn tend(&mut self, lanes: &mut [RawLane<N, L>], most: u32, now: u64, hot: u32, warm: u32)
-        ensures tends { Tends most now hot warm self.old.book lanes.old self.new.book lanes.new }
+    /// their items' new time, in the caller's ticks; ended items are swept; and then HOT and WARM are balanced, as
+    /// `balance` does, in `LOOKS` rounds at most. The same items are linked, and the index stays.
+    pub fn tend(&mut self, lanes: &mut [RawLane<N, L>], most: u32, now: u64, bounds: Bounds)
+        ensures tends { Tends most now bounds self.old.book lanes.old self.new.book lanes.new }
         ensures items { KeepsItems self.old.book self.new.book }
         ensures rest { self.new ≡ record self.old { book = self.new.book; flow = self.new.flow } }
     {
-        tending::tend(&mut self.lists, lanes, most, now, hot, warm);
+        tending::tend(&mut self.lists, lanes, most, now, bounds);
     }
 
     /// Applies the bumps that wait in the lanes, lane by lane, at most `most` of each, with `now` as their items' new
@@ -279,13 +278,16 @@ impl<N: Name, L: RowLaw> Part<N, L> {
         tending::drain(&mut self.lists, lanes, most, now);
     }
 
-    /// Looks at the last items of HOT and WARM `count` times each, where these have more than `hot` and `warm` items, and
-    /// moves them by the tail table: the last of what `tend` does. The same items are linked, and the index stays.
-    pub fn balance(&mut self, count: u32, hot: u32, warm: u32)
-        ensures balances { BalancesTimes count hot warm self.old.book self.new.book }
+    /// Balances HOT and WARM, as memcached's maintainer does: first the age of COLD is looked at, which is how long before
+    /// `now` its last item was used, in the caller's ticks, and 0 where COLD is empty; and then the last items of HOT and
+    /// WARM, in turn, each by its bound, in rounds, until one moves nothing, at most `most`. An ACTIVE one loses that, and
+    /// goes to the front of WARM; another goes to COLD where its list has more items than `bounds` say, or where it was
+    /// used longer ago than so many percent of COLD's age. The same items are linked, and the index stays.
+    pub fn balance(&mut self, most: u32, bounds: Bounds, now: u64)
+        ensures balances { BalancesByAge most bounds now self.old.book self.new.book }
         ensures items { KeepsItems self.old.book self.new.book }
         ensures rest { self.new ≡ record self.old { book = self.new.book; flow = self.new.flow } }
     {
-        tending::balance(&mut self.lists, count, hot, warm);
+        tending::balance(&mut self.lists, most, bounds, now);
     }
 }

@@ -20,7 +20,7 @@ use keyed_hash::Seed;
 
 /// What a put came to.
 #[derive(Clone, Copy, Debug, PartialEq, Eq)]
-pub struct Put {
+pub struct PutItem {
     /// The chunk of the new item.
     pub chunk: u32,
 
@@ -32,9 +32,9 @@ pub struct Put {
 }
 
 /// A put was refused, since no chunk was free, also where the chunks had come free of ended items that nobody held any
-/// more.
+/// more. A chunk whose generations are used up comes free no more.
 #[derive(Clone, Copy, Debug, PartialEq, Eq)]
-pub struct NoRoom {
+pub struct NoChunk {
     /// The chunk of the item that was evicted, if one was.
     pub evicted: Option<u32>,
 }
@@ -124,7 +124,7 @@ pub(crate) fn put_item<N: Name, L: RowLaw>(
     row: &[u64],
     told: &mut [u64],
     now: u64,
-) -> Result<Put, NoRoom>
+) -> Result<PutItem, NoChunk>
     requires part { IsPart settings.seed settings.key_words lists.old.book.part index.old.table }
     requires words { length row.now ≡ settings.key_words + settings.value_words }
     requires told { length told.old ≡ settings.key_words + settings.value_words }
@@ -164,9 +164,9 @@ pub(crate) fn put_item<N: Name, L: RowLaw>(
     let room = make_room(lists, index, settings, row, told);
     let evicted = room.evicted;
     let Some(id) = replacing::link(lists, index, room.found, row, now) else {
-        return Err(NoRoom { evicted });
+        return Err(NoChunk { evicted });
     };
-    Ok(Put {
+    Ok(PutItem {
         chunk: id.chunk,
         old: room.found.chunk,
         evicted,

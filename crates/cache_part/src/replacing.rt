@@ -1,5 +1,5 @@
 //! An item is linked, and the index leads to it in place of the key's old one.
-ghost use Rattle.std.specs.Prelude.{◌≡◌, ℕ, ◌<◌, ◌≤◌, IfSome, IfNone, IsSome, None, true, length, slice_set};
+ghost use Rattle.std.specs.Prelude.{◌≡◌, ℕ, ◌<◌, ◌≤◌, IfSome, IfNone, IsSome, None, true, length};
 ghost use Rattle.bump_class.specs.Links.{MayHave};
 ghost use Rattle.bump_links.specs.Lists.{first_of};
 ghost use Rattle.bump_rules.specs.Lists.{all_without};
@@ -37,16 +37,9 @@ fn replace<N: Name, L: RowLaw>(
     ensures evictions { lists.new.evictions ≡ lists.old.evictions }
     ensures table { (hash : ℕ) → index.new.table ≡ leads_anew hash (Some old) id index.old.table }
 {
-    let Some(led) = index.led(old) else {
-        unreachable!()
-    };
     // First the index leads to the new item: a reader that comes by finds the one or the other.
     index.lead(old, id);
-    let ended = ItemId {
-        chunk: old,
-        generation: led.generation,
-    };
-    end_unled(lists, index, ended);
+    end_unled(lists, index, old);
 }
 
 // Links an item with this row, and tells it; or None where no chunk is free. The index leads to it, in place of the

@@ -1,13 +1,13 @@
 //! A part is tended: the bumps that wait are applied, and its lists are looked at.
 ghost use Rattle.std.specs.Prelude.{◌≡◌};
 ghost use Rattle.cache_lists.specs.Items.{KeepsItems};
-ghost use Rattle.cache_part.specs.Tending.{DrainsEach, BalancesTimes, BalancesOften, Tends};
+ghost use Rattle.cache_part.specs.Tending.{BalancesByAge, BalancesOften, BalancesUpTo, DrainsEach, Tends};
 
 use bump_class::RawLane;
 use bump_heads::Name;
-use bump_rules::{LOOKS, Tail};
+use bump_rules::LOOKS;
 use bump_steps::RowLaw;
-use cache_lists::CountedBook;
+use cache_lists::{Bound, Bounds, CountedBook};
 
 // Applies the bumps that wait in the lanes, lane by lane, at most `most` of each.
 pub(crate) fn drain<N: Name, L: RowLaw>(
@@ -25,30 +25,47 @@ pub(crate) fn drain<N: Name, L: RowLaw>(
     }
 }
 
-// Looks at the last items of HOT and WARM so many times, where these have more than so many.
-pub(crate) fn balance<N: Name, L: RowLaw>(
+// Looks at the last items of HOT and WARM, each by its bound, in rounds, until one moves nothing, at most so many.
+fn balance_by<N: Name, L: RowLaw>(
     lists: &mut CountedBook<N, L>,
-    count: u32,
-    hot: u32,
-    warm: u32,
+    most: u32,
+    hot: Bound,
+    warm: Bound,
+    now: u64,
 )
-    ensures balances { BalancesTimes count hot warm lists.old.book lists.new.book }
+    ensures balances { BalancesUpTo most hot warm now lists.old.book lists.new.book }
     ensures kept { KeepsItems lists.old.book lists.new.book }
     ensures evictions { lists.new.evictions ≡ lists.old.evictions }
 {
-    for _look in 0..count {
-        lists.look_over(Tail::Hot, hot);
-        lists.look_over(Tail::Warm, warm);
+    for _round in 0..most {
+        if !lists.balance(hot, warm, now) {
+            return;
+        }
     }
 }
 
-// Looks at them as often as a tend does.
-fn balance_often<N: Name, L: RowLaw>(lists: &mut CountedBook<N, L>, hot: u32, warm: u32)
-    ensures balances { BalancesOften hot warm lists.old.book lists.new.book }
+// Looks at the age of COLD, and then at HOT and WARM, by the bounds that follow.
+pub(crate) fn balance<N: Name, L: RowLaw>(
+    lists: &mut CountedBook<N, L>,
+    most: u32,
+    bounds: Bounds,
+    now: u64,
+)
+    ensures balances { BalancesByAge most bounds now lists.old.book lists.new.book }
     ensures kept { KeepsItems lists.old.book lists.new.book }
     ensures evictions { lists.new.evictions ≡ lists.old.evictions }
 {
-    balance(lists, LOOKS, hot, warm);
+    let age = lists.cold_age(now);
+    balance_by(lists, most, bounds.of_hot(age), bounds.of_warm(age), now);
+}
+
+// So does a tend.
+fn balance_often<N: Name, L: RowLaw>(lists: &mut CountedBook<N, L>, bounds: Bounds, now: u64)
+    ensures balances { BalancesOften bounds now lists.old.book lists.new.book }
+    ensures kept { KeepsItems lists.old.book lists.new.book }
+    ensures evictions { lists.new.evictions ≡ lists.old.evictions }
+{
+    balance(lists, LOOKS, bounds, now);
 }
 
 // The whole turn of a part.
@@ -57,14 +74,13 @@ pub(crate) fn tend<N: Name, L: RowLaw>(
     lanes: &mut [RawLane<N, L>],
     most: u32,
     now: u64,
-    hot: u32,
-    warm: u32,
+    bounds: Bounds,
 )
-    ensures tends { Tends most now hot warm lists.old.book lanes.old lists.new.book lanes.new }
+    ensures tends { Tends most now bounds lists.old.book lanes.old lists.new.book lanes.new }
     ensures kept { KeepsItems lists.old.book lists.new.book }
     ensures evictions { lists.new.evictions ≡ lists.old.evictions }
 {
     drain(lists, lanes, most, now);
     lists.sweep();
-    balance_often(lists, hot, warm);
+    balance_often(lists, bounds, now);
 }

@@ -1,36 +1,13 @@
--- Looks at chunks: what they come to, and how few steps they make.
-use Rattle.std.proofs.Common.{◌≡◌, ℕ, zero, suc, ◌+◌, ◌≤◌, List, ◌++◌, Ok, refl, ap, ◌∙◌, sym, subst, arith, append_assoc, cond, Bool}
+-- Looks at chunks: what they come to.
+use Rattle.std.proofs.Common.{◌≡◌, ℕ, zero, suc, List, Ok, refl, sym, subst}
 use Rattle.bump_rules.specs.declared.configs.Config.{Config}
 use Rattle.bump_rules.specs.declared.items.Head.{Head}
-use Rattle.bump_rules.specs.Totals.{how_many}
-use Rattle.bump_rules.proofs.Updates.{total_append}
 use Rattle.bump_steps.specs.declared.views.HoldPart.{HoldPart}
-use Rattle.bump_steps.specs.declared.views.OwnStep.{OwnStep}
-use Rattle.bump_parts.specs.StepCounts.{is_load, is_exchange, is_other, MakesAtMost}
+use Rattle.bump_parts.specs.StepCounts.{MakesAtMost}
 use Rattle.bump_parts.specs.Workers.{WorkerState}
 use Rattle.cache_readers.specs.Looks.{AreInVain, FindsNothing, HasOtherKey, HasWords, LooksInVain, TakesKey, WorkerGetsAny}
 use Rattle.bump_steps.specs.References.{words_in}
 use Rattle.bump_steps.specs.Rule.{RowPredicate}
-
--- what two calls make one after the other is as few as both together
-pub few_together : (loads exchanges others more_loads more_exchanges more_others : ℕ)
-    (before between after : List OwnStep) → MakesAtMost loads exchanges others before between
-    → MakesAtMost more_loads more_exchanges more_others between after
-    → MakesAtMost (loads + more_loads) (exchanges + more_exchanges) (others + more_others) before after
-few_together loads exchanges others more_loads more_exchanges more_others before between after first second =
-    record {
-      made = first.made ++ second.made;
-      grown = second.grown ∙ ap (λ (steps : List OwnStep). steps ++ second.made) first.grown
-          ∙ append_assoc before first.made second.made;
-      few_loads = how_many_both is_load loads more_loads first.few_loads second.few_loads;
-      few_exchanges = how_many_both is_exchange exchanges more_exchanges first.few_exchanges second.few_exchanges;
-      few_others = how_many_both is_other others more_others first.few_others second.few_others;
-    }
-  where
-    how_many_both : (test : OwnStep → Bool) (most more : ℕ) → how_many test first.made ≤ most
-        → how_many test second.made ≤ more → how_many test (first.made ++ second.made) ≤ most + more
-    how_many_both test most more few too =
-        omega (arith, total_append (λ (step : OwnStep). cond (test step) 1 0) first.made second.made, few, too)
 
 -- a hold of an item with another key
 pub vain_of_hold : (config : Config) (key : List ℕ) (chunk : ℕ) (before after : WorkerState) (hold : HoldPart)

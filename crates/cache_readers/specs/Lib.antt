@@ -1,6 +1,5 @@
 pub mod Looks
 pub mod Readers
-pub mod Helds
 pub use Rattle.bump_parts.specs.Gets
 pub use Rattle.bump_parts.specs.StepCounts
 pub use Rattle.bump_parts.specs.Touches

@@ -2,14 +2,12 @@
 //! nobody. Keys and values are words here, so many each.
 #![tactic(auto)]
 
-mod held;
 mod looking;
 mod readers;
 
 pub use bump_heads::{Heads, Name, ReaderHeads};
-pub use bump_parts::Worker;
+pub use bump_parts::{Hold, Worker};
 pub use bump_rules::{Accounts, ItemId};
 pub use bump_steps::RowLaw;
 pub use cache_nests::IndexReader;
-pub use held::HeldItem;
 pub use readers::WordReader;

@@ -111,7 +111,7 @@ fn look_through<N: Name, L: RowLaw>(
     worker: &mut Worker<N>,
     heads: &ReaderHeads<N, L>,
     index: &IndexReader,
-    hash: u64,
+    hash: u32,
     key: &[u64],
 ) -> Result<(Hold<N>, Head), Vain>
     requires few { length key.now ≤ N.table.slots }
@@ -136,7 +136,7 @@ pub(crate) fn find<N: Name, L: RowLaw>(
     worker: &mut Worker<N>,
     heads: &ReaderHeads<N, L>,
     index: &IndexReader,
-    hash: u64,
+    hash: u32,
     key: &[u64],
 ) -> Option<(Hold<N>, Head)>
     requires few { length key.now ≤ N.table.slots }

@@ -1,15 +1,14 @@
 //! A reader of a cache whose keys and values are words.
-ghost use Rattle.std.specs.Prelude.{◌≡◌, ◌+◌, ◌≤◌, true, false, IfSome, length};
+ghost use Rattle.std.specs.Prelude.{◌≡◌, ◌+◌, ◌≤◌, true, false, IfSome, IfNone, length};
 ghost use Rattle.std.specs.Arc.{arc_value};
 ghost use Rattle.bump_rules.specs.declared.hands.Hand.TheVariants as hand;
 ghost use Rattle.bump_rules.specs.Rings.{IsAccounts};
-ghost use Rattle.cache_readers.specs.Looks.{Finds, FindsNothing, Hits, Peeks, Sees};
+ghost use Rattle.cache_readers.specs.Looks.{Finds, FindsNothing, HasWords, Hits, Peeks, Sees};
 ghost use Rattle.cache_readers.specs.Readers.{Misses, ReaderView as TheReaderView, one_more, new_reader};
 
-use crate::held::HeldItem;
 use crate::looking::{find, read_words, touch};
 use bump_heads::{Heads, Name};
-use bump_parts::Worker;
+use bump_parts::{Hold, Worker};
 use bump_readers::ReaderHeads;
 use bump_rules::Accounts;
 use bump_steps::RowLaw;
@@ -40,9 +39,6 @@ impl<N: Name, L: RowLaw> Model for WordReader<N, L> {
 }
 
 impl<N: Name, L: RowLaw> WordReader<N, L> {
-    ghost use Rattle.std.specs.Borrow.{sem};
-    ghost use Rattle.cache_readers.specs.Helds.{EndsIfNone, hold_of, key_words_of, loan_of, reader_of};
-
     /// A reader that got nothing yet: by a worker of the store of these heads, and a reader of the index that leads to its
     /// items.
     pub fn new(
@@ -61,9 +57,9 @@ impl<N: Name, L: RowLaw> WordReader<N, L> {
         }
     }
 
-    // The words of the store's chunks.
+    /// The words of the store's chunks: what `Hold::release` and `Hold::word` of a hold of this reader take.
     #[inline(always)]
-    pub(crate) fn heads(&self) -> &ReaderHeads<N, L>
+    pub fn heads(&self) -> &ReaderHeads<N, L>
         ensures { result.now ≡ self.now.config }
     {
         &self.heads
@@ -83,7 +79,7 @@ impl<N: Name, L: RowLaw> WordReader<N, L> {
     /// put anew, removed or evicted by another thread. It answers false where the index leads to no chunk with the key,
     /// and behind the last of these searches; nothing is touched then, and `value` is as it was.
     #[inline(always)]
-    pub fn get(&mut self, hash: u64, key: &[u64], value: &mut [u64], now: u64) -> bool
+    pub fn get(&mut self, hash: u32, key: &[u64], value: &mut [u64], now: u64) -> bool
         requires few { length key.now + length value.old ≤ N.table.slots }
         ensures found { result ≡ true → Finds L.law self.old.config key.now value.new now self.old.worker
             self.new.worker }
@@ -100,28 +96,29 @@ impl<N: Name, L: RowLaw> WordReader<N, L> {
         ensures length { length value.new ≡ length value.old }
         ensures ring { self.new.worker.sender.ring ≡ self.old.worker.sender.ring }
     {
-        if let Some(mut held) = self.get_with(hash, key, now) {
-            held.read(value);
+        if let Some(mut hold) = self.hold(hash, key, now) {
+            self.read(&mut hold, key.len(), value);
+            hold.release(&self.heads);
             return true;
         }
         false
     }
 
-    /// The same, but hands the item out, held, in place of reading its value, or `None` where `get` answers false: it
-    /// searches, touches and counts as `get` does. The words of `key` are as many as a row has, or fewer.
+    /// The same, but hands out the hold of the item, whose value isn't read yet; or `None` where `get` answers false. It
+    /// searches, touches and counts as `get` does. The words of `key` are as many as a row has, or fewer. While there is
+    /// the hold its item's chunk isn't free, and keeps its words, whatever is put, removed or evicted meanwhile. It must be
+    /// spent, by `Hold::release` with `heads`.
     #[inline(always)]
-    pub fn get_with(&mut self, hash: u64, key: &[u64], now: u64) -> Option<HeldItem<'_, N, L>>
+    pub fn hold(&mut self, hash: u32, key: &[u64], now: u64) -> Option<Hold<N>>
         requires few { length key.now ≤ N.table.slots }
-        ensures* missed { sem 𝓛 (EndsIfNone N.row L.row N.Name L.RowLaw self.entry result (Misses key.now self.old)) }
-        ensures loan { IfSome result (λ held. loan_of held ≡ self.entry.ghost_name) }
-        ensures found { IfSome result (λ held. Hits L.law self.old.config key.now now self.old.worker
-            (reader_of held).worker (hold_of held)) }
-        ensures counted { IfSome result (λ held. reader_of held ≡ record self.old {
-          worker = (reader_of held).worker;
+        ensures found { IfSome result (λ hold. Hits L.law self.old.config key.now now self.old.worker self.new.worker
+            hold) }
+        ensures counted { IfSome result (λ hold. self.new ≡ record self.old {
+          worker = self.new.worker;
           hits = one_more self.old.hits;
         }) }
-        ensures key_words { IfSome result (λ held. key_words_of held ≡ length key.now) }
-        ensures ring { IfSome result (λ held. (reader_of held).worker.sender.ring ≡ self.old.worker.sender.ring) }
+        ensures missed { IfNone result (Misses key.now self.old self.new) }
+        ensures ring { self.new.worker.sender.ring ≡ self.old.worker.sender.ring }
     {
         let Some((mut hold, found)) = find(&mut self.worker, &self.heads, &self.index, hash, key)
         else {
@@ -130,13 +127,25 @@ impl<N: Name, L: RowLaw> WordReader<N, L> {
         };
         touch(&mut self.worker, &self.heads, &mut hold, found, now);
         self.hits = self.hits.saturating_add(1);
-        Some(HeldItem::new(self, hold, key.len()))
+        Some(hold)
+    }
+
+    /// Reads words of an item that is held into `words`, as many as it has, by one load each: `from` is the first one's
+    /// number in the row, behind the label. The row has so many from there on, or more. Nothing changes.
+    #[inline(always)]
+    pub fn read(&self, hold: &mut Hold<N>, from: usize, words: &mut [u64])
+        requires few { from + length words.old ≤ N.table.slots }
+        ensures read { HasWords words.new from hold.old.row }
+        ensures length { length words.new ≡ length words.old }
+        ensures same { hold.new ≡ hold.old }
+    {
+        read_words(hold, &self.heads, from, words);
     }
 
     /// Reads the value as `get` does, but the item isn't touched, and nothing is counted: so it may be evicted as if it
     /// hadn't been asked for.
     #[inline(always)]
-    pub fn peek(&mut self, hash: u64, key: &[u64], value: &mut [u64]) -> bool
+    pub fn peek(&mut self, hash: u32, key: &[u64], value: &mut [u64]) -> bool
         requires few { length key.now + length value.old ≤ N.table.slots }
         ensures found { result ≡ true → Peeks L.law self.old.config key.now value.new self.old.worker self.new.worker }
         ensures nothing { result ≡ false → FindsNothing self.old.config key.now self.old.worker self.new.worker }
@@ -156,7 +165,7 @@ impl<N: Name, L: RowLaw> WordReader<N, L> {
     /// Whether there is a value under a key: `peek` without the value. The words of `key` are as many as a row has, or
     /// fewer.
     #[inline(always)]
-    pub fn contains(&mut self, hash: u64, key: &[u64]) -> bool
+    pub fn contains(&mut self, hash: u32, key: &[u64]) -> bool
         requires few { length key.now ≤ N.table.slots }
         ensures found { result ≡ true → Sees L.law self.old.config key.now self.old.worker self.new.worker }
         ensures nothing { result ≡ false → FindsNothing self.old.config key.now self.old.worker self.new.worker }

@@ -1,16 +1,14 @@
 -- What a part keeps where its items and their words stay.
-use Rattle.std.proofs.Common.{◌≡◌, ◌≢◌, ◌↔◌, ℕ, List, Option, Some, None, IsSome, IfSome, Result, Ok, Err, IfOk, IfErr, refl, sym, ap, ap₂, ◌∙◌, subst}
+use Rattle.std.proofs.Common.{◌≡◌, ℕ, List, Option, Some, None, IsSome, IfSome, Result, Ok, Err, IfOk, IfErr, sym, ap, ap₂, ◌∙◌, subst}
 use std.Path.{fun_ext}
-use Rattle.bump_class.specs.Books.{BookView}
 use Rattle.bump_steps.specs.Rule.{RowPredicate}
-use Rattle.bump_steps.specs.Views.{last_word, last_words}
+use Rattle.bump_steps.specs.Views.{last_word}
 use Rattle.cache_lists.specs.Items.{KeepsItems}
 use Rattle.cache_lists.specs.Linked.{linked_at}
 use Rattle.cache_part.specs.Keys.{key_at, value_at}
 use Rattle.cache_part.specs.Parts.{PartView, IsUnder, IsUnknown}
-use Rattle.cache_part.specs.Putting.{row_at}
 use Rattle.cache_part.proofs.KeyLemmas.{words_same}
-use Rattle.cache_shelf.specs.Entries.{Keeps, AllKept, Evicted, IsEvicted, evicted_key}
+use Rattle.cache_shelf.specs.Entries.{Keeps, AllKept}
 use Rattle.cache_shelf.specs.Shelves.{IsLawful, Obeys}
 
 -- keys and values of both parts have as many words

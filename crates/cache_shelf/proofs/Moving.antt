@@ -1,22 +1,21 @@
 -- What is said of a change of a part, where its items move from list to list before or behind it.
-use Rattle.std.proofs.Common.{◌≡◌, ◌≢◌, ◌↔◌, ℕ, ◌+◌, List, ◌++◌, length, take, drop, Option, Some, None, IsSome, IfNone, refl, sym, ap, ap₂, ◌∙◌, subst}
+use Rattle.std.proofs.Common.{◌≡◌, ℕ, ◌+◌, List, ◌++◌, length, take, drop, Option, Some, None, IsSome, IfNone, refl, sym, ap, ap₂, ◌∙◌, subst}
 use Rattle.std.proofs.Math.Seq.{take-append_seam}
 use Rattle.bump_class.specs.Books.{BookView}
 use Rattle.bump_class.specs.Lanes.{LaneView}
 use Rattle.bump_steps.specs.Rule.{RowPredicate}
 use Rattle.bump_steps.specs.Views.{last_word}
 use Rattle.cache_lists.specs.Items.{KeepsItems}
-use Rattle.cache_lists.specs.Linked.{linked_at}
 use Rattle.cache_part.specs.Keys.{key_at, value_at, words_from}
-use Rattle.cache_part.specs.Parts.{PartView, IsItem, IsUnder, IsUnknown}
-use Rattle.cache_part.specs.Putting.{row_at}
+use Rattle.cache_part.specs.Parts.{PartView, IsItem, IsUnknown}
 use Rattle.cache_part.proofs.KeyLemmas.{words_same}
 use Rattle.cache_part.proofs.LookLemmas.{looks_keep}
 use Rattle.cache_part.specs.Tending.{DrainsEach}
-use Rattle.cache_shelf.specs.Entries.{Keeps, AllKept, Evicted, Had, IsEvicted, OnlyReads, OthersKept, evicted_key}
-use Rattle.cache_shelf.specs.Shelves.{IsLawful, Obeys}
-use Rattle.cache_shelf.specs.Turns.{OnlyMoves}
-use Rattle.cache_shelf.proofs.Keeping.{IsAlike, alike_back, key_stays, moved_all, moved_unknown, moved_under, obeys_stays, unknown_before, value_stays}
+use Rattle.cache_shelf.specs.Entries.{Keeps, AllKept, Evicted, Had, OnlyReads, OthersKept, key_of_evicted}
+use Rattle.cache_shelf.specs.Limits.{put_bumps}
+use Rattle.cache_shelf.specs.Shelves.{IsLawful, ShelfView}
+use Rattle.cache_shelf.specs.Turns.{OnlyMoves, PutsInTurn, TakesTurn}
+use Rattle.cache_shelf.proofs.Keeping.{IsAlike, alike_back, key_stays, moved_all, moved_keeps, moved_unknown, moved_under, obeys_stays, unknown_before, value_stays}
 
 -- items stay linked with their words, and keys and values have as many words
 pub record Moves (before after : PartView) : Type 0 where
@@ -77,7 +76,7 @@ module _ (before between after : PartView) (moves : Moves before between) where
   key_of c = key_stays before between c moves.alike (λ i. moves.items.words i c)
 
   -- the key of what is evicted
-  pub out_before : (evicted : Option ℕ) → evicted_key evicted between ≡ evicted_key evicted before
+  pub out_before : (evicted : Option ℕ) → key_of_evicted evicted between ≡ key_of_evicted evicted before
   out_before None = refl
   out_before (Some c) = ap Some (key_of c)
 
@@ -151,3 +150,62 @@ drains_whole most now book left items from to len drains same even long =
     whole : take len (to ++ drop (length to) items) ≡ to
     whole = ap (λ n. take n (to ++ drop (length to) items)) (sym (even ∙ long))
         ∙ take-append_seam to (drop (length to) items)
+
+-- bumps of a shelf's lanes that are applied only move items of its part
+pub drain_moves : (inside shelf : ShelfView) (drained : PartView) → inside ≡ shelf
+    → KeepsItems inside.part.book drained.book
+    → drained ≡ record inside.part { book = drained.book; flow = drained.flow } → OnlyMoves shelf.part drained
+drain_moves inside shelf drained same items rest =
+    subst (λ v. OnlyMoves v.part drained) same (record { items = items; rest = rest })
+
+-- what was done between bumps that were applied and the turn to balance, done to the shelf
+module _ {before drained mid after : PartView} (moves : OnlyMoves before drained) (turn : OnlyMoves mid after) where
+  early : Moves before drained
+  early = only_move before drained moves
+
+  late : Moves mid after
+  late = only_move mid after turn
+
+  pub kept_in_turn : (row : List ℕ) → Keeps (take drained.key_words row) (drop drained.key_words row) mid
+      → Keeps (take before.key_words row) (drop before.key_words row) after
+  kept_in_turn row kept = subst (λ n. Keeps (take n row) (drop n row) after) early.alike.key_words
+      (moved_keeps mid after late.alike late.items _ _ kept)
+
+  pub had_in_turn : (law : RowPredicate) (row : List ℕ) (told : Option ℕ) (from to : List ℕ)
+      → Had law (take drained.key_words row) told from to drained → Had law (take before.key_words row) told from to before
+  had_in_turn law row told from to had = subst (λ n. Had law (take n row) told from to before) early.alike.key_words
+      (had_before before drained mid early law _ told from to had)
+
+  pub evicted_in_turn : (law : RowPredicate) (evicted : Option ℕ) (from to : List ℕ)
+      → Evicted law evicted from to drained mid → Evicted law evicted from to before after
+  evicted_in_turn law evicted from to told = evicted_before before drained after early law evicted from to
+      (evicted_then drained mid after late law evicted from to told)
+
+  pub others_in_turn : (row : List ℕ) (evicted : Option ℕ)
+      → OthersKept (take drained.key_words row) (key_of_evicted evicted drained) drained mid
+      → OthersKept (take before.key_words row) (key_of_evicted evicted before) before after
+  others_in_turn row evicted others =
+      subst (λ n. OthersKept (take n row) (key_of_evicted evicted before) before after) early.alike.key_words
+      (subst (λ out. OthersKept (take drained.key_words row) out before after)
+      (out_before before drained after early evicted)
+      (others_before before drained after early _ _ (others_then drained mid after late _ _ others)))
+
+  pub all_in_turn : (evicted : Option ℕ) → AllKept (key_of_evicted evicted drained) drained mid
+      → AllKept (key_of_evicted evicted before) before after
+  all_in_turn evicted all =
+      subst (λ out. AllKept out before after) (out_before before drained after early evicted)
+      (all_before before drained after early _ (all_then drained mid after late _ all))
+
+-- the bumps, what was done then, and the turn, one after the other
+pub in_turn : (Does : PartView → PartView → Type 0) (now : ℕ) (inside shelf : ShelfView) (drained mid : PartView)
+    (after : ShelfView) → inside ≡ shelf
+    → DrainsEach put_bumps now inside.part.book inside.lanes drained.book after.lanes → OnlyMoves shelf.part drained
+    → Does drained mid → TakesTurn inside.limits inside.puts now mid after.part after.puts → PutsInTurn Does now shelf after
+in_turn Does now inside shelf drained mid after same drains moves does turn = record {
+  drained = drained;
+  drains = subst (λ v. DrainsEach put_bumps now v.part.book v.lanes drained.book after.lanes) same drains;
+  moves = moves;
+  did = mid;
+  does = does;
+  turn = subst (λ v. TakesTurn v.limits v.puts now mid after.part after.puts) same turn;
+}

@@ -1,14 +1,14 @@
 -- What a put of a part leaves of what it keeps.
-use Rattle.std.proofs.Common.{◌≡◌, ◌≢◌, ◌↔◌, ◌⊎◌, inl, inr, ℕ, Bool, true, false, ◌==◌, List, Option, Some, None, IsSome, IfSome, take, drop, refl, sym, ap, ◌∙◌, subst, eqb-true, eq-eqb}
+use Rattle.std.proofs.Common.{◌≡◌, ◌≢◌, ◌⊎◌, inl, inr, ℕ, Bool, true, false, ◌==◌, List, Option, Some, None, IsSome, IfSome, refl, sym, ap, ◌∙◌, subst, eqb-true, eq-eqb}
 use Rattle.bump_class.specs.Links.{MayHave}
 use Rattle.bump_steps.specs.Rule.{RowPredicate}
 use Rattle.bump_steps.specs.Views.{last_word, last_words}
 use Rattle.cache_lists.specs.Items.{HasRow}
 use Rattle.cache_lists.specs.Linked.{linked_at}
-use Rattle.cache_part.specs.Keys.{key_at, value_at}
+use Rattle.cache_part.specs.Keys.{key_at}
 use Rattle.cache_part.specs.Parts.{PartView, IsItem, IsPart, IsUnder, IsUnknown}
-use Rattle.cache_part.specs.Putting.{IsFresh, OthersStay, TellsRow, WasAnother, row_at}
-use Rattle.cache_shelf.specs.Entries.{Keeps, AllKept, Evicted, IsEvicted, OthersKept, evicted_key}
+use Rattle.cache_part.specs.Putting.{IsFresh, OthersStay, TellsRow, WasAnother}
+use Rattle.cache_shelf.specs.Entries.{Keeps, AllKept, Evicted, OthersKept, key_of_evicted}
 use Rattle.cache_shelf.specs.Shelves.{IsLawful, Obeys}
 use Rattle.cache_shelf.proofs.Keeping.{IsAlike, alike_back, key_stays, keeps_stays, obeys_stays}
 
@@ -47,7 +47,7 @@ module _ (key : List ℕ) (before after : PartView) (chunk : ℕ) (old evicted :
   was_linked c new some = others.linked c new (not_old c some) (not_evicted c new some)
 
   -- under each other key stays what was there
-  pub put_others : OthersKept key (evicted_key evicted before) before after
+  pub put_others : OthersKept key (key_of_evicted evicted before) before after
   put_others other value differs not_out = (forth, back)
     where
       forth : Keeps other value before → Keeps other value after
@@ -55,7 +55,7 @@ module _ (key : List ℕ) (before after : PartView) (chunk : ℕ) (old evicted :
           (λ i. others.words i kept.chunk new)
         where
           out : evicted ≢ Some kept.chunk
-          out same = not_out (ap (λ e. evicted_key e before) same ∙ ap Some kept.under.key)
+          out same = not_out (ap (λ e. key_of_evicted e before) same ∙ ap Some kept.under.key)
 
           old_one : old ≢ Some kept.chunk
           old_one same = differs (sym kept.under.key ∙ (subst (λ o. IsItem key o before) same was_old).key)
@@ -140,14 +140,14 @@ module _ (before after : PartView) (evicted : Option ℕ) (alike : IsAlike befor
   words c i = others.words i c (λ e. absurd (cc e))
 
   -- under each other key stays what was there
-  pub refused_others : AllKept (evicted_key evicted before) before after
+  pub refused_others : AllKept (key_of_evicted evicted before) before after
   refused_others other value not_out = (forth, back)
     where
       forth : Keeps other value before → Keeps other value after
       forth kept = keeps_stays other value before after alike kept (still kept.chunk (stays kept)) (words kept.chunk)
         where
           stays : (kept : Keeps other value before) → evicted ≢ Some kept.chunk
-          stays kept same = not_out (ap (λ e. evicted_key e before) same ∙ ap Some kept.under.key)
+          stays kept same = not_out (ap (λ e. key_of_evicted e before) same ∙ ap Some kept.under.key)
 
       back : Keeps other value after → Keeps other value before
       back kept = keeps_stays other value after before (alike_back before after alike) kept

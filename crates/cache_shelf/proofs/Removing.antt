@@ -1,9 +1,10 @@
 -- What a removal leaves of what a part keeps.
-use Rattle.std.proofs.Common.{◌≡◌, ◌≢◌, ◌↔◌, ℕ, List, Option, Some, None, IsSome, IfSome, IfNone, if◌then◌else◌, ◌==◌, refl, sym, ap, ◌∙◌, subst, eq-eqb, ne_eqb}
+use Rattle.std.proofs.Common.{◌≡◌, ◌≢◌, ℕ, List, Option, Some, None, IsSome, IfSome, IfNone, if◌then◌else◌, ◌==◌, refl, sym, ap, ◌∙◌, subst, eq-eqb, ne_eqb}
+use Rattle.bump_rules.specs.Lists.{all_without}
 use Rattle.bump_steps.specs.Rule.{RowPredicate}
-use Rattle.bump_steps.specs.Views.{last_word}
-use Rattle.cache_lists.specs.Items.{EndsAt, KeepsItems}
+use Rattle.cache_lists.specs.Items.{EndsAt}
 use Rattle.cache_lists.specs.Linked.{linked_at}
+use Rattle.cache_lists.specs.Segments.{SameSegments}
 use Rattle.cache_lists.proofs.Standings.{ends_kept}
 use Rattle.cache_part.specs.Keys.{key_at}
 use Rattle.cache_part.specs.Looks.{LooksOnly}
@@ -11,7 +12,7 @@ use Rattle.cache_part.specs.Parts.{PartView, IsItem, IsPart, IsUnder, IsUnknown}
 use Rattle.cache_part.specs.Putting.{OthersStay}
 use Rattle.cache_part.proofs.Agreements.{some_without}
 use Rattle.cache_part.proofs.LookLemmas.{looks_keep, looks_then}
-use Rattle.cache_shelf.specs.Entries.{AllKept, OthersKept, evicted_key}
+use Rattle.cache_shelf.specs.Entries.{OthersKept, key_of_evicted}
 use Rattle.cache_shelf.specs.Shelves.{IsLawful}
 use Rattle.cache_shelf.proofs.Keeping.{IsAlike, key_stays, moved_unknown}
 use Rattle.cache_shelf.proofs.Putting.{refused_others, refused_lawful}
@@ -64,7 +65,7 @@ module _ (key : List ℕ) (before after : PartView) (alike : IsAlike before afte
       refused_others before after told alike (stay told ends looks) (was told found) (gone told ends) other value
       (is_other told found)
     where
-      is_other : (it : Option ℕ) → IfSome it (λ c. IsUnder key c before) → evicted_key it before ≢ Some other
+      is_other : (it : Option ℕ) → IfSome it (λ c. IsUnder key c before) → key_of_evicted it before ≢ Some other
       is_other None under same = absurd (cc same)
       is_other (Some c) under same =
           let one : key_at before.key_words before.book.part c ≡ other = cc in differs (sym one ∙ under.key)
@@ -89,6 +90,14 @@ pub ends_then : (told : Option ℕ) (before between after : PartView) → IfSome
 ends_then None before between after ends looks = tt
 ends_then (Some c) before between after ends looks =
     ends_kept before.book between.book after.book c ends (looks_keep between.book after.book looks)
+
+-- and so do the lists of the other items stay
+pub lists_then : (told : Option ℕ) (before between after : PartView)
+    → IfSome told (λ c. SameSegments (all_without c before.book.lists) between.book.lists)
+    → LooksOnly between.book after.book → IfSome told (λ c. SameSegments (all_without c before.book.lists) after.book.lists)
+lists_then None before between after same looks = tt
+lists_then (Some c) before between after same looks =
+    subst (SameSegments (all_without c before.book.lists)) (sym (ap (λ b. b.lists) looks)) same
 
 -- loads, and then more of them
 pub looks_more : (told : Option ℕ) (before between after : PartView) → IfNone told (LooksOnly before.book between.book)

@@ -1,5 +1,5 @@
 -- What a part keeps, as a table of keys and values: each is a list of words.
-use Rattle.std.specs.Prelude.{◌≡◌, ◌≢◌, ◌↔◌, ℕ, List, Option, None, Some, IsSome, option_map, take, drop}
+use Rattle.std.specs.Prelude.{◌≡◌, ◌≢◌, ◌↔◌, ℕ, List, Option, None, Some, IsSome, option_map}
 use Rattle.bump_links.specs.Lists.{first_of}
 use Rattle.bump_steps.specs.Rule.{RowPredicate}
 use Rattle.cache_lists.specs.Linked.{linked_at}
@@ -50,8 +50,8 @@ Evicted law None old row before after = row ≡ old
 Evicted law (Some chunk) old row before after = IsEvicted law chunk row before after
 
 -- the key of an evicted item, if one was evicted
-abbrev pub evicted_key : Option ℕ → PartView → Option (List ℕ)
-evicted_key evicted part = option_map (key_at part.key_words part.book.part) evicted
+abbrev pub key_of_evicted : Option ℕ → PartView → Option (List ℕ)
+key_of_evicted evicted part = option_map (key_at part.key_words part.book.part) evicted
 
 -- nothing changed but what the class's seat notes of its loads
 pub record OnlyReads (before after : PartView) : Type 0 where

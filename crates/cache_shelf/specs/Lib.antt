@@ -12,6 +12,7 @@ pub use Rattle.bump_steps.specs.Views
 pub use Rattle.cache_lists.specs.Counts
 pub use Rattle.cache_lists.specs.Items
 pub use Rattle.cache_lists.specs.Linked
+pub use Rattle.cache_lists.specs.Segments
 pub use Rattle.cache_part.specs.Keys
 pub use Rattle.cache_part.specs.Looks
 pub use Rattle.cache_part.specs.Parts

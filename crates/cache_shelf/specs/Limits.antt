@@ -5,6 +5,6 @@ use Rattle.std.specs.Prelude.{ℕ}
 abbrev pub put_bumps : ℕ
 put_bumps = 16
 
--- each so manieth put balances, and looks so often at the ends of HOT and WARM
+-- each so manieth put balances HOT and WARM, in so many rounds at most
 abbrev pub put_looks : ℕ
 put_looks = 8

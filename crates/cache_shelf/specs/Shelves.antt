@@ -14,6 +14,25 @@ pub record ShelfView : Type 0 where
   pub limits : Limits
   pub puts : ℕ
 
+-- items may have ended: the Book, the index, and the counts of how items went may be others; all else stays
+abbrev pub with_ended : ShelfView → ShelfView → ShelfView
+with_ended after before = record before {
+  part = record before.part { book = after.part.book; flow = after.part.flow; index = after.part.index };
+}
+
+-- an item may have been put: these may be others, and the counts of what was evicted, the lanes, and the count of puts
+abbrev pub with_put : ShelfView → ShelfView → ShelfView
+with_put after before = record before {
+  part = record before.part {
+    book = after.part.book;
+    flow = after.part.flow;
+    evictions = after.part.evictions;
+    index = after.part.index;
+  };
+  lanes = after.lanes;
+  puts = after.puts;
+}
+
 -- the law holds of the words that were stored last for this chunk
 abbrev pub Obeys : RowPredicate → PartView → ℕ → Type 0
 Obeys law part chunk = law (last_words part.book.part chunk)

@@ -2,7 +2,7 @@
 use Rattle.std.specs.Prelude.{◌≡◌, ℕ, ◌+◌, ◌<◌, ◌⊎◌}
 use Rattle.cache_lists.specs.Items.{KeepsItems}
 use Rattle.cache_part.specs.Parts.{PartView}
-use Rattle.cache_part.specs.Tending.{BalancesTimes, DrainsEach, Tends}
+use Rattle.cache_part.specs.Tending.{BalancesByAge, DrainsEach, Tends}
 use Rattle.cache_shelf.specs.declared.limits.Limits.{Limits}
 use Rattle.cache_shelf.specs.Limits.{put_bumps, put_looks}
 use Rattle.cache_shelf.specs.Shelves.{ShelfView}
@@ -12,23 +12,36 @@ pub record OnlyMoves (before after : PartView) : Type 0 where
   pub items : KeepsItems before.book after.book
   pub rest : after ≡ record before { book = after.book; flow = after.flow }
 
--- One more put is counted; and each eighth one looks at the ends of HOT and WARM, as often as there were puts since the
--- last that did.
-abbrev pub TakesTurn : Limits → ℕ → PartView → PartView → ℕ → Type 0
-TakesTurn limits puts before after left = ((puts + 1 < put_looks) × (after ≡ before) × (left ≡ puts + 1))
-    ⊎ ((puts + 1 ≡ put_looks) × BalancesTimes put_looks limits.hot limits.warm before.book after.book × (left ≡ 0))
+-- One more put is counted, and it isn't yet the one whose turn it is to balance: nothing changed.
+pub record CountsPut (puts : ℕ) (before after : PartView) (left : ℕ) : Type 0 where
+  pub early : puts + 1 < put_looks
+  pub same : after ≡ before
+  pub one_more : left ≡ puts + 1
+
+-- It is the eighth since the last that balanced: it balances HOT and WARM, in as many rounds as there were puts since
+-- then, at most; and puts are counted anew.
+pub record BalancesInTurn (limits : Limits) (puts now : ℕ) (before after : PartView) (left : ℕ) : Type 0 where
+  pub eighth : puts + 1 ≡ put_looks
+  pub balances : BalancesByAge put_looks limits.bounds now before.book after.book
+  pub moves : OnlyMoves before after
+  pub anew : left ≡ 0
+
+-- a put has its turn: it is counted, or it balances
+abbrev pub TakesTurn : Limits → ℕ → ℕ → PartView → PartView → ℕ → Type 0
+TakesTurn limits puts now before after left =
+    CountsPut puts before after left ⊎ BalancesInTurn limits puts now before after left
 
 -- First the bumps that wait are applied, at most `put_bumps` of each lane; then the part does this; and then the put has
--- its turn to balance.
+-- its turn to balance. Before and behind what the part does items only move.
 pub record PutsInTurn (Does : PartView → PartView → Type 0) (now : ℕ) (before after : ShelfView) : Type 0 where
   pub drained : PartView
   pub drains : DrainsEach put_bumps now before.part.book before.lanes drained.book after.lanes
   pub moves : OnlyMoves before.part drained
   pub did : PartView
   pub does : Does drained did
-  pub turn : TakesTurn before.limits before.puts did after.part after.puts
+  pub turn : TakesTurn before.limits before.puts now did after.part after.puts
 
 -- a shelf is tended: its part is, by the shelf's lanes and limits
 abbrev pub TendsShelf : ℕ → ShelfView → ShelfView → Type 0
-TendsShelf now before after = Tends before.limits.most now before.limits.hot before.limits.warm before.part.book
-    before.lanes after.part.book after.lanes
+TendsShelf now before after = Tends before.limits.most now before.limits.bounds before.part.book before.lanes
+    after.part.book after.lanes

@@ -1,17 +1,19 @@
 //! Items as entries of a table of keys and values.
-ghost use Rattle.std.specs.Prelude.{◌≡◌, ℕ, ◌+◌, ◌≤◌, IfSome, IfNone, IfOk, IfErr, Option, None, true, length, take, drop};
+ghost use Rattle.std.specs.Prelude.{◌≡◌, ◌+◌, IfSome, IfNone, IfOk, IfErr, Option, None, true, length, take, drop};
 ghost use Rattle.bump_class.specs.Links.{MayHave};
+ghost use Rattle.bump_rules.specs.Lists.{all_without};
 ghost use Rattle.bump_steps.specs.Views.{owns};
 ghost use Rattle.cache_lists.specs.Items.{EndsAt};
+ghost use Rattle.cache_lists.specs.Segments.{SameSegments};
 ghost use Rattle.cache_part.specs.Keys.{value_at};
 ghost use Rattle.cache_part.specs.Looks.{LooksOnly};
 ghost use Rattle.cache_part.specs.Parts.{IsUnknown};
-ghost use Rattle.cache_shelf.specs.Entries.{AllKept, Evicted, FindsNoRoom, Had, Keeps, OnlyReads, OthersKept, PutsEntry, evicted_key};
+ghost use Rattle.cache_shelf.specs.Entries.{AllKept, Evicted, FindsNoRoom, Had, Keeps, OnlyReads, OthersKept, PutsEntry, key_of_evicted};
 ghost use Rattle.cache_shelf.specs.Shelves.{IsLawful};
 
 use bump_heads::Name;
 use bump_steps::RowLaw;
-use cache_part::{NoRoom, Part, Put};
+use cache_part::{NoChunk, Part, PutItem};
 
 // Reads the value of a chunk of the class, where there is one.
 fn read_value<N: Name, L: RowLaw>(part: &mut Part<N, L>, chunk: Option<u32>, value: &mut [u64])
@@ -37,7 +39,7 @@ pub(crate) fn put_entry<N: Name, L: RowLaw>(
     old: &mut [u64],
     evicted: &mut [u64],
     now: u64,
-) -> Result<Put, NoRoom>
+) -> Result<PutItem, NoChunk>
     requires lawful { IsLawful L.law part.old }
     requires words { length row.now ≡ part.old.key_words + part.old.value_words }
     requires old { length old.old ≡ part.old.value_words }
@@ -49,10 +51,10 @@ pub(crate) fn put_entry<N: Name, L: RowLaw>(
     ensures had { IfOk result (λ did. Had L.law (take part.old.key_words row.now) did.old old.old old.new part.old) }
     ensures evicted { IfOk result (λ did. Evicted L.law did.evicted evicted.old evicted.new part.old part.new) }
     ensures others { IfOk result (λ did. OthersKept (take part.old.key_words row.now)
-        (evicted_key did.evicted part.old) part.old part.new) }
+        (key_of_evicted did.evicted part.old) part.old part.new) }
     ensures puts { IfOk result (λ did. PutsEntry did.old did.evicted row.now now did.chunk part.old part.new) }
     ensures evicted_refused { IfErr result (λ why. Evicted L.law why.evicted evicted.old evicted.new part.old part.new) }
-    ensures stay { IfErr result (λ why. AllKept (evicted_key why.evicted part.old) part.old part.new) }
+    ensures stay { IfErr result (λ why. AllKept (key_of_evicted why.evicted part.old) part.old part.new) }
     ensures refuses { IfErr result (λ why. FindsNoRoom (take part.old.key_words row.now) why.evicted part.old part.new) }
     ensures old_stays { IfErr result (λ why. old.new ≡ old.old) }
     ensures lengths { (length old.new ≡ length old.old) × (length evicted.new ≡ length evicted.old) }
@@ -87,6 +89,7 @@ pub(crate) fn remove_entry<N: Name, L: RowLaw>(
     ensures gone { IsUnknown key.now part.new }
     ensures others { OthersKept key.now None part.old part.new }
     ensures ends { IfSome result (λ chunk. EndsAt chunk part.old.book part.new.book) }
+    ensures lists { IfSome result (λ chunk. SameSegments (all_without chunk part.old.book.lists) part.new.book.lists) }
     ensures looks { IfNone result (LooksOnly part.old.book part.new.book) }
     ensures unchanged { IfNone result (part.new ≡ record part.old { book = part.new.book }) }
     ensures length { length old.new ≡ length old.old }

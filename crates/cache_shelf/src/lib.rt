@@ -8,7 +8,8 @@ mod shelves;
 mod turns;
 
 pub use cache_part::{
-    Book, Index, IndexReader, Name, NoRoom, Part, Put, RawLane, RowLaw, Seed, Stats,
+    Book, Bound, Bounds, Index, IndexReader, Name, NoChunk, Part, PutItem, RawLane, RowLaw, Seed,
+    Stats,
 };
 pub use limits::{Limits, PUT_BUMPS, PUT_LOOKS};
 pub use shelves::Shelf;

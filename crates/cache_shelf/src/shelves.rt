@@ -1,16 +1,18 @@
 //! A shelf: a part, the lanes of its readers' rings, and when its lists are balanced.
-ghost use Rattle.std.specs.Prelude.{◌≡◌, ◌≢◌, ℕ, List, ◌+◌, ◌<◌, ◌≤◌, IfSome, IfNone, IfOk, IfErr, Some, None, [], length, take, drop};
+ghost use Rattle.std.specs.Prelude.{◌≡◌, ℕ, List, ◌+◌, ◌<◌, ◌≤◌, IfSome, IfNone, IfOk, IfErr, None, [], length, take, drop};
 ghost use Rattle.bump_class.specs.Books.{IsBook};
 ghost use Rattle.bump_class.specs.Links.{MayHave};
+ghost use Rattle.bump_rules.specs.Lists.{all_without};
 ghost use Rattle.bump_steps.specs.Views.{last_word};
 ghost use Rattle.cache_lists.specs.Counts.{IsFlow, SegmentsAddUp};
 ghost use Rattle.cache_lists.specs.Items.{EndsAt};
-ghost use Rattle.cache_part.specs.Parts.{PartView as ThePartView, IsPart, IsUnknown};
+ghost use Rattle.cache_lists.specs.Segments.{SameSegments};
+ghost use Rattle.cache_part.specs.Parts.{IsPart, IsUnknown};
 ghost use Rattle.cache_part.specs.Stats.{stats_of};
 ghost use Rattle.cache_part.specs.Looks.{LooksOnly};
 ghost use Rattle.cache_shelf.specs.Limits.{put_looks};
-ghost use Rattle.cache_shelf.specs.Shelves.{ShelfView as TheShelfView, IsLawful};
-ghost use Rattle.cache_shelf.specs.Entries.{AllKept, Evicted, FindsNoRoom, Had, Keeps, OthersKept, PutsEntry, evicted_key};
+ghost use Rattle.cache_shelf.specs.Shelves.{ShelfView as TheShelfView, IsLawful, with_ended, with_put};
+ghost use Rattle.cache_shelf.specs.Entries.{AllKept, Evicted, FindsNoRoom, Had, Keeps, OthersKept, PutsEntry, key_of_evicted};
 ghost use Rattle.cache_shelf.specs.Turns.{OnlyMoves, PutsInTurn, TendsShelf};
 
 use crate::entries::{put_entry, remove_entry};
@@ -19,7 +21,7 @@ use crate::turns::take_turn;
 use bump_class::RawLane;
 use bump_heads::Name;
 use bump_steps::{AnyRow, RowLaw};
-use cache_part::{NoRoom, Part, Put, Stats};
+use cache_part::{NoChunk, Part, PutItem, Stats};
 use std::marker::Model;
 
 /// A part, the lanes of its readers' rings, and how many puts there were since its lists were balanced. Of each item
@@ -75,15 +77,15 @@ impl<N: Name, L: RowLaw> Shelf<N, L> {
     /// the key's old item ends, and at most one other is evicted. The old item's value is told in `old`, which has as
     /// many words as a value, and the row of the evicted one in `evicted`, which has as many as a row; where there is none
     /// these stay. It is refused exactly where no chunk is free then, also of those of ended items that nobody holds any
-    /// more; the key keeps what it had. In the end each eighth put looks at the ends of HOT and WARM, `PUT_LOOKS` times
-    /// each. Under each other key but the evicted one's stays what was there.
+    /// more; the key keeps what it had. In the end each eighth put balances HOT and WARM, in `PUT_LOOKS` rounds at
+    /// most. Under each other key but the evicted one's stays what was there.
     pub fn put(
         &mut self,
         row: &[u64],
         old: &mut [u64],
         evicted: &mut [u64],
         now: u64,
-    ) -> Result<Put, NoRoom>
+    ) -> Result<PutItem, NoChunk>
         requires words { length row.now ≡ self.old.part.key_words + self.old.part.value_words }
         requires old { length old.old ≡ self.old.part.value_words }
         requires evicted { length evicted.old ≡ self.old.part.key_words + self.old.part.value_words }
@@ -95,37 +97,29 @@ impl<N: Name, L: RowLaw> Shelf<N, L> {
         ensures evicted { IfOk result (λ did. Evicted L.law did.evicted evicted.old evicted.new self.old.part
             self.new.part) }
         ensures others { IfOk result (λ did. OthersKept (take self.old.part.key_words row.now)
-            (evicted_key did.evicted self.old.part) self.old.part self.new.part) }
+            (key_of_evicted did.evicted self.old.part) self.old.part self.new.part) }
         ensures puts { IfOk result (λ did. PutsInTurn (PutsEntry did.old did.evicted row.now now did.chunk) now self.old
             self.new) }
         ensures evicted_refused { IfErr result (λ why. Evicted L.law why.evicted evicted.old evicted.new self.old.part
             self.new.part) }
-        ensures stay { IfErr result (λ why. AllKept (evicted_key why.evicted self.old.part) self.old.part
+        ensures stay { IfErr result (λ why. AllKept (key_of_evicted why.evicted self.old.part) self.old.part
             self.new.part) }
         ensures refuses { IfErr result (λ why. PutsInTurn (FindsNoRoom (take self.old.part.key_words row.now)
             why.evicted) now self.old self.new) }
         ensures old_stays { IfErr result (λ why. old.new ≡ old.old) }
         ensures lengths { (length old.new ≡ length old.old) × (length evicted.new ≡ length evicted.old) }
-        ensures same { self.new ≡ record self.old {
-          part = record self.old.part {
-            book = self.new.part.book;
-            flow = self.new.part.flow;
-            evictions = self.new.part.evictions;
-            index = self.new.part.index;
-          };
-          lanes = self.new.lanes;
-          puts = self.new.puts;
-        } }
+        ensures same { self.new ≡ with_put self.new self.old }
     {
         self.part.drain(&mut self.lanes, PUT_BUMPS, now);
         let put = put_entry(&mut self.part, row, old, evicted, now);
-        self.puts = take_turn(&mut self.part, self.limits, self.puts);
+        self.puts = take_turn(&mut self.part, self.limits, self.puts, now);
         put
     }
 
     /// Ends the item of this key, and tells its chunk, and its value in `old`, which has as many words as a value; or None
     /// exactly where no item has the key, and then nothing changes but what the class's seat notes of its loads. Under
-    /// each other key stays what was there.
+    /// each other key stays what was there, and the other items stay in their lists, in their order. An item that ends so
+    /// doesn't count as evicted.
     pub fn remove(&mut self, key: &[u64], old: &mut [u64]) -> Option<u32>
         requires key { length key.now ≡ self.old.part.key_words }
         requires old { length old.old ≡ self.old.part.value_words }
@@ -133,22 +127,18 @@ impl<N: Name, L: RowLaw> Shelf<N, L> {
         ensures gone { IsUnknown key.now self.new.part }
         ensures others { OthersKept key.now None self.old.part self.new.part }
         ensures ends { IfSome result (λ chunk. EndsAt chunk self.old.part.book self.new.part.book) }
+        ensures lists { IfSome result (λ chunk. SameSegments (all_without chunk self.old.part.book.lists)
+            self.new.part.book.lists) }
         ensures looks { IfNone result (LooksOnly self.old.part.book self.new.part.book) }
         ensures unchanged { IfNone result (self.new.part ≡ record self.old.part { book = self.new.part.book }) }
         ensures length { length old.new ≡ length old.old }
-        ensures same { self.new ≡ record self.old {
-          part = record self.old.part {
-            book = self.new.part.book;
-            flow = self.new.part.flow;
-            index = self.new.part.index;
-          };
-        } }
+        ensures same { self.new ≡ with_ended self.new self.old }
     {
         remove_entry(&mut self.part, key, old)
     }
 
     /// Tends the part, as `Part::tend` does: the bumps that wait are applied, at most as many of each lane as the limits
-    /// say; ended items are swept; and the ends of HOT and WARM are looked at. The same items are linked. `now` is the
+    /// say; ended items are swept; and HOT and WARM are balanced. The same items are linked. `now` is the
     /// time of the bumped items, in the caller's ticks.
     pub fn tend(&mut self, now: u64)
         ensures tends { TendsShelf now self.old self.new }
@@ -158,20 +148,14 @@ impl<N: Name, L: RowLaw> Shelf<N, L> {
     {
         let limits = self.limits;
         self.part
-            .tend(&mut self.lanes, limits.most, now, limits.hot, limits.warm);
+            .tend(&mut self.lanes, limits.most, now, limits.bounds);
     }
 
-    /// Ends each item. It looks at each chunk of the class once.
+    /// Ends each item, and none counts as evicted. It looks at each chunk of the class once.
     pub fn clear(&mut self)
         ensures empty { (key : List ℕ) → IsUnknown key self.new.part }
         ensures words { (i c : ℕ) → last_word i self.new.part.book.part c ≡ last_word i self.old.part.book.part c }
-        ensures same { self.new ≡ record self.old {
-          part = record self.old.part {
-            book = self.new.part.book;
-            flow = self.new.part.flow;
-            index = self.new.part.index;
-          };
-        } }
+        ensures same { self.new ≡ with_ended self.new self.old }
     {
         self.part.clear();
     }

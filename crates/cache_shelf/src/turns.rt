@@ -1,6 +1,5 @@
 //! The turn of a put that balances.
-ghost use Rattle.std.specs.Prelude.{◌≡◌, ◌<◌};
-ghost use Rattle.cache_lists.specs.Items.{KeepsItems};
+ghost use Rattle.std.specs.Prelude.{◌<◌};
 ghost use Rattle.cache_shelf.specs.Limits.{put_looks};
 ghost use Rattle.cache_shelf.specs.Turns.{TakesTurn, OnlyMoves};
 
@@ -10,15 +9,20 @@ use bump_steps::RowLaw;
 use cache_part::Part;
 
 // Counts one more put, and balances where it is the one whose turn that is. It tells how many there were since then.
-pub(crate) fn take_turn<N: Name, L: RowLaw>(part: &mut Part<N, L>, limits: Limits, puts: u32) -> u32
+pub(crate) fn take_turn<N: Name, L: RowLaw>(
+    part: &mut Part<N, L>,
+    limits: Limits,
+    puts: u32,
+    now: u64,
+) -> u32
     requires { puts < put_looks }
-    ensures turn { TakesTurn limits puts part.old part.new result }
+    ensures turn { TakesTurn limits puts now part.old part.new result }
     ensures moves { OnlyMoves part.old part.new }
     ensures below { result < put_looks }
 {
     if puts + 1 < PUT_LOOKS {
         return puts + 1;
     }
-    part.balance(PUT_LOOKS, limits.hot, limits.warm);
+    part.balance(PUT_LOOKS, limits.bounds, now);
     0
 }

@@ -2,7 +2,7 @@
 ghost use Rattle.std.specs.Prelude.{◌≡◌};
 
 use crate::stands::Changer;
-use bump_cache::{CacheBlank, CacheConfig, CacheReader, Entry, LogName, Name, Opened, Seed, open};
+use bump_cache::{CacheBlank, CacheConfig, Entry, LogName, Name, Opened, Seed, open};
 use std::alloc::Global;
 use std::marker::Brand;
 use std::process::Abort;
@@ -43,7 +43,7 @@ fn run<N: Name + LogName, R: Wait + Abort>(
     assert!(rt; changer.put(rt, &cache, &second, 2).is_ok());
     // There are two chunks: one has the new item, and the old one is held.
     assert!(rt; changer.put(rt, &cache, &third, 3).is_err());
-    assert_eq!(rt; CacheReader::value_of(&mut held), 10);
+    assert_eq!(rt; held.value(), 10);
     assert_eq!(rt; held.word(0), 10);
     drop(held);
     assert!(rt; changer.put(rt, &cache, &third, 4).is_ok());

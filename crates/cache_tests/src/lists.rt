@@ -1,4 +1,5 @@
 //! A model of a cache's lists, for one reader: in which list each item stands, and which one is evicted next.
+use bump_cache::CacheConfig;
 use std::alloc::{AllocError, Global};
 use std::collections::VecDeque;
 
@@ -8,10 +9,10 @@ const PUT_BUMPS: usize = 16;
 // An eviction rescues at most so many.
 const RESCUES: usize = 8;
 
-// Each so manieth put looks at the ends of HOT and WARM, and so often.
+// Each so manieth put looks at the ends of HOT and WARM, in so many rounds at most.
 const LOOKS: u32 = 8;
 
-// A tend looks so often.
+// A tend does in so many.
 const TEND_LOOKS: u32 = 100;
 
 // An item.
@@ -20,6 +21,8 @@ struct Item {
     // no two items have one number
     number: u64,
     key: u64,
+    // when it was used last
+    time: u64,
     fetched: bool,
     active: bool,
 }
@@ -31,9 +34,12 @@ type Items = VecDeque<Item>;
 #[derive(Drop)]
 pub struct Lists {
     room: usize,
+    ring: usize,
     hot_most: usize,
     warm_most: usize,
-    ring: usize,
+    // the last one of HOT, and of WARM, may be so many percent as old as COLD's
+    hot_age: Option<u32>,
+    warm_age: Option<u32>,
     hot: Items,
     warm: Items,
     cold: Items,
@@ -71,13 +77,47 @@ fn touch(items: &mut Items, at: usize) -> bool {
     sets
 }
 
-// Marks the item of a key. It tells whether there is one.
-fn touch_key(items: &mut Items, key: u64) -> bool {
+// The item at a place was used.
+fn use_at(items: &mut Items, at: usize, now: u64) {
+    if let Some(item) = items.get_mut(at) {
+        item.time = now;
+    }
+}
+
+// Marks the item of a key, which isn't in COLD. It tells whether there is one.
+fn touch_key(items: &mut Items, key: u64, now: u64) -> bool {
     let Some(at) = place_of(items, key) else {
         return false;
     };
-    touch(items, at);
+    if touch(items, at) {
+        use_at(items, at, now);
+    }
     true
+}
+
+// The item with a number was used. It tells whether it is here.
+fn use_number(items: &mut Items, number: u64, now: u64) -> bool {
+    let Some(at) = items.iter().position(|item| item.number == number) else {
+        return false;
+    };
+    use_at(items, at, now);
+    true
+}
+
+// How old the last item of COLD may make that of another list.
+fn longest(percent: Option<u32>, age: u64) -> u64 {
+    match percent {
+        Some(percent) => age.saturating_mul(u64::from(percent)) / 100,
+        None => u64::MAX,
+    }
+}
+
+// Whether the last item of a list goes on: it is ACTIVE, or one of too many, or used too long ago.
+fn goes_on(items: &Items, most: usize, longest: u64, now: u64) -> bool {
+    let Some(item) = items.back() else {
+        return false;
+    };
+    item.active || items.len() > most || now.saturating_sub(item.time) > longest
 }
 
 // Ends the item of a key. It tells whether there was one.
@@ -96,13 +136,15 @@ fn calm(items: &mut Items, at: usize) {
 }
 
 impl Lists {
-    /// Those of a cache without items: how many there may be, how many in HOT and in WARM, and in the ring.
-    pub fn new(alloc: Global, room: u32, hot_most: u32, warm_most: u32, ring: u32) -> Lists {
+    /// Those of a cache of this configuration, without items.
+    pub fn new(alloc: Global, config: &CacheConfig) -> Lists {
         Lists {
-            room: room as usize,
-            hot_most: hot_most as usize,
-            warm_most: warm_most as usize,
-            ring: ring as usize,
+            room: config.items as usize,
+            ring: config.ring as usize,
+            hot_most: config.hot_items() as usize,
+            warm_most: config.warm_items() as usize,
+            hot_age: config.hot_age,
+            warm_age: config.warm_age,
             hot: VecDeque::new(alloc),
             warm: VecDeque::new(alloc),
             cold: VecDeque::new(alloc),
@@ -138,8 +180,8 @@ impl Lists {
     }
 
     /// Gets a key, and tells whether it has an item. Where that becomes ACTIVE in COLD its bump waits, if the ring has room.
-    pub fn get(&mut self, key: u64) -> Result<bool, AllocError> {
-        if touch_key(&mut self.hot, key) || touch_key(&mut self.warm, key) {
+    pub fn get(&mut self, key: u64, now: u64) -> Result<bool, AllocError> {
+        if touch_key(&mut self.hot, key, now) || touch_key(&mut self.warm, key, now) {
             return Ok(true);
         }
         let Some(at) = place_of(&self.cold, key) else {
@@ -156,19 +198,29 @@ impl Lists {
         Ok(true)
     }
 
-    // Applies at most so many of the bumps that wait: an item that is ACTIVE in COLD goes to the front of WARM.
-    fn drain(&mut self, most: usize) -> Result<(), AllocError> {
+    // Applies a bump: its item was used, and goes to the front of WARM where it is ACTIVE in COLD.
+    fn bump(&mut self, number: u64, now: u64) -> Result<(), AllocError> {
+        if use_number(&mut self.hot, number, now) || use_number(&mut self.warm, number, now) {
+            return Ok(());
+        }
+        use_number(&mut self.cold, number, now);
+        let is_it = |item: &Item| item.number == number && item.active;
+        let Some(at) = self.cold.iter().position(is_it) else {
+            return Ok(());
+        };
+        if let Some(item) = self.cold.remove(at) {
+            to_front(&mut self.warm, item)?;
+        }
+        Ok(())
+    }
+
+    // Applies at most so many of the bumps that wait.
+    fn drain(&mut self, most: usize, now: u64) -> Result<(), AllocError> {
         for _ in 0..most {
             let Some(number) = self.bumps.pop_front() else {
                 return Ok(());
             };
-            let is_it = |item: &Item| item.number == number && item.active;
-            let Some(at) = self.cold.iter().position(is_it) else {
-                continue;
-            };
-            if let Some(item) = self.cold.remove(at) {
-                to_front(&mut self.warm, item)?;
-            }
+            self.bump(number, now)?;
         }
         Ok(())
     }
@@ -182,27 +234,48 @@ impl Lists {
         }
     }
 
-    // Looks at the last items of HOT and WARM so often, where these have more than they may have.
-    fn balance(&mut self, count: u32) -> Result<(), AllocError> {
-        for _ in 0..count {
-            if self.hot.len() > self.hot_most {
-                if let Some(item) = self.hot.pop_back() {
-                    self.move_on(item)?;
-                }
-            }
-            if self.warm.len() > self.warm_most {
-                if let Some(item) = self.warm.pop_back() {
-                    self.move_on(item)?;
-                }
+    // Looks at the last item of HOT, and tells whether it went on.
+    fn look_at_hot(&mut self, longest: u64, now: u64) -> Result<bool, AllocError> {
+        if !goes_on(&self.hot, self.hot_most, longest, now) {
+            return Ok(false);
+        }
+        if let Some(item) = self.hot.pop_back() {
+            self.move_on(item)?;
+        }
+        Ok(true)
+    }
+
+    // Looks at the last item of WARM, and tells whether it went on.
+    fn look_at_warm(&mut self, longest: u64, now: u64) -> Result<bool, AllocError> {
+        if !goes_on(&self.warm, self.warm_most, longest, now) {
+            return Ok(false);
+        }
+        if let Some(item) = self.warm.pop_back() {
+            self.move_on(item)?;
+        }
+        Ok(true)
+    }
+
+    // Looks at the last items of HOT and WARM, in so many rounds at most, until one moves nothing.
+    fn balance(&mut self, rounds: u32, now: u64) -> Result<(), AllocError> {
+        let age = match self.cold.back() {
+            Some(item) => now.saturating_sub(item.time),
+            None => 0,
+        };
+        for _ in 0..rounds {
+            let hot = self.look_at_hot(longest(self.hot_age, age), now)?;
+            let warm = self.look_at_warm(longest(self.warm_age, age), now)?;
+            if !hot && !warm {
+                return Ok(());
             }
         }
         Ok(())
     }
 
     /// Tends the lists.
-    pub fn tend(&mut self) -> Result<(), AllocError> {
-        self.drain(self.ring)?;
-        self.balance(TEND_LOOKS)
+    pub fn tend(&mut self, now: u64) -> Result<(), AllocError> {
+        self.drain(self.ring, now)?;
+        self.balance(TEND_LOOKS, now)
     }
 
     // Evicts an item, and tells its key.
@@ -229,8 +302,8 @@ impl Lists {
     }
 
     /// Puts a key for which there is a chunk, and tells which key is evicted.
-    pub fn put(&mut self, key: u64) -> Result<Option<u64>, AllocError> {
-        self.drain(PUT_BUMPS)?;
+    pub fn put(&mut self, key: u64, now: u64) -> Result<Option<u64>, AllocError> {
+        self.drain(PUT_BUMPS, now)?;
         let (hot, warm, cold) = self.sizes();
         let is_known = place_of(&self.hot, key).is_some()
             || place_of(&self.warm, key).is_some()
@@ -245,6 +318,7 @@ impl Lists {
         self.hot.push_front(Item {
             number: self.placed,
             key,
+            time: now,
             fetched: false,
             active: false,
         })?;
@@ -252,7 +326,7 @@ impl Lists {
         self.puts = self.puts.saturating_add(1);
         if self.puts == LOOKS {
             self.puts = 0;
-            self.balance(LOOKS)?;
+            self.balance(LOOKS, now)?;
         }
         Ok(evicted)
     }

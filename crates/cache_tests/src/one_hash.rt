@@ -31,10 +31,10 @@ enum Hashes {
 }
 
 impl Hashes {
-    fn has(self, hash: u64) -> bool {
+    fn has(self, hash: u32) -> bool {
         match self {
             Hashes::Any => true,
-            Hashes::OneHome => hash >> 56 == 0,
+            Hashes::OneHome => hash >> 24 == 0,
             Hashes::OneTag => hash % 256 == 7,
         }
     }

@@ -15,6 +15,8 @@ use std::test::Fail;
 struct Pair<N: Name + LogName> {
     stand: Stand<N, u64, u64>,
     lists: Lists,
+    // the time of what is done next
+    now: u64,
     wrong: u64,
 }
 
@@ -32,8 +34,8 @@ impl<N: Name + LogName> Pair<N> {
     }
 
     fn put<W: Wait>(&mut self, rt: &W, key: u64) -> Result<Option<u64>, AllocError> {
-        let put = self.stand.put(rt, key, key, 0);
-        let evicted = self.lists.put(key)?;
+        let put = self.stand.put(rt, key, key, self.now);
+        let evicted = self.lists.put(key, self.now)?;
         match &put {
             Ok(did) => self.note(told(did).1 == evicted),
             Err(_) => self.note(false),
@@ -42,8 +44,8 @@ impl<N: Name + LogName> Pair<N> {
     }
 
     fn get(&mut self, key: u64) -> Result<(), AllocError> {
-        let got = self.stand.get(0, &key, 0).is_some();
-        let is_there = self.lists.get(key)?;
+        let got = self.stand.get(0, &key, self.now).is_some();
+        let is_there = self.lists.get(key, self.now)?;
         self.note(got == is_there);
         Ok(())
     }
@@ -55,8 +57,8 @@ impl<N: Name + LogName> Pair<N> {
     }
 
     fn tend<W: Wait>(&mut self, rt: &W) -> Result<(), AllocError> {
-        self.stand.tend(rt, 0);
-        self.lists.tend()
+        self.stand.tend(rt, self.now);
+        self.lists.tend(self.now)
     }
 
     fn clear<W: Wait>(&mut self, rt: &W) {
@@ -86,6 +88,10 @@ enum Case {
     // so many random calls, of which gets are so many of 64, with keys below a number
     Random { calls: u64, gets: u64, keys: u64 },
 
+    // so many accesses of keys below a number, the smaller ones most, which drift: each is got, and put where it isn't
+    // there; the time is the access's place
+    Drift { accesses: u64, keys: u64 },
+
     // 1,000 items are read twice each, and then 1,001 others put
     Read,
 
@@ -94,6 +100,16 @@ enum Case {
 }
 
 impl<N: Name + LogName> Pair<N> {
+    // Time goes on by a random step, sometimes backwards, and once in a while far ahead.
+    fn go_on(&mut self, step: u64) {
+        self.now = match step % 64 {
+            0 => self.now.saturating_sub(step % 1_000),
+            1 => self.now.saturating_add(step % 10_000),
+            2 => 0,
+            _ => self.now.saturating_add(step % 4),
+        };
+    }
+
     // Random calls.
     fn call_at_random<W: Wait>(
         &mut self,
@@ -106,6 +122,7 @@ impl<N: Name + LogName> Pair<N> {
         for _ in 0..calls {
             let key = next(&mut seed) % keys.max(1);
             let kind = next(&mut seed) % 64;
+            self.go_on(next(&mut seed));
             if kind < gets {
                 self.get(key)?;
             } else {
@@ -117,6 +134,31 @@ impl<N: Name + LogName> Pair<N> {
                         self.put(rt, key)?;
                     }
                 }
+            }
+            self.look(rt);
+        }
+        Ok(())
+    }
+
+    // A key is got, and put where it isn't there.
+    fn get_or_put<W: Wait>(&mut self, rt: &W, key: u64) -> Result<(), AllocError> {
+        let seen = self.stand.peek(0, &key);
+        self.get(key)?;
+        if seen.is_none() {
+            self.put(rt, key)?;
+        }
+        Ok(())
+    }
+
+    // Accesses that drift, with a tend behind each 64.
+    fn drift<W: Wait>(&mut self, rt: &W, accesses: u64, keys: u64) -> Result<(), AllocError> {
+        let mut seed = 2u64;
+        for place in 0..accesses {
+            self.now = place;
+            let near = next(&mut seed) & next(&mut seed);
+            self.get_or_put(rt, (place / 32).saturating_add(near % keys.max(1)))?;
+            if place % 64 == 0 {
+                self.tend(rt)?;
             }
             self.look(rt);
         }
@@ -185,6 +227,7 @@ impl<N: Name + LogName> Pair<N> {
     fn run<W: Wait>(&mut self, rt: &W, case: Case) -> Result<(), AllocError> {
         match case {
             Case::Random { calls, gets, keys } => self.call_at_random(rt, calls, gets, keys),
+            Case::Drift { accesses, keys } => self.drift(rt, accesses, keys),
             Case::Read => self.read_twice(rt),
             Case::Rescue => self.rescue(rt),
         }
@@ -204,11 +247,10 @@ fn run<N: Name + LogName, W: Wait>(
     requires name { blank.log.name ≡ N.name }
     requires parts { blank.log.parts ≡ N.parts }
 {
-    let hot = config.hot_items();
-    let warm = config.warm_items();
     let mut pair = Pair {
         stand: Stand::<N, u64, u64>::open(alloc, rt, blank)?,
-        lists: Lists::new(alloc, config.items, hot, warm, config.ring),
+        lists: Lists::new(alloc, config),
+        now: 0,
         wrong: 0,
     };
     pair.run(rt, case)?;
@@ -223,19 +265,25 @@ fn wrong_in<W: Wait>(rt: &W, alloc: Global, config: &CacheConfig, case: Case) ->
 
 #[test]
 fn items_are_evicted_in_the_models_order(rt: HostRuntime) -> Result<(), Fail> {
-    for (items, hot, warm, ring, gets) in [
-        (10, 100, 0, 8u32, 0),
-        (10, 0, 0, 8, 0),
-        (10, 20, 40, 8, 0),
-        (10, 20, 40, 8, 32),
-        (10, 20, 40, 1, 48),
-        (24, 20, 40, 64, 56),
-        (24, 0, 0, 64, 60),
-        (24, 0, 100, 32, 56),
-        (24, 60, 10, 32, 56),
-        (1, 20, 40, 4, 48),
+    for (items, shares, ages, ring, gets) in [
+        (10, (100, 0), (None, None), 8u32, 0),
+        (10, (0, 0), (Some(20), Some(200)), 8, 0),
+        (10, (20, 40), (Some(20), Some(200)), 8, 0),
+        (10, (20, 40), (Some(0), Some(0)), 8, 32),
+        (10, (20, 40), (None, Some(200)), 1, 48),
+        (24, (20, 40), (Some(20), Some(200)), 64, 56),
+        (24, (0, 0), (Some(20), None), 64, 60),
+        (24, (0, 100), (Some(300), Some(50)), 32, 56),
+        (24, (60, 10), (Some(20), Some(200)), 32, 56),
+        (1, (20, 40), (Some(u32::MAX), Some(100)), 4, 48),
     ] {
-        let config = config_of(items, ring.saturating_add(1), hot, warm, ring);
+        let (hot, warm) = shares;
+        let (hot_age, warm_age) = ages;
+        let config = CacheConfig {
+            hot_age,
+            warm_age,
+            ..config_of(items, ring.saturating_add(1), hot, warm, ring)
+        };
         let case = Case::Random {
             calls: 2_000,
             gets,
@@ -245,8 +293,31 @@ fn items_are_evicted_in_the_models_order(rt: HostRuntime) -> Result<(), Fail> {
         assert_eq!(rt;
             wrong,
             0,
-            "of {items} items, {hot} and {warm} percent, {ring} bumps"
+            "of {items} items, {hot} and {warm} percent, {hot_age:?} and {warm_age:?}, {ring} bumps"
         );
+    }
+    Ok(())
+}
+
+#[test]
+fn items_grow_old_as_in_the_model(rt: HostRuntime) -> Result<(), Fail> {
+    for (hot_age, warm_age) in [
+        (None, None),
+        (Some(20), Some(200)),
+        (Some(200), Some(20)),
+        (Some(0), None),
+    ] {
+        let config = CacheConfig {
+            hot_age,
+            warm_age,
+            ..config_of(64, 66, 20, 40, 64)
+        };
+        let case = Case::Drift {
+            accesses: 3_000,
+            keys: 256,
+        };
+        let wrong = wrong_in(&rt, rt.alloc(), &config, case)?;
+        assert_eq!(rt; wrong, 0, "of {hot_age:?} and {warm_age:?}");
     }
     Ok(())
 }

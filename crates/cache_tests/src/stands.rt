@@ -198,9 +198,8 @@ pub fn config_of(items: u32, spare: u32, hot: u32, warm: u32, ring: u32) -> Cach
         spare,
         hot,
         warm,
-        readers: 1,
         ring,
-        seed: SEED,
+        ..CacheConfig::new(items, 1, SEED)
     }
 }
 

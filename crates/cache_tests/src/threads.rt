@@ -228,8 +228,11 @@ fn run<N: Name + LogName + Send + Sync, R: Threads + Wait + Sync>(
 #[test]
 fn readers_beside_a_writer_get_what_was_put(rt: HostRuntime) -> Result<(), Fail> {
     for readers in [2, 4] {
+        // By ages an item may leave HOT however few are there: then what is put anew so soon could be evicted.
         let config = CacheConfig {
             readers,
+            hot_age: None,
+            warm_age: None,
             ..config_of(ITEMS, readers.saturating_mul(RING + 2), 20, 40, RING)
         };
         let blank = CacheBlank::<u64, Value>::new(rt.alloc(), &config)?;

@@ -39,24 +39,24 @@ impl Seed {
     }
 
     /// The hash of words, of which there may be any number, also none. The same words under the same seed always have
-    /// the same hash.
+    /// the same hash. It is the upper half of the last word that was mixed.
     #[inline(always)]
-    pub fn hash(&self, words: &[u64]) -> u64
+    pub fn hash(&self, words: &[u64]) -> u32
         ensures { result ≡ hash_of self.now words.now }
     {
         let mut state = self.first ^ START;
         for word in words {
             state = mix(state ^ *word, self.second ^ MULTIPLIER);
         }
-        mix(state, words.len() as u64 ^ COUNT)
+        (mix(state, words.len() as u64 ^ COUNT) >> 32) as u32
     }
 
     /// The hash of one word: what [`hash`](Seed::hash) gives for it alone.
     #[inline(always)]
-    pub fn hash_one(&self, word: u64) -> u64
+    pub fn hash_one(&self, word: u64) -> u32
         ensures { result ≡ hash_of self.now (word ∷ []) }
     {
         let state = mix(self.first ^ START ^ word, self.second ^ MULTIPLIER);
-        mix(state, 1 ^ COUNT)
+        (mix(state, 1 ^ COUNT) >> 32) as u32
     }
 }

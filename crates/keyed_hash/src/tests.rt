@@ -39,15 +39,15 @@ fn known_hashes(rt: HostRuntime) {
         first: u64::MAX,
         second: u64::MAX,
     };
-    assert_eq!(rt; zeros.hash(&[]), 0xe28f_2b20_61a2_b984);
-    assert_eq!(rt; zeros.hash_one(0), 0x855a_2263_66af_32cf);
-    assert_eq!(rt; zeros.hash_one(1), 0x8a5a_61c0_6e14_2adb);
-    assert_eq!(rt; small.hash(&[3]), 0x0a7f_7f6c_e597_7097);
-    assert_eq!(rt; small.hash_one(3), 0x0a7f_7f6c_e597_7097);
-    assert_eq!(rt; small.hash(&[3, 4]), 0xb948_cbdd_bf92_3755);
-    assert_eq!(rt; small.hash(&[4, 3]), 0xe6c0_fc24_cc64_3b07);
-    assert_eq!(rt; small.hash(&[3, 0]), 0x78a3_e872_60b3_4274);
-    assert_eq!(rt; ones.hash(&[u64::MAX; 3]), 0xce64_3d6c_7651_f54a);
+    assert_eq!(rt; zeros.hash(&[]), 0xe28f_2b20);
+    assert_eq!(rt; zeros.hash_one(0), 0x855a_2263);
+    assert_eq!(rt; zeros.hash_one(1), 0x8a5a_61c0);
+    assert_eq!(rt; small.hash(&[3]), 0x0a7f_7f6c);
+    assert_eq!(rt; small.hash_one(3), 0x0a7f_7f6c);
+    assert_eq!(rt; small.hash(&[3, 4]), 0xb948_cbdd);
+    assert_eq!(rt; small.hash(&[4, 3]), 0xe6c0_fc24);
+    assert_eq!(rt; small.hash(&[3, 0]), 0x78a3_e872);
+    assert_eq!(rt; ones.hash(&[u64::MAX; 3]), 0xce64_3d6c);
 }
 
 #[test]
@@ -62,11 +62,11 @@ fn random_seeds(rt: HostRuntime) -> Result<(), Fail> {
 }
 
 // The bucket that the highest bits name, and the one that the lowest bits name.
-fn buckets(hash: u64) -> (usize, usize)
+fn buckets(hash: u32) -> (usize, usize)
     ensures high { result.0 < BUCKETS }
     ensures low { result.1 < BUCKETS }
 {
-    ((hash >> 52) as usize, (hash % 4096) as usize)
+    ((hash >> 20) as usize, (hash % 4096) as usize)
 }
 
 // The fullest bucket, and the emptiest one.
@@ -102,12 +102,12 @@ fn words_in_a_row_spread(rt: HostRuntime) {
 #[test]
 fn each_bit_tells_on_each(rt: HostRuntime) {
     for bit in 0..64u32 {
-        let mut flips = [0u64; 64];
+        let mut flips = [0u64; 32];
         for word in 0..1000u64 {
             let word = word.wrapping_mul(0x9e37_79b9_7f4a_7c15);
             let changed = SEED.hash_one(word) ^ SEED.hash_one(word ^ (1 << bit));
             for (at, count) in flips.iter_mut().enumerate() {
-                *count = count.wrapping_add(changed >> (at % 64) & 1);
+                *count = count.wrapping_add(u64::from(changed >> (at % 32) & 1));
             }
         }
         let (most, fewest) = extremes(&flips);

@@ -11,7 +11,7 @@ use crate::scribes::Scribe;
 use bump_core::{Config, Tail};
 use bump_rules::LOOKS;
 use cache_lists::RESCUES;
-use cache_shelf::{PUT_BUMPS, PUT_LOOKS};
+use cache_shelf::{Bound, PUT_BUMPS, PUT_LOOKS};
 use std::alloc::Global;
 use std::hash::RandomState;
 
@@ -101,23 +101,27 @@ fn place(scribe: &mut Scribe, plan: &Plan, key: u32) -> Result<(), ReplayFault>
     Ok(())
 }
 
-// Looks at the ends of HOT and of WARM, where they have too many items; whether one has.
-fn look(scribe: &mut Scribe, plan: &Plan) -> Result<bool, ReplayFault>
+// Looks at the last items of HOT and of WARM; whether one goes on.
+fn look(scribe: &mut Scribe, hot: Bound, warm: Bound) -> Result<bool, ReplayFault>
     ensures text { OnOk result (Adds IsUpkeep 2 scribe.old.text.items scribe.new.text.items) }
     ensures fault { IfErr result IsOfCalls }
 {
-    let hot = scribe.pull_if_over(Tail::Hot, plan.config.hot_items())?;
-    let warm = scribe.pull_if_over(Tail::Warm, plan.config.warm_items())?;
+    let hot = scribe.pull_past(Tail::Hot, hot)?;
+    let warm = scribe.pull_past(Tail::Warm, warm)?;
     Ok(hot || warm)
 }
 
-// Looks at them so many times. A look that finds nothing to do changes nothing, nor do those behind it.
+// Looks at them so many times, by the bounds that the age of COLD makes. A look that finds nothing to do changes nothing,
+// nor do those behind it.
 fn balance(scribe: &mut Scribe, plan: &Plan, count: u32) -> Result<(), ReplayFault>
     ensures text { OnOk result (Adds IsUpkeep (2 * count) scribe.old.text.items scribe.new.text.items) }
     ensures fault { IfErr result IsOfCalls }
 {
+    let bounds = plan.config.bounds();
+    let age = scribe.cold_age();
+    let (hot, warm) = (bounds.of_hot(age), bounds.of_warm(age));
     for _ in 0..count {
-        if !look(scribe, plan)? {
+        if !look(scribe, hot, warm)? {
             return Ok(());
         }
     }
@@ -153,6 +157,7 @@ fn write_access(scribe: &mut Scribe, plan: &Plan, place: usize, key: u32) -> Res
         scribe.old.text.items scribe.new.text.items) }
     ensures fault { IfErr result (IsOfPut plan.now) }
 {
+    scribe.begin_access(place as u64);
     get_or_put(scribe, plan, plan.reader_at(place), key)?;
     let is_time = plan.is_time(place);
     if !is_time {

@@ -1,5 +1,5 @@
 //! A trace that is written line by line, each of which is made on a World at once.
-ghost use Rattle.std.specs.Prelude.{◌≡◌, ◌<◌, ◌∷◌, ◌++◌, [], true, false, length, codes, IfOk, IfErr, OnOk};
+ghost use Rattle.std.specs.Prelude.{◌≡◌, ◌<◌, ◌∷◌, ◌++◌, [], true, false, length, codes, IfOk, IfErr, IfSome, OnOk};
 ghost use Rattle.bump_trace.specs.Runs.{most_bytes};
 ghost use Rattle.replay_runs.specs.Writing.{with_end, get_instruction, set_instruction, header, is_upkeep, IsUpkeep, Adds};
 ghost use Rattle.replay_runs.specs.Writing.{IsOfCalls};
@@ -9,7 +9,7 @@ use crate::plans::Plan;
 use bump_core::{Answer, Command, Config, ItemId, Place, Pulled, Refused, Tail, World};
 use bump_rules::CACHE_REFS;
 use bump_trace::MAX_BYTES;
-use cache_shelf::PUT_LOOKS;
+use cache_shelf::{Bound, PUT_LOOKS};
 use std::alloc::Global;
 use std::collections::HashMap;
 use std::hash::RandomState;
@@ -20,8 +20,8 @@ use trace_lines::put_word;
 pub(crate) struct Scribe {
     world: World,
     text: Vec<u8>,
-    // so many lines were written: a line's number is its time
-    lines: u64,
+    // the time of the access whose lines are written: its place
+    time: u64,
     // the key of the item that each chunk had last, by chunk
     key_of_chunk: Vec<u32>,
     // the item of each key that has one
@@ -76,12 +76,19 @@ impl Scribe {
         Ok(Scribe {
             world: World::new(alloc, config)?,
             text: header_of(alloc, plan)?,
-            lines: 2,
+            time: 0,
             key_of_chunk,
             items: HashMap::with_hasher(alloc, hasher),
             ring: plan.config.ring,
             puts: 0,
         })
+    }
+
+    /// What is written from now on belongs to the access with this place.
+    pub(crate) fn begin_access(&mut self, place: u64)
+        ensures { self.new.text ≡ self.old.text }
+    {
+        self.time = place;
     }
 
     /// The trace that was written.
@@ -117,7 +124,6 @@ impl Scribe {
         ensures fault { IfErr result IsOfCalls }
     {
         self.text.push(b'\n')?;
-        self.lines = self.lines.saturating_add(1);
         Ok(())
     }
 
@@ -153,7 +159,7 @@ impl Scribe {
         ensures fault { IfErr result IsOfCalls }
     {
         if let Answer::Held = self.make(Command::Take { worker, id })? {
-            let now = self.lines;
+            let now = self.time;
             self.make(Command::Touch { worker, id, now })?;
             self.make(Command::Release { id })?;
         }
@@ -170,7 +176,7 @@ impl Scribe {
         let link = Command::Link {
             class: 0,
             label: 0,
-            now: self.lines,
+            now: self.time,
         };
         match self.make(link)? {
             Answer::Linked(id) => self.bind(key, id),
@@ -292,12 +298,51 @@ impl Scribe {
         Ok(true)
     }
 
-    /// Looks at the last item of HOT or WARM, where it has more items than so many; whether it has.
-    pub(crate) fn pull_if_over(&mut self, tail: Tail, most: u32) -> Result<bool, ReplayFault>
+    // How long ago the item of a chunk was used.
+    fn idle(&self, chunk: u32) -> u64
+        requires { chunk < length self.now.world.chunks }
+    {
+        self.time.saturating_sub(self.world.time(chunk))
+    }
+
+    // The last chunk of a list.
+    fn last(&self, place: Place) -> Option<u32>
+        ensures { IfSome result (λ chunk. chunk < length self.now.world.chunks) }
+    {
+        let chunk = self.world.list_back(0, place)?;
+        if chunk < self.world.chunks() {
+            Some(chunk)
+        } else {
+            None
+        }
+    }
+
+    /// How long ago the last item of COLD was used; 0 where there is none.
+    pub(crate) fn cold_age(&self) -> u64 {
+        match self.last(Place::Cold) {
+            Some(chunk) => self.idle(chunk),
+            None => 0,
+        }
+    }
+
+    // Whether the last item of HOT or WARM goes on: it is ACTIVE, or goes to COLD by the bound.
+    fn goes_on(&self, tail: Tail, bound: Bound) -> bool {
+        let place = tail.segment().place();
+        let Some(chunk) = self.last(place) else {
+            return false;
+        };
+        self.world.head(chunk).active
+            || self.world.list_len(0, place) > bound.most
+            || self.idle(chunk) > bound.idle
+    }
+
+    /// Moves the last item of HOT or WARM on, where it is to go; whether it is. A pull that leaves it changes nothing, and
+    /// the class of a trace has no limits by which it would be left: so no line is written then.
+    pub(crate) fn pull_past(&mut self, tail: Tail, bound: Bound) -> Result<bool, ReplayFault>
         ensures text { OnOk result (Adds IsUpkeep 1 self.old.text.items self.new.text.items) }
         ensures fault { IfErr result IsOfCalls }
     {
-        if self.world.list_len(0, tail.segment().place()) <= most {
+        if !self.goes_on(tail, bound) {
             return Ok(false);
         }
         self.pull(tail)?;
@@ -334,7 +379,7 @@ impl Scribe {
         ensures fault { IfErr result IsOfCalls }
     {
         for _ in 0..self.ring {
-            let now = self.lines;
+            let now = self.time;
             if let Answer::Nothing = self.make(Command::Next { worker, now })? {
                 return Ok(());
             }

@@ -5,10 +5,16 @@ use std::alloc::{AllocError, Global};
 use std::hash::RandomState;
 use std::process::Abort;
 use std::random::RandomSource;
+use std::sync::Wait;
 use std::test::*;
 
+const SEED: Seed = Seed {
+    first: 1,
+    second: 2,
+};
+
 // A plan of so many items and a spare chunk, so many percent of the items in HOT and in WARM, by one reader with room for
-// 4 bumps.
+// 4 bumps. Ages don't count.
 fn plan(items: u32, hot: u32, warm: u32, tend_every: u32) -> Plan {
     Plan {
         config: CacheConfig {
@@ -16,12 +22,10 @@ fn plan(items: u32, hot: u32, warm: u32, tend_every: u32) -> Plan {
             spare: 1,
             hot,
             warm,
-            readers: 1,
+            hot_age: None,
+            warm_age: None,
             ring: 4,
-            seed: Seed {
-                first: 1,
-                second: 2,
-            },
+            ..CacheConfig::new(items, 1, SEED)
         },
         tend_every,
     }
@@ -224,15 +228,21 @@ fn number_behind(text: &[u8], begins: &[u8]) -> u32 {
     number
 }
 
-#[test]
-fn trace_moves_and_ends_items_as_the_cache_does(rt: HostRuntime) -> Result<(), Fail> {
+// A trace moves and ends as many items as the cache does, where the last ones of HOT and WARM may be so old.
+fn expect_same_moves<R: Wait + AllocGlobal + RandomSource + Abort>(
+    rt: &R,
+    hot_age: Option<u32>,
+    warm_age: Option<u32>,
+) -> Result<(), Fail> {
     let accesses = shuffled(rt.alloc(), 3_000, 64)?;
     let mut plan = plan(24, 20, 40, 50);
+    plan.config.hot_age = hot_age;
+    plan.config.warm_age = warm_age;
     plan.config.readers = 3;
     plan.config.ring = 2;
-    let stats = replay(&rt, rt.alloc(), &plan, &accesses)?.stats;
-    let trace = trace_of(rt.alloc(), RandomState::new(&rt)?, &plan, &accesses)?;
-    let text = told(&rt, &trace)?;
+    let stats = replay(rt, rt.alloc(), &plan, &accesses)?.stats;
+    let trace = trace_of(rt.alloc(), RandomState::new(rt)?, &plan, &accesses)?;
+    let text = told(rt, &trace)?;
     let moved = lines_of(&text, b"pull 0 cold warm ", b"").saturating_add(lines_of(
         &text, b"bump ", b" warm",
     ));
@@ -245,4 +255,11 @@ fn trace_moves_and_ends_items_as_the_cache_does(rt: HostRuntime) -> Result<(), F
     assert!(rt; stats.number_warm == number_behind(&text, b"class 0 warm "));
     assert!(rt; stats.number_cold == number_behind(&text, b"class 0 cold "));
     Ok(())
+}
+
+#[test]
+fn trace_moves_and_ends_items_as_the_cache_does(rt: HostRuntime) -> Result<(), Fail> {
+    expect_same_moves(&rt, None, None)?;
+    expect_same_moves(&rt, Some(20), Some(200))?;
+    expect_same_moves(&rt, Some(0), Some(50))
 }

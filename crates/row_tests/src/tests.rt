@@ -7,7 +7,7 @@ use bump_parts::StoreParts;
 use bump_rules::{ClassConfig, Config};
 use bump_steps::AnyRow;
 use cache_nests::Index;
-use cache_part::{Part, Put};
+use cache_part::{Bounds, Part, PutItem};
 use cache_readers::WordReader;
 use keyed_hash::Seed;
 use std::alloc::Global;
@@ -19,6 +19,13 @@ const CLASS: ClassConfig = ClassConfig {
     chunks: 4,
     hot: 1,
     warm: 1,
+};
+
+const BOUNDS: Bounds = Bounds {
+    hot: 1,
+    warm: 1,
+    hot_age: Some(20),
+    warm_age: Some(200),
 };
 
 const SEED: Seed = Seed {
@@ -51,18 +58,16 @@ fn value<N: Name>(reader: &mut WordReader<N, AnyRow>, key: [u64; 2]) -> Option<u
     if found { Some(value[0]) } else { None }
 }
 
-// The value of a key, as it stands in the item that the reader hands out.
+// The value of a key, as it stands in the item whose hold the reader hands out.
 fn held_value<N: Name>(reader: &mut WordReader<N, AnyRow>, key: [u64; 2]) -> Option<u64>
     requires { N.table.slots ≡ 3 }
 {
-    let mut held = reader.get_with(SEED.hash(&key), &key, 20)?;
+    let mut hold = reader.hold(SEED.hash(&key), &key, 20)?;
     let mut value = [0];
-    held.read(&mut value);
-    if held.word(0) == value[0] {
-        Some(value[0])
-    } else {
-        Some(0)
-    }
+    reader.read(&mut hold, 2, &mut value);
+    let word = hold.word(reader.heads(), 2);
+    hold.release(reader.heads());
+    Some(if word == value[0] { word } else { 0 })
 }
 
 // A put that isn't refused, with the row of what it evicts.
@@ -72,7 +77,7 @@ fn put<N: Name>(
     row: [u64; 3],
     evicted: &mut [u64; 3],
     now: u64,
-) -> Put
+) -> PutItem
     requires key { part.old.key_words ≡ 2 }
     requires value { part.old.value_words ≡ 1 }
     ensures key { part.new.key_words ≡ 2 }
@@ -117,7 +122,7 @@ fn call_each<N: Name>(
     assert!(rt; value(reader, [1, 2]).is_none());
     assert!(rt; value(reader, [3, 4]) == Some(50));
     assert!(rt; value(reader, [5, 6]) == Some(70));
-    part.tend(lanes, 8, 9, 1, 1);
+    part.tend(lanes, 8, 9, BOUNDS);
     assert!(rt; value(reader, [3, 4]) == Some(50));
     assert!(rt; held_value(reader, [3, 4]) == Some(50));
     assert!(rt; part.remove(&[5, 6]) == Some(third.chunk));
@@ -140,7 +145,7 @@ fn clear_all<N: Name>(
     requires key { part.old.key_words ≡ 2 }
 {
     part.drain(lanes, 8, 10);
-    part.balance(3, 1, 1);
+    part.balance(3, BOUNDS, 10);
     assert!(rt; value(reader, [3, 4]) == Some(50));
     part.clear();
     assert!(rt; value(reader, [3, 4]).is_none());

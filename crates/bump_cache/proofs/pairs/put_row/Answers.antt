@@ -1,5 +1,5 @@
-use Rattle.std.proofs.Common.{◌≡◌, List, ℕ, ◌++◌, length, take, drop, sym, ap, ◌∙◌, subst}
-use Rattle.cache_shelf.specs.Entries.{AllKept, FindsNoRoom, Had, Keeps, OthersKept, PutsEntry, evicted_key as key_of_evicted}
+use Rattle.std.proofs.Common.{◌≡◌, length, take, drop, sym, ap, ◌∙◌, subst}
+use Rattle.cache_shelf.specs.Entries.{AllKept, FindsNoRoom, Had, Keeps, OthersKept, PutsEntry, key_of_evicted}
 use Rattle.cache_shelf.specs.Turns.{PutsInTurn}
 use Rattle.bump_cache.specs.Pairs.{IsPair}
 use Rattle.bump_cache.proofs.Telling.{entry_told, evicted_told, first_part, key_told, old_told, second_part, value_told}

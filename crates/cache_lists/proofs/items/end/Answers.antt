@@ -1,4 +1,5 @@
 use Rattle.std.proofs.Common.{sym, ap, ◌∙◌, subst}
+use Rattle.bump_rules.specs.declared.items.ItemId.{ItemId}
 use Rattle.bump_rules.specs.Lawful.{Shows}
 use Rattle.bump_rules.specs.Lists.{all_without}
 use Rattle.bump_steps.specs.Views.{owns, standing}
@@ -6,51 +7,56 @@ use Rattle.cache_lists.specs.Linked.{linked_at}
 use Rattle.cache_lists.specs.Segments.{SameSegments}
 use Rattle.cache_lists.proofs.Bumping.{seen_keeps}
 use Rattle.cache_lists.proofs.Segments.{unlinks_others}
-use Rattle.cache_lists.proofs.Standings.{unlinks_at, unlink_ok, unlink_err, unlinks_nothing, see_keeps, kept_ends}
+use Rattle.cache_lists.proofs.Standings.{unlinks_at, unlink_ok, unlink_err, unlinks_nothing, see_keeps, kept_ends, unlinked_none}
 use Rattle.cache_lists.proofs.Ways.{behind_none, seen_flows, unlinks_flow, refused_flow, found_segment}
 use Rattle.cache_lists.proofs.items.end.Goals as goal
 
 pub returns-in-Ok-clause-ends : goal.returns-in-Ok-clause-ends
 returns-in-Ok-clause-ends g c =
-    let id = c.args.id in let book = c.args.book.now in let seen = c.load_head-head.new.self in let left = c.unlink.new.self in
+    let book = c.args.book.now in let seen = c.load_head-head.new.self in let left = c.unlink.new.self in
+    let chunk = c.args.chunk in
+    let id : ItemId = record { chunk = chunk; generation = c.load_head-head.result.generation } in
     let looked = c.load_head-head.ensures.looked in let unlinked = c.in-Ok.ensures.unlinked in
-    let own = ap (λ b. owns id.chunk b.part) looked ∙ c.requires.own in
+    let own = ap (λ b. owns chunk b.part) looked ∙ c.requires.own in
     let linked = unlink_ok seen id c.promise.ensures.stands own c.in-Ok.ensures.refused in
     record {
-      linked = ap (λ b. linked_at b.part id.chunk) (sym looked) ∙ linked;
-      ends = kept_ends book seen left id.chunk (see_keeps book seen id.chunk c.load_head-head.result looked)
+      ends = kept_ends book seen left chunk (see_keeps book seen chunk c.load_head-head.result looked)
           (unlinks_at seen left id _ own linked unlinked);
-      others = subst (λ b. SameSegments (all_without id.chunk b.lists) left.lists) looked (unlinks_others seen left id _ unlinked);
+      others = subst (λ b. SameSegments (all_without chunk b.lists) left.lists) looked (unlinks_others seen left id _ unlinked);
       not_linked = tt;
       kept = tt;
     }
 
 pub returns-in-Ok-clause-flows : goal.returns-in-Ok-clause-flows
 returns-in-Ok-clause-flows g c =
-    let own = ap (λ b. owns c.args.id.chunk b.part) c.load_head-head.ensures.looked ∙ c.requires.own in
-    let linked = unlink_ok c.load_head-head.new.self c.args.id c.promise.ensures.stands own c.in-Ok.ensures.refused in
-    let stood = found_segment c.load_head-head.new.self c.args.id c.load_head-head.result linked
-    (subst (Shows c.load_head-head.result) (ap (λ b. (standing b.part c.args.id.chunk).0) (sym c.load_head-head.ensures.looked)) c.load_head-head.ensures.agrees) in
+    let own = ap (λ b. owns c.args.chunk b.part) c.load_head-head.ensures.looked ∙ c.requires.own in
+    let id : ItemId = record { chunk = c.args.chunk; generation = c.load_head-head.result.generation } in
+    let linked = unlink_ok c.load_head-head.new.self id c.promise.ensures.stands own c.in-Ok.ensures.refused in
+    let stood = found_segment c.load_head-head.new.self id c.load_head-head.result linked
+    (subst (Shows c.load_head-head.result) (ap (λ b. (standing b.part c.args.chunk).0) (sym c.load_head-head.ensures.looked)) c.load_head-head.ensures.agrees) in
     behind_none c.args.book.now c.load_head-head.new.self c.unlink.new.self _
-    (seen_flows c.args.book.now c.load_head-head.new.self c.args.id.chunk c.load_head-head.result c.load_head-head.ensures.looked)
-    (unlinks_flow c.load_head-head.new.self c.unlink.new.self c.args.id _ _ stood c.in-Ok.ensures.unlinked)
+    (seen_flows c.args.book.now c.load_head-head.new.self c.args.chunk c.load_head-head.result c.load_head-head.ensures.looked)
+    (unlinks_flow c.load_head-head.new.self c.unlink.new.self id _ _ stood c.in-Ok.ensures.unlinked)
 
 pub returns-in-Err-clause-ends : goal.returns-in-Err-clause-ends
 returns-in-Err-clause-ends g c =
-    let id = c.args.id in let seen = c.load_head-head.new.self in let left = c.unlink.new.self in
+    let seen = c.load_head-head.new.self in let left = c.unlink.new.self in
+    let chunk = c.args.chunk in
+    let id : ItemId = record { chunk = chunk; generation = c.load_head-head.result.generation } in
     let looked = c.load_head-head.ensures.looked in
-    let own = ap (λ b. owns id.chunk b.part) looked ∙ c.requires.own in
+    let own = ap (λ b. owns chunk b.part) looked ∙ c.requires.own in
     record {
-      linked = tt;
       ends = tt;
       others = tt;
-      not_linked = λ linked. unlink_err seen id _ c.promise.ensures.stands own c.in-Err.ensures.refused
-          (ap (λ b. linked_at b.part id.chunk) looked ∙ linked);
-      kept = seen_keeps c.args.book.now seen left id.chunk c.load_head-head.result looked
+      not_linked = unlinked_none c.args.book.now chunk id.generation c.load_head-head.ensures.generation
+          (λ linked. unlink_err seen id _ c.promise.ensures.stands own c.in-Err.ensures.refused
+          (ap (λ b. linked_at b.part chunk) looked ∙ linked));
+      kept = seen_keeps c.args.book.now seen left chunk c.load_head-head.result looked
           (unlinks_nothing seen left id _ c.in-Err.ensures.unlinked);
     }
 
 pub returns-in-Err-clause-stays : goal.returns-in-Err-clause-stays
 returns-in-Err-clause-stays g c = behind_none c.args.book.now c.load_head-head.new.self c.unlink.new.self _
-    (seen_flows c.args.book.now c.load_head-head.new.self c.args.id.chunk c.load_head-head.result c.load_head-head.ensures.looked)
-    (refused_flow c.load_head-head.new.self c.unlink.new.self c.args.id _ c.in-Err.ensures.unlinked)
+    (seen_flows c.args.book.now c.load_head-head.new.self c.args.chunk c.load_head-head.result c.load_head-head.ensures.looked)
+    (refused_flow c.load_head-head.new.self c.unlink.new.self
+    (record { chunk = c.args.chunk; generation = c.load_head-head.result.generation }) _ c.in-Err.ensures.unlinked)

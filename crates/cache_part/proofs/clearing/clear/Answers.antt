@@ -5,10 +5,10 @@ use Rattle.cache_part.proofs.ClearLemmas.{ClearedTo, cleared_more, cleared_still
 use Rattle.cache_part.proofs.FindLemmas.{led_linked}
 use Rattle.cache_part.proofs.PartLemmas.{within_owned}
 use Rattle.cache_part.proofs.clearing.clear.Goals as goal
-use Rattle.cache_part.proofs.clearing.clear.Goals.{then-is_some, else-is_some}
+use Rattle.cache_part.proofs.clearing.clear.Goals.{then-leads, else-leads}
 
-pub led-requires : goal.led-requires
-led-requires g c =
+pub leads-requires : goal.leads-requires
+leads-requires g c =
     let so_far = c.loop-chunk.invariant in
     omega (arith, c.loop-chunk-test.true, c.chunks-chunk-end.ensures, so_far.part.count, so_far.class.count, c.requires.part.count)
 
@@ -25,7 +25,7 @@ end_led-requires g c =
       c.requires.part.count,
     ) in
     let some : is_some (led_at table chunk) ≡ true =
-    sym (ap is_some c.led.ensures) ∙ (sym c.is_some.ensures ∙ c.if-is_some.true) in
+    sym c.leads.ensures ∙ c.if-leads.true in
     record {
       within = within;
       own = within_owned book.part table so_far.part.first so_far.part.count chunk within;
@@ -47,14 +47,14 @@ loop-chunk-preserved g c =
     let so_far = c.loop-chunk.invariant in let chunk = c.loop-chunk.chunk in let now = c.loop-chunk.lists in
     let index = c.loop-chunk.index in let seed = c.args._settings.seed in let kw = c.args._settings.key_words in
     let P : CountedView → IndexView → Type 0 = ClearedTo seed kw (chunk + 1) c.args.lists.now in
-    elim c.if-is_some.branch [
-      | then-is_some w ↦ subst (λ v. P v c.if-is_some.index) (sym w.lists-is)
+    elim c.if-leads.branch [
+      | then-leads w ↦ subst (λ v. P v c.if-leads.index) (sym w.lists-is)
           (subst (P w.end_led.new.lists) (sym w.index-is)
           (cleared_more seed kw chunk c.args.lists.now now index so_far w.end_led.new.lists w.end_led.new.index
           w.end_led.ensures.ends w.end_led.ensures.table w.end_led.ensures.evictions))
-      | else-is_some w ↦ subst (λ v. P v c.if-is_some.index) (sym w.lists-is)
+      | else-leads w ↦ subst (λ v. P v c.if-leads.index) (sym w.lists-is)
           (subst (P now) (sym w.index-is) (cleared_still seed kw chunk c.args.lists.now now index so_far
-          (sym (ap is_some c.led.ensures) ∙ (sym c.is_some.ensures ∙ w.if-is_some.false))))
+          (sym c.leads.ensures ∙ w.if-leads.false)))
     ]
 
 pub returns-clause-empty : goal.returns-clause-empty

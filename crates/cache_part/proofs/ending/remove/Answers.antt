@@ -2,10 +2,10 @@ use Rattle.std.proofs.Common.{IsSome, sym, ap, ◌∙◌, subst}
 use Rattle.bump_rules.specs.Lists.{all_without}
 use Rattle.cache_lists.specs.Segments.{SameSegments}
 use Rattle.cache_lists.proofs.Standings.{kept_ends}
-use Rattle.cache_part.specs.Keys.{HasKey, IsItemOf}
+use Rattle.cache_part.specs.Keys.{IsItemOf}
 use Rattle.cache_part.specs.Parts.{IsPart}
 use Rattle.cache_part.proofs.LookLemmas.{looks_keep}
-use Rattle.cache_part.proofs.PartLemmas.{part_looked, part_ended, linked_within, linked_owned, item_some, item_none}
+use Rattle.cache_part.proofs.PartLemmas.{part_looked, part_ended, linked_within, linked_owned}
 use Rattle.cache_part.proofs.ending.remove.Goals as goal
 
 pub end_led-requires : goal.end_led-requires

@@ -1,7 +1,6 @@
 use Rattle.std.proofs.Common.{◌≡◌, ℕ, true, IsSome, IfSome, refl, sym, ap, ◌∙◌, subst}
 use Rattle.bump_steps.specs.Views.{owns}
 use Rattle.cache_nests.specs.Views.{led_at, has_answered}
-use Rattle.cache_part.specs.Keys.{key_at}
 use Rattle.cache_part.proofs.FindLemmas.{some_and, led_owned, led_linked, none_more, unknown_all}
 use Rattle.cache_part.proofs.LookLemmas.{looks_keep, looks_then, rest_then}
 use Rattle.cache_part.proofs.KeyLemmas.{words_same}

@@ -1,4 +1,4 @@
-use Rattle.std.proofs.Common.{◌≡◌, ℕ, suc, ◌+◌, get_or, length, refl, sym, ap, ◌∙◌, subst, arith, below_more}
+use Rattle.std.proofs.Common.{◌≡◌, suc, ◌+◌, get_or, refl, sym, ap, ◌∙◌, arith, below_more}
 use Rattle.bump_steps.specs.Views.{owns, last_word}
 use Rattle.cache_part.specs.Keys.{words_from, key_at}
 use Rattle.cache_part.proofs.KeyLemmas.{words_read, word_read}

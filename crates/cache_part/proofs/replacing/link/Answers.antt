@@ -1,5 +1,4 @@
-use Rattle.std.proofs.Common.{◌≡◌, ◌≢◌, ℕ, Option, None, Some, IsSome, refl, sym, ap, ◌∙◌, subst, ne_eqb, if◌then◌else◌}
-use Rattle.bump_class.specs.Books.{BookView}
+use Rattle.std.proofs.Common.{◌≡◌, ℕ, Option, Some, IsSome, sym, ap, ◌∙◌, subst, ne_eqb, if◌then◌else◌}
 use Rattle.cache_lists.specs.Linked.{linked_at}
 use Rattle.cache_lists.proofs.Standings.{owns_same}
 use Rattle.cache_nests.specs.Views.{led_at}

@@ -1,20 +1,14 @@
-use Rattle.std.proofs.Common.{◌≢◌, None, IsSome, refl, sym, ap, ◌∙◌, subst, slice_set, inl}
+use Rattle.std.proofs.Common.{◌≢◌, None, IsSome, sym, ap, ◌∙◌, subst, slice_set, inl}
 use Rattle.std.proofs.lemmas.List.{get_or-set_same, get_or-set_other}
 use Rattle.cache_lists.specs.Linked.{linked_at}
 use Rattle.cache_nests.specs.Views.{led_at, with_generation}
-use Rattle.cache_part.specs.Parts.{generation_led}
 use Rattle.cache_part.proofs.Agreements.{led_some}
 use Rattle.cache_part.proofs.replacing.replace.Goals as goal
 
-pub unreachable-requires : goal.unreachable-requires
-unreachable-requires g c =
-    let some = led_some (led_at c.args.index.now.table c.args.old) (linked_at c.args.lists.now.book.part c.args.old)
-    c.requires.led c.requires.linked in
-    absurd (cc (subst IsSome (sym c.in_default.ensures) some))
-
 pub lead-requires : goal.lead-requires
 lead-requires g c = record {
-  old = subst IsSome c.in-Some.ensures refl;
+  old = led_some (led_at c.args.index.now.table c.args.old) (linked_at c.args.lists.now.book.part c.args.old)
+      c.requires.led c.requires.linked;
   chunk = c.requires.chunk;
   anew = inl c.requires.anew;
 }
@@ -22,7 +16,8 @@ lead-requires g c = record {
 pub end_unled-requires : goal.end_unled-requires
 end_unled-requires g c =
     let table = c.args.index.now.table in
-    let some : IsSome (led_at table c.args.old) = subst IsSome c.in-Some.ensures refl in
+    let some = led_some (led_at table c.args.old) (linked_at c.args.lists.now.book.part c.args.old) c.requires.led
+    c.requires.linked in
     let apart : c.args.old ≢ c.args.id.chunk = λ same. absurd (cc (subst IsSome (ap (led_at table) same ∙ c.requires.anew) some)) in
     record {
       unled = ap (λ t. led_at t c.args.old) c.lead.ensures.table
@@ -30,7 +25,7 @@ end_unled-requires g c =
           (with_generation c.args.id.generation (led_at table c.args.old)) None apart
           ∙ get_or-set_same table c.args.old None None c.requires.within;
       own = c.requires.own;
-      linked = sym c.requires.led ∙ ap generation_led (sym c.in-Some.ensures);
+      linked = c.requires.linked;
     }
 
 pub returns-clause-table : goal.returns-clause-table

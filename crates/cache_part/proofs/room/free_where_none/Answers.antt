@@ -1,4 +1,4 @@
-use Rattle.std.proofs.Common.{refl, arith, inl, inr, ap, ap₂}
+use Rattle.std.proofs.Common.{arith, inr}
 use Rattle.cache_part.proofs.room.free_where_none.Goals as goal
 
 pub returns-clause-frees : goal.returns-clause-frees

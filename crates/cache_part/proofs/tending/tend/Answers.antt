@@ -1,4 +1,4 @@
-use Rattle.std.proofs.Common.{◌∙◌, ap}
+use Rattle.std.proofs.Common.{◌∙◌}
 use Rattle.cache_lists.proofs.Standings.{keeps_then}
 use Rattle.cache_part.proofs.tending.tend.Goals as goal
 

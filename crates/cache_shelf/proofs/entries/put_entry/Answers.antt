@@ -1,4 +1,4 @@
-use Rattle.std.proofs.Common.{◌∙◌, ap, ap₂, take, drop}
+use Rattle.std.proofs.Common.{◌∙◌, ap, ap₂}
 use Rattle.cache_part.specs.Keys.{value_at}
 use Rattle.cache_shelf.proofs.Keeping.{IsAlike, at_told, moved_keeps, moved_lawful}
 use Rattle.cache_shelf.proofs.Moving.{evicted_then, had_read, others_then, reads_move}

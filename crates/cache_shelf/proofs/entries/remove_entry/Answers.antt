@@ -1,7 +1,7 @@
-use Rattle.std.proofs.Common.{ap, ◌∙◌}
+use Rattle.std.proofs.Common.{ap}
 use Rattle.cache_shelf.proofs.Keeping.{IsAlike, at_told, moved_lawful, moved_unknown}
 use Rattle.cache_shelf.proofs.Moving.{had_read, others_then, reads_move}
-use Rattle.cache_shelf.proofs.Removing.{removed_item, removed_lawful, removed_others, removed_unknown}
+use Rattle.cache_shelf.proofs.Removing.{lists_then, removed_item, removed_lawful, removed_others, removed_unknown}
 use Rattle.cache_shelf.proofs.entries.remove_entry.Goals as goal
 
 pub returns-clause-lawful : goal.returns-clause-lawful
@@ -39,3 +39,7 @@ returns-clause-others g c =
     (removed_others _ c.args.part.now mid
     (record { key_words = ap (λ p. p.key_words) e.rest; value_words = ap (λ p. p.value_words) e.rest })
     c.promise.ensures.part c.remove-chunk.result e.found e.ends e.looks)
+
+pub returns-clause-lists : goal.returns-clause-lists
+returns-clause-lists g c = lists_then c.remove-chunk.result c.args.part.now c.remove-chunk.new.self c.read_value.new.part
+    c.remove-chunk.ensures.others c.read_value.ensures.reads.looks

@@ -13,8 +13,8 @@ invariant_of-self g c = subst (λ f. IsFlow f c.end.new.book.part) (sym c.note_e
 
 pub returns-in-Some-clause-ends : goal.returns-in-Some-clause-ends
 returns-in-Some-clause-ends g c =
-    subst (λ v. EndsLinked c.args.id (Some c.in-Some.from) v.book c.end.new.book) c.self.view_is c.in-Some.ensures.ends
+    subst (λ v. EndsLinked c.args.chunk (Some c.in-Some.from) v.book c.end.new.book) c.self.view_is c.in-Some.ensures.ends
 
 pub returns-in-None-clause-ends : goal.returns-in-None-clause-ends
 returns-in-None-clause-ends g c =
-    subst (λ v. EndsLinked c.args.id None v.book c.end.new.book) c.self.view_is c.in-None.ensures.ends
+    subst (λ v. EndsLinked c.args.chunk None v.book c.end.new.book) c.self.view_is c.in-None.ensures.ends

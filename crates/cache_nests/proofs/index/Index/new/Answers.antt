@@ -2,8 +2,8 @@ use Rattle.std.proofs.Common.{◌≡◌, ℕ, ◌+◌, ◌*◌, ◌/◌, List, m
 use Rattle.std.proofs.Common.{arith}
 use Rattle.std.specs.Arc.{arc_value}
 use Rattle.cache_nests.specs.declared.led.Way.{Way}
-use Rattle.cache_nests.specs.Leads.{no_way, led_by, AreLed, IsRoomy}
-use Rattle.cache_nests.specs.Views.{NestsView}
+use Rattle.cache_nests.specs.Leads.{no_way, AreLed, IsRoomy}
+use Rattle.cache_nests.specs.Views.{NestsView, led_by}
 use Rattle.cache_nests.proofs.RoomLemmas.{new_is_led, new_is_roomy}
 use Rattle.cache_nests.proofs.WriterLemmas.{none_led}
 use Rattle.cache_nests.proofs.index.Index.new.Goals as goal
@@ -31,4 +31,4 @@ pub returns : goal.returns
 returns c =
     let ways : c.loop.ways.items ≡ replicate c.args.chunks no_way =
     c.loop.invariant ∙ (let e : c.loop.counter ≡ c.args.chunks = omega arith in ap (λ (n : ℕ). replicate n no_way) e) in
-    ap (λ (vs : List Way). map led_by vs) ways ∙ none_led c.args.chunks
+    ap (λ (vs : List Way). map (led_by c.in_ok-nests.pen.words) vs) ways ∙ none_led c.in_ok-nests.pen.words c.args.chunks

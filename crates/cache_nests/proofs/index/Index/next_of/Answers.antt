@@ -1,7 +1,7 @@
-use Rattle.std.proofs.Common.{refl, sym, ap, arith}
+use Rattle.std.proofs.Common.{refl, sym, ap, ◌∙◌, arith}
 use Rattle.std.specs.Arc.{arc_value}
 use Rattle.pen_words.specs.Known.{PenView}
-use Rattle.cache_nests.specs.Views.{NestsView}
+use Rattle.cache_nests.specs.Views.{NestsView, index_view}
 use Rattle.cache_nests.proofs.AnswerLemmas.{found_from, life_found, answer_anew, answer_led, answer_answered, end_all}
 use Rattle.cache_nests.proofs.index.Index.next_of.Goals as goal
 
@@ -67,4 +67,6 @@ returns-clause-answered c =
     answer_answered c.args.self.now c.args.search.now (arc_value c.self.inside.nests).nests c.self.inside.pen.words
     c.self.inside.ways.items
     c.search.inside.hash c.search.inside.looked c.in-Some.at c.life_of.result.chunk c.life.result
-    (sym c.self.view_is) (sym c.search.view_is) it number c.life_of.ensures.chunk _ _ refl refl
+    (sym c.self.view_is) (sym c.search.view_is) it number c.life_of.ensures.chunk _ _
+    (ap (λ (p : PenView). index_view (arc_value c.self.inside.nests).nests p.words c.self.inside.ways.items)
+    (c.life.ensures.pen ∙ c.look.ensures.pen)) refl

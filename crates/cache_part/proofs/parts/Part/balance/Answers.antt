@@ -1,6 +1,6 @@
 use Rattle.std.proofs.Common.{refl, subst}
 use Rattle.cache_lists.specs.Items.{KeepsItems}
-use Rattle.cache_part.specs.Tending.{BalancesTimes}
+use Rattle.cache_part.specs.Tending.{BalancesByAge}
 use Rattle.cache_part.proofs.PartLemmas.{part_kept}
 use Rattle.cache_part.proofs.ViewLemmas.{index_stays}
 use Rattle.cache_part.proofs.parts.Part.balance.Goals as goal
@@ -15,7 +15,7 @@ invariant_of-self g c = (
 pub returns : goal.returns
 returns g c =
     let is = c.self.view_is in let left = c.balance.new.lists in record {
-      balances = subst (λ v. BalancesTimes c.args.count c.args.hot c.args.warm v.book left.book) is c.balance.ensures.balances;
+      balances = subst (λ v. BalancesByAge c.args.most c.args.bounds c.args.now v.book left.book) is c.balance.ensures.balances;
       items = subst (λ v. KeepsItems v.book left.book) is c.balance.ensures.kept;
       rest = index_stays _ _ left c.self.inside.index.table is c.balance.ensures.evictions refl;
     }

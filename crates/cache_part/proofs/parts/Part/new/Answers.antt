@@ -1,4 +1,4 @@
-use Rattle.std.proofs.Common.{sym, ap, subst}
+use Rattle.std.proofs.Common.{sym, subst}
 use Rattle.cache_part.specs.Parts.{IsPart}
 use Rattle.cache_part.proofs.PartLemmas.{part_new}
 use Rattle.cache_part.proofs.parts.Part.new.Goals as goal

@@ -15,8 +15,7 @@ invariant_of-self g c = (
 pub returns : goal.returns
 returns g c =
     let is = c.self.view_is in let left = c.tend.new.lists in record {
-      tends = subst (λ v. Tends c.args.most c.args.now c.args.hot c.args.warm v.book c.args.lanes.now left.book
-          c.tend.new.lanes) is c.tend.ensures.tends;
+      tends = subst (λ v. Tends c.args.most c.args.now c.args.bounds v.book c.args.lanes.now left.book c.tend.new.lanes) is c.tend.ensures.tends;
       items = subst (λ v. KeepsItems v.book left.book) is c.tend.ensures.kept;
       rest = index_stays _ _ left c.self.inside.index.table is c.tend.ensures.evictions refl;
     }

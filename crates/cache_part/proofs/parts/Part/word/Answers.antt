@@ -1,5 +1,4 @@
-use Rattle.std.proofs.Common.{refl, subst, ap, ◌∙◌}
-use Rattle.bump_steps.specs.Views.{owns, last_word}
+use Rattle.std.proofs.Common.{refl, subst}
 use Rattle.cache_part.specs.Looks.{LooksOnly}
 use Rattle.cache_part.proofs.LookLemmas.{looks_keep, word_looks, word_rest}
 use Rattle.cache_part.proofs.PartLemmas.{part_kept}

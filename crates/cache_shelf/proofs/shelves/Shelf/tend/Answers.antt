@@ -1,6 +1,6 @@
 use Rattle.std.proofs.Common.{None, ap, subst}
 use Rattle.cache_shelf.specs.Entries.{AllKept}
-use Rattle.cache_shelf.proofs.Keeping.{IsAlike, moved_all, moved_lawful}
+use Rattle.cache_shelf.proofs.Keeping.{moved_all, moved_lawful}
 use Rattle.cache_shelf.proofs.shelves.Shelf.tend.Goals as goal
 
 pub invariant_of-self : goal.invariant_of-self
