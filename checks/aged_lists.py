@@ -1,0 +1,130 @@
+#!/usr/bin/env python3
+"""Runs keys, one a line, through plain lists by the cache's rules, for one reader: what `bump_replay` has to count.
+
+    checks/aged_lists.py ITEMS HOT WARM HOT_AGE WARM_AGE RING EVERY < KEYS
+
+HOT and WARM are percents of the items, HOT_AGE and WARM_AGE percents of the age of COLD, or - where ages don't count; EVERY is
+after how many accesses the lists are tended. It prints the hits, and how often items went from list to list.
+"""
+import sys
+from collections import OrderedDict, deque
+
+PUT_BUMPS, PUT_ROUNDS, TEND_ROUNDS, RESCUES = 16, 8, 100, 8
+
+
+class Item:
+    def __init__(self, key, now):
+        self.key, self.time, self.fetched, self.active, self.place = key, now, False, False, "hot"
+
+
+class Lists:
+    """Each list is a dictionary of its items; the first that went in is its last item."""
+
+    def __init__(self, items, hot, warm, hot_age, warm_age, ring):
+        self.items, self.ring = items, ring
+        self.most = {"hot": items * hot // 100, "warm": items * warm // 100}
+        self.percent = {"hot": hot_age, "warm": warm_age}
+        self.lists = {place: OrderedDict() for place in ("hot", "warm", "cold")}
+        self.of_key, self.bumps, self.puts, self.ways = {}, deque(), 0, {}
+
+    def go(self, item, place):
+        way = f"{item.place}_to_{place}"
+        self.ways[way] = self.ways.get(way, 0) + 1
+        del self.lists[item.place][item]
+        self.lists[place][item] = None
+        item.place, item.active = place, False
+
+    def last(self, place):
+        return next(iter(self.lists[place]), None)
+
+    def drain(self, most, now):
+        for _ in range(min(most, len(self.bumps))):
+            item = self.bumps.popleft()
+            if item.place is None:
+                continue
+            item.time = now
+            if item.place == "cold" and item.active:
+                self.go(item, "warm")
+
+    def goes_on(self, place, age, now):
+        item = self.last(place)
+        if item is None:
+            return False
+        old = self.percent[place] is not None and now - item.time > age * self.percent[place] // 100
+        if not (item.active or len(self.lists[place]) > self.most[place] or old):
+            return False
+        self.go(item, "warm" if item.active else "cold")
+        return True
+
+    def balance(self, rounds, now):
+        cold = self.last("cold")
+        age = now - cold.time if cold else 0
+        for _ in range(rounds):
+            # both are looked at in each round
+            if not [place for place in ("hot", "warm") if self.goes_on(place, age, now)]:
+                return
+
+    def evict(self):
+        for _ in range(RESCUES):
+            item = self.last("cold")
+            if item is None or not item.active:
+                break
+            self.go(item, "warm")
+        item = self.last("cold") or self.last("warm") or self.last("hot")
+        if item.place != "cold":
+            self.go(item, "warm" if item.active else "cold")
+        self.ways[f"ended_{item.place}"] = self.ways.get(f"ended_{item.place}", 0) + 1
+        del self.lists[item.place][item]
+        item.place = None
+        del self.of_key[item.key]
+
+    def get(self, key, now):
+        item = self.of_key.get(key)
+        if item is None:
+            return False
+        if item.fetched and not item.active:
+            item.active = True
+            if item.place != "cold":
+                item.time = now
+            elif len(self.bumps) < self.ring:
+                self.bumps.append(item)
+            else:
+                item.active = False
+        item.fetched = True
+        return True
+
+    def put(self, key, now):
+        self.drain(PUT_BUMPS, now)
+        if len(self.of_key) >= self.items:
+            self.evict()
+        item = Item(key, now)
+        self.of_key[key] = item
+        self.lists["hot"][item] = None
+        self.puts += 1
+        if self.puts % PUT_ROUNDS == 0:
+            self.balance(PUT_ROUNDS, now)
+
+    def tend(self, now):
+        self.drain(self.ring, now)
+        self.balance(TEND_ROUNDS, now)
+
+
+def main():
+    items, hot, warm = map(int, sys.argv[1:4])
+    hot_age, warm_age = (None if word == "-" else int(word) for word in sys.argv[4:6])
+    ring, every = map(int, sys.argv[6:8])
+    lists, hits = Lists(items, hot, warm, hot_age, warm_age, ring), 0
+    for now, line in enumerate(line for line in sys.stdin if line.strip()):
+        key = line.rstrip("\r\n")
+        if lists.get(key, now):
+            hits += 1
+        else:
+            lists.put(key, now)
+        if now % every == 0:
+            lists.tend(now)
+    print("hits", hits)
+    for way in sorted(lists.ways):
+        print(way, lists.ways[way])
+
+
+main()
