@@ -1,8 +1,6 @@
-//! Worked traces of the trace language: theorems about what some traces mean (`runs`, `faults`), and tests of the whole
-//! run on most of these and on more.
+//! Worked traces of the trace language through the whole run, by the model and on a store, most of those of
+//! `worked_traces` and more.
 #![tactic(auto)]
 
-pub mod faults;
-pub mod runs;
 #[cfg(test)]
 mod tests;
