@@ -7,8 +7,6 @@ mod logs;
 mod policies;
 mod replays;
 mod tallies;
-#[cfg(test)]
-mod tests;
 
 pub use faults::PolicyFault;
 pub use logs::replay;

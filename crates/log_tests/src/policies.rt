@@ -1,0 +1,226 @@
+//! Runs with known tallies, and runs beside a plain list.
+use replay_policies::{MAX_ITEMS, Policy, PolicyFault, Replay, Tally, replay};
+use std::alloc::{AllocError, Global};
+use std::process::Abort;
+use std::test::*;
+
+// The tally of so many hits and misses.
+fn tally(hits: u64, misses: u64) -> Tally {
+    Tally {
+        accesses: hits.wrapping_add(misses),
+        hits,
+        misses,
+    }
+}
+
+// A log of so many keys below the bound, in an order that looks random.
+fn shuffled(alloc: Global, count: u32, bound: u32) -> Result<Vec<u32>, AllocError> {
+    let mut state = 88_172_645_463_325_252u64;
+    let mut keys = Vec::new(alloc);
+    for _ in 0..count {
+        state = state
+            .wrapping_mul(6_364_136_223_846_793_005)
+            .wrapping_add(1_442_695_040_888_963_407);
+        keys.push((state >> 33) as u32 % bound.max(1))?;
+    }
+    Ok(keys)
+}
+
+// A cache as a plain list, the one to evict first: whether the key was in it.
+fn model_access(
+    keys: &mut Vec<u32>,
+    policy: Policy,
+    items: usize,
+    key: u32,
+) -> Result<bool, AllocError> {
+    let mut kept = Vec::new(keys.allocator().clone()?);
+    let mut hit = false;
+    for old in keys.iter() {
+        if *old == key {
+            hit = true;
+        }
+        if *old != key || policy == Policy::Fifo {
+            kept.push(*old)?;
+        }
+    }
+    if !hit || policy == Policy::Lru {
+        kept.push(key)?;
+    }
+    keys.clear();
+    let skipped = kept.len().saturating_sub(items);
+    for old in kept.iter().skip(skipped) {
+        keys.push(*old)?;
+    }
+    Ok(hit)
+}
+
+// Whether an access hits.
+fn access(run: &mut Replay, key: u32) -> Result<bool, AllocError> {
+    run.access(key)
+}
+
+// What the accesses so far came to.
+fn told(run: &Replay) -> Tally {
+    run.tally()
+}
+
+// A log through a cache of so many items comes to so many hits and misses.
+fn expect(
+    rt: &impl Abort,
+    alloc: Global,
+    policy: Policy,
+    items: u32,
+    accesses: &[u32],
+    wanted: Tally,
+) -> Result<(), PolicyFault> {
+    let tally = replay(alloc, policy, items, accesses)?;
+    assert_eq!(rt; tally, wanted);
+    Ok(())
+}
+
+// By both policies.
+fn expect_both(
+    rt: &impl Abort,
+    alloc: Global,
+    items: u32,
+    accesses: &[u32],
+    wanted: Tally,
+) -> Result<(), PolicyFault> {
+    expect(rt, alloc, Policy::Lru, items, accesses, wanted)?;
+    expect(rt, alloc, Policy::Fifo, items, accesses, wanted)
+}
+
+// Runs the log beside the plain list, and compares each answer. It gives how many were hits.
+fn count_alike(
+    rt: &impl Abort,
+    run: &mut Replay,
+    policy: Policy,
+    items: u32,
+    accesses: &[u32],
+    alloc: Global,
+) -> Result<u64, AllocError> {
+    let mut keys = Vec::new(alloc);
+    let mut hits = 0u64;
+    for key in accesses {
+        let wanted = model_access(&mut keys, policy, items as usize, *key)?;
+        let hit = access(run, *key)?;
+        assert_eq!(rt; hit, wanted);
+        hits = hits.wrapping_add(u64::from(hit));
+    }
+    Ok(hits)
+}
+
+// The log comes to the same as by the plain list, access by access and as a whole.
+fn runs_alike(
+    rt: &impl Abort,
+    alloc: Global,
+    policy: Policy,
+    items: u32,
+    accesses: &[u32],
+) -> Result<(), Fail> {
+    let mut run = Replay::new(alloc, policy, items)?;
+    let hits = count_alike(rt, &mut run, policy, items, accesses, alloc)?;
+    let misses = (accesses.len() as u64).wrapping_sub(hits);
+    let wanted = tally(hits, misses);
+    assert_eq!(rt; told(&run), wanted);
+    expect(rt, alloc, policy, items, accesses, wanted)?;
+    Ok(())
+}
+
+// Each access of these keys is a hit, or isn't.
+fn expect_hits(
+    rt: &impl Abort,
+    run: &mut Replay,
+    accesses: &[(u32, bool)],
+) -> Result<(), AllocError> {
+    for (key, wanted) in accesses {
+        let hit = access(run, *key)?;
+        assert!(rt; hit == *wanted, "key {key}");
+    }
+    Ok(())
+}
+
+#[test]
+fn lru_keeps_what_was_asked_for(rt: HostRuntime) -> Result<(), Fail> {
+    let mut run = Replay::new(rt.alloc(), Policy::Lru, 3)?;
+    assert_eq!(rt; told(&run), tally(0, 0));
+    let first = [(1, false), (2, false), (3, false), (1, true)];
+    expect_hits(&rt, &mut run, &first)?;
+    expect_hits(&rt, &mut run, &[(4, false), (1, true), (2, false)])?;
+    assert_eq!(rt; told(&run), tally(2, 5));
+    assert_eq!(rt; run.key_count(), 3);
+    Ok(())
+}
+
+#[test]
+fn fifo_keeps_what_came_last(rt: HostRuntime) -> Result<(), Fail> {
+    let mut run = Replay::new(rt.alloc(), Policy::Fifo, 3)?;
+    let first = [(1, false), (2, false), (3, false), (1, true)];
+    expect_hits(&rt, &mut run, &first)?;
+    expect_hits(&rt, &mut run, &[(4, false), (1, false), (2, false)])?;
+    assert_eq!(rt; told(&run), tally(1, 6));
+    Ok(())
+}
+
+#[test]
+fn one_item(rt: HostRuntime) -> Result<(), Fail> {
+    let accesses = [7, 7, 8, 7, 7, 7, 0, 4_294_967_295, 4_294_967_295];
+    expect_both(&rt, rt.alloc(), 1, &accesses, tally(4, 5))?;
+    expect(&rt, rt.alloc(), Policy::Fifo, 1, &[], tally(0, 0))?;
+    Ok(())
+}
+
+#[test]
+fn one_key(rt: HostRuntime) -> Result<(), Fail> {
+    expect_both(&rt, rt.alloc(), 10, &[9; 50], tally(49, 1))?;
+    Ok(())
+}
+
+#[test]
+fn items_are_one_to_a_million(rt: HostRuntime) -> Result<(), Fail> {
+    let accesses = [1, 2, 1];
+    let fault = Err(PolicyFault::Items);
+    assert_eq!(rt; replay(rt.alloc(), Policy::Lru, 0, &accesses), fault);
+    assert_eq!(rt;
+        replay(rt.alloc(), Policy::Fifo, MAX_ITEMS + 1, &accesses),
+        fault
+    );
+    expect_both(&rt, rt.alloc(), MAX_ITEMS, &accesses, tally(1, 2))?;
+    Ok(())
+}
+
+// Five times so many keys in turn.
+fn scans(alloc: Global, keys: u32) -> Result<Vec<u32>, AllocError> {
+    let mut accesses = Vec::new(alloc);
+    for _pass in 0..5 {
+        for key in 0..keys {
+            accesses.push(key)?;
+        }
+    }
+    Ok(accesses)
+}
+
+#[test]
+fn scans_that_do_not_fit_never_hit(rt: HostRuntime) -> Result<(), Fail> {
+    let accesses = scans(rt.alloc(), 101)?;
+    expect_both(&rt, rt.alloc(), 100, &accesses, tally(0, 505))?;
+    expect(
+        &rt,
+        rt.alloc(),
+        Policy::Lru,
+        101,
+        &accesses,
+        tally(404, 101),
+    )?;
+    Ok(())
+}
+
+#[test]
+fn runs_as_a_plain_list_does(rt: HostRuntime) -> Result<(), Fail> {
+    let accesses = shuffled(rt.alloc(), 3_000, 40)?;
+    for items in [1, 2, 7, 30, 41] {
+        runs_alike(&rt, rt.alloc(), Policy::Lru, items, &accesses)?;
+        runs_alike(&rt, rt.alloc(), Policy::Fifo, items, &accesses)?;
+    }
+    Ok(())
+}
