@@ -10,8 +10,6 @@ mod outcomes;
 mod plans;
 mod replays;
 mod scribes;
-#[cfg(test)]
-mod tests;
 mod traces;
 
 pub use bump_cache::{Accounts, CacheConfig, CacheFault, Seed, Stats};

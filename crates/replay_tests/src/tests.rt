@@ -1,6 +1,6 @@
-use crate::{Plan, ReplayFault, ReplayTrace, replay, trace_of};
 use bump_cache::{CacheConfig, CacheFault, Seed};
 use bump_trace::{Counted, SimFault, run_model};
+use replay_runs::{Plan, ReplayFault, ReplayTrace, replay, trace_of};
 use std::alloc::{AllocError, Global};
 use std::hash::RandomState;
 use std::process::Abort;
