@@ -134,18 +134,6 @@ fn expect_worker<N: Name, R: Abort + Wait>(
     Ok(expect_counts(rt, store, told, lane, left))
 }
 
-// The workers, if each of them had memory.
-fn all_told<N: Name>(
-    alloc: Global,
-    told: Vec<Result<Told<N>, AllocError>>,
-) -> Result<Vec<Told<N>>, AllocError> {
-    let mut all = Vec::new(alloc);
-    for told in told {
-        all.push(told?)?;
-    }
-    Ok(all)
-}
-
 // Each worker's accounts and lane, and First came once for a life. Tells how many bumps all lanes had applied before.
 fn expect_workers<N: Name, R: Abort + Wait>(
     rt: &R,
@@ -178,7 +166,7 @@ pub fn expect_told<N: Name, R: Abort + Wait>(
     rt: &R,
     alloc: Global,
     store: &Store<N>,
-    told: Vec<Result<Told<N>, AllocError>>,
+    told: Vec<Told<N>>,
     keeper: Keeper<N>,
 ) -> Result<(), AllocError> {
     let Keeper {
@@ -189,7 +177,6 @@ pub fn expect_told<N: Name, R: Abort + Wait>(
     } = keeper;
     let refs = refs_left(rt, store);
     let mut left = [0u32; 64];
-    let told = all_told(alloc, told)?;
     let mut firsts = Vec::new(alloc);
     let applied = expect_workers(rt, store, &told, &mut lanes, &mut left, &mut firsts)?;
     expect(rt, "applied bumps", &applied, &drained);

@@ -79,24 +79,18 @@ fn touch_once<N: Name, R: Abort>(
 impl<N: Name> Told<N> {
     // Gets the chunk's item, as its head shows it, reads its label twice, and touches it. The label is odd in the
     // second class.
-    fn touch<R: Abort>(
-        &mut self,
-        rt: &R,
-        heads: &ReaderHeads<N>,
-        chunk: u32,
-        now: u64,
-    ) -> Result<(), AllocError> {
+    fn touch<R: Abort>(&mut self, rt: &R, heads: &ReaderHeads<N>, chunk: u32, now: u64) {
         let item = item_in(rt, heads, chunk);
         let Some((label, touch)) = touch_once(rt, heads, &mut self.worker, item, now) else {
-            return Ok(());
+            return;
         };
         expect(rt, "which class", &(label % 2), &u64::from(chunk >= 48));
         self.touches = self.touches.saturating_add(1);
         self.answers = counted(self.answers, touch);
         if matches!(touch, Touch::First) {
-            self.firsts.push(key_of(item))?;
+            let is_kept = self.firsts.push(key_of(item)).is_ok();
+            assert!(rt; is_kept, "there is memory");
         }
-        Ok(())
     }
 }
 
@@ -105,7 +99,7 @@ fn touch_all<N: Name, R: Abort>(
     alloc: Global,
     heads: &ReaderHeads<N>,
     worker: Worker<N>,
-) -> Result<Told<N>, AllocError> {
+) -> Told<N> {
     let mut told = Told {
         worker,
         firsts: Vec::new(alloc),
@@ -119,9 +113,9 @@ fn touch_all<N: Name, R: Abort>(
         },
     };
     for step in 0..TOUCHES {
-        told.touch(rt, heads, step % 64, u64::from(step))?;
+        told.touch(rt, heads, step % 64, u64::from(step));
     }
-    Ok(told)
+    told
 }
 
 /// Each worker touches the items of all 64 chunks in turn, in a thread of its own.
@@ -130,6 +124,6 @@ pub fn touch_apart<N: Name + Send + Sync, R: Threads + Abort + Sync>(
     alloc: Global,
     heads: &ReaderHeads<N>,
     workers: Vec<Worker<N>>,
-) -> Result<Vec<Result<Told<N>, AllocError>>, AllocError> {
+) -> Result<Vec<Told<N>>, AllocError> {
     thread::map_vec(rt, workers, &|worker| touch_all(rt, alloc, heads, worker))
 }
