@@ -7,7 +7,6 @@ use Rattle.bump_steps.specs.Views.{last_words}
 use Rattle.bump_steps.specs.References.{words_in}
 use Rattle.cache_part.specs.Keys.{key_at, value_at, words_from}
 use Rattle.cache_part.specs.Parts.{PartView}
-use Rattle.cache_part.specs.Putting.{row_at}
 use Rattle.cache_part.proofs.KeyLemmas.{words_read}
 use Rattle.cache_readers.specs.Looks.{HasWords}
 use Rattle.bump_cache.specs.Pairs.{IsPair}
@@ -25,13 +24,13 @@ module _ {K V : Type 0} (fits_key : K → Type 0) (key_words : K → List ℕ) (
     (value_words : V → List ℕ) (key_width value_width : ℕ)
     (key_length : (k : K) → fits_key k → length (key_words k) ≡ key_width)
     (value_length : (v : V) → fits_value v → length (value_words v) ≡ value_width) where
-  -- so is the row of a chunk, where a key and a value have as many words
+  -- so are the further words of a chunk, where a key and a value have as many
   pub record IsPairRow (part : PartView) (chunk : ℕ) : Type 0 where
     pub key : K
     pub value : V
     pub key_fits : fits_key key
     pub value_fits : fits_value value
-    pub row : row_at part chunk ≡ key_words key ++ value_words value
+    pub row : words_from 0 (part.key_words + part.value_words) part.book.part chunk ≡ key_words key ++ value_words value
     pub at_key : key_at part.key_words part.book.part chunk ≡ key_words key
     pub at_value : value_at part.key_words part.value_words part.book.part chunk ≡ value_words value
 

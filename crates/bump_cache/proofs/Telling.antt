@@ -1,20 +1,21 @@
 -- What was told as words, told as keys and values.
-use Rattle.std.proofs.Common.{◌≡◌, ℕ, Bool, List, ◌++◌, length, take, drop, Option, None, Some, IfSome, IfNone, is_some, option_map, refl, sym, ap, ◌∙◌, subst}
+use Rattle.std.proofs.Common.{◌≡◌, ◌+◌, inl, inr, ℕ, Bool, true, false, if◌then◌else◌, List, ◌∷◌, ◌++◌, length, take, drop, Option, None, Some, IfSome, IfNone, is_some, option_map, refl, sym, ap, ◌∙◌, subst}
 use Rattle.std.proofs.Math.Seq.{drop-append_seam, take-append_seam}
 use Rattle.bump_rules.specs.Lists.{all_without}
 use Rattle.bump_steps.specs.Rule.{RowPredicate}
-use Rattle.bump_steps.specs.Views.{last_words}
+use Rattle.bump_steps.specs.Views.{last_label, last_words}
 use Rattle.cache_lists.specs.Items.{EndsAt}
 use Rattle.cache_lists.specs.Segments.{SameSegments}
-use Rattle.cache_part.specs.Keys.{key_at, value_at}
+use Rattle.cache_part.specs.Keys.{key_at, value_at, words_from}
 use Rattle.cache_part.specs.Looks.{LooksOnly}
-use Rattle.cache_part.specs.Parts.{PartView, IsUnknown}
+use Rattle.cache_part.specs.Parts.{PartView, IsItem, IsPart, IsUnknown}
 use Rattle.cache_part.specs.Putting.{row_at}
-use Rattle.cache_shelf.specs.Entries.{Evicted, Had, key_of_evicted}
+use Rattle.cache_shelf.specs.Entries.{Evicted as TellsRowOf, Had, Keeps, key_of_evicted}
+use Rattle.entry_times.specs.Times.{has_expired}
 use Rattle.packed_words.specs.Parts.{same_parts}
-use Rattle.bump_cache.specs.declared.answers.Entry.{Entry}
+use Rattle.bump_cache.specs.declared.answers.Evicted.{Evicted}
 use Rattle.bump_cache.specs.Pairs.{IsPair}
-use Rattle.bump_cache.specs.Putting.{EndsOne, HadValue, WasEvicted, evicted_key}
+use Rattle.bump_cache.specs.Putting.{EndsKey, HadValue, IsPairOfWords, IsTimedValue, TellsEvicted, TellsValue, WasEvicted, evicted_key}
 use Rattle.bump_cache.proofs.PairLemmas.{IsPairRow, pair_row}
 
 -- the first of two lists
@@ -25,16 +26,28 @@ first_part first second n long = ap (λ m. take m (first ++ second)) long ∙ ta
 pub second_part : (first second : List ℕ) (n : ℕ) → n ≡ length first → drop n (first ++ second) ≡ second
 second_part first second n long = ap (λ m. drop m (first ++ second)) long ∙ drop-append_seam first second
 
--- one item ended, or none
-pub ends_told : (chunk : Option ℕ) (some : Bool) (before after : PartView) → some ≡ is_some chunk
-    → IfSome chunk (λ c. EndsAt c before.book after.book)
+-- the chunk that had the key has its item
+pub had_item : (law : RowPredicate) (key : List ℕ) (chunk : Option ℕ) (from words : List ℕ) (part : PartView)
+    → Had law key chunk from words part → IsItem key chunk part
+had_item law key None from words part had = had.0
+had_item law key (Some c) from words part had = had.under
+
+-- the key's item ended, or it had none
+pub ends_told : (law : RowPredicate) (key : List ℕ) (chunk : Option ℕ) (from words : List ℕ) (before after : PartView)
+    → Had law key chunk from words before → IfSome chunk (λ c. EndsAt c before.book after.book)
     → IfSome chunk (λ c. SameSegments (all_without c before.book.lists) after.book.lists)
     → IfNone chunk (LooksOnly before.book after.book) → IfNone chunk (after ≡ record before { book = after.book })
-    → EndsOne some before after
-ends_told None some before after same ends lists looks rest =
-    subst (λ s. EndsOne s before after) (sym same) (record { looks = looks; rest = rest })
-ends_told (Some c) some before after same ends lists looks rest =
-    subst (λ s. EndsOne s before after) (sym same) (record { chunk = c; ends = ends; lists = lists })
+    → EndsKey key before after
+ends_told law key None from words before after had ends lists looks rest =
+    inr (had.0, record { looks = looks; rest = rest })
+ends_told law key (Some c) from words before after had ends lists looks rest =
+    inl (record { chunk = c; under = had.under; ends = ends; lists = lists })
+
+-- a value that expires then is told where it hasn't
+pub told_unless : {V : Type 0} (value : V) (expired : Bool) (told : Option V) → (expired ≡ true → told ≡ None)
+    → (expired ≡ false → told ≡ Some value) → told ≡ (if expired then None else Some value)
+told_unless value true told none some = none refl
+told_unless value false told none some = some refl
 
 module _ {K V : Type 0} (fits_key : K → Type 0) (key_words : K → List ℕ) (fits_value : V → Type 0)
     (value_words : V → List ℕ) (key_width value_width : ℕ)
@@ -52,72 +65,113 @@ module _ {K V : Type 0} (fits_key : K → Type 0) (key_words : K → List ℕ) (
       pair_row fits_key key_words fits_value value_words key_width value_width key_length value_length part c wide_key
       wide_value obeys
 
-  -- what is told of the key's old item are the words of a value
+  -- what is told of the key's old item are a time and then the words of a value
   pub value_told : (key : List ℕ) (chunk : Option ℕ) (from words : List ℕ)
       → Had (IsPair fits_key key_words fits_value value_words) key chunk from words part
-      → IfSome chunk (λ c. (v : V) × fits_value v × (words ≡ value_words v))
+      → IfSome chunk (λ c. IsTimedValue fits_value value_words words)
   value_told key None from words had = tt
   value_told key (Some c) from words had =
-      let row = row_of c had.obeys in (row.value, row.value_fits, had.told ∙ row.at_value)
-
-  -- what the key had
-  pub old_told : (key : List ℕ) (chunk : Option ℕ) (from words : List ℕ) (old : Option V)
-      → Had (IsPair fits_key key_words fits_value value_words) key chunk from words part
-      → is_some old ≡ is_some chunk → IfSome old (λ v. fits_value v × (words ≡ value_words v))
-      → HadValue key (option_map value_words old) part
-  old_told key None from words None had some value = had.0
-  old_told key None from words (Some v) had some value = absurd (cc some)
-  old_told key (Some c) from words None had some value = absurd (cc some)
-  old_told key (Some c) from words (Some v) had some value = record {
-    chunk = c;
-    under = had.under;
-    value = sym had.told ∙ value.1;
-  }
-
-  -- what is told of an evicted item are the words of a key and a value
-  pub entry_told : (chunk : Option ℕ) (from row : List ℕ) (after : PartView)
-      → Evicted (IsPair fits_key key_words fits_value value_words) chunk from row part after
-      → IfSome chunk (λ c. (k : K) × (v : V) × fits_key k × fits_value v × (row ≡ key_words k ++ value_words v))
-  entry_told None from row after told = tt
-  entry_told (Some c) from row after told =
-      let it = row_of c told.obeys in (it.key, it.value, it.key_fits, it.value_fits, told.told ∙ it.row)
-
-  -- an entry whose row that is is the item's
-  entry_is : (c : ℕ) (row : List ℕ) (entry : Entry K V) → Law (last_words part.book.part c) → row ≡ row_at part c
-      → fits_key entry.key → row ≡ key_words entry.key ++ value_words entry.value
-      → (key_at part.key_words part.book.part c ≡ key_words entry.key)
-      × (value_at part.key_words part.value_words part.book.part c ≡ value_words entry.value)
-  entry_is c row entry obeys told fits is =
-      let it = row_of c obeys in
-      let even : length (key_words it.key) ≡ length (key_words entry.key) =
-      key_length it.key it.key_fits ∙ sym (key_length entry.key fits) in
-      let both = same_parts (key_words it.key) (value_words it.value) (key_words entry.key) (value_words entry.value) even
-      (sym it.row ∙ (sym told ∙ is)) in
-      (it.at_key ∙ both.0, it.at_value ∙ both.1)
-
-  -- what was evicted
-  pub evicted_told : (chunk : Option ℕ) (from row : List ℕ) (after : PartView) (entry : Option (Entry K V))
-      → Evicted (IsPair fits_key key_words fits_value value_words) chunk from row part after
-      → is_some entry ≡ is_some chunk
-      → IfSome entry (λ e. fits_key e.key × fits_value e.value × (row ≡ key_words e.key ++ value_words e.value))
-      → WasEvicted key_words value_words entry part after
-  evicted_told None from row after None told some is = tt
-  evicted_told None from row after (Some e) told some is = absurd (cc some)
-  evicted_told (Some c) from row after None told some is = absurd (cc some)
-  evicted_told (Some c) from row after (Some e) told some is =
-      let one = entry_is c row e told.obeys told.told is.0 is.2 in (
-        record { chunk = c; under = record { linked = told.linked; key = one.0 }; value = one.1 },
-        subst (λ key. IsUnknown key after) one.0 told.unknown,
+      let row = row_of c had.obeys in (
+        last_label part.book.part c,
+        row.value,
+        row.value_fits,
+        had.told ∙ ap (λ value. last_label part.book.part c ∷ value) row.at_value,
       )
 
+  -- each item that is kept under a key is the one that has it
+  one_item : IsPart part.seed part.key_words part.book.part part.index → (key value : List ℕ) (expires c : ℕ)
+      → IsItem key (Some c) part → (kept : Keeps key value expires part) → last_label part.book.part c ≡ expires
+  one_item is key value expires c item kept = ap (last_label part.book.part)
+      (is.agrees.once c kept.chunk item.linked kept.under.linked (item.key ∙ sym kept.under.key)) ∙ kept.label
+
+  -- and it is what the key had, where it hasn't expired
+  pub old_told : IsPart part.seed part.key_words part.book.part part.index → (key : List ℕ) (chunk : Option ℕ)
+      (from words : List ℕ) (now : ℕ) (told : Option V)
+      → Had (IsPair fits_key key_words fits_value value_words) key chunk from words part → IfNone chunk (told ≡ None)
+      → IfSome chunk (λ c. TellsValue fits_value value_words words now told)
+      → HadValue key (option_map value_words told) now part
+  old_told is key None from words now None had none some = λ value expires kept. absurd (had.0 kept.chunk kept.under)
+  old_told is key None from words now (Some v) had none some = absurd (cc none)
+  old_told is key (Some c) from words now told had none some =
+      subst (λ t. HadValue key (option_map value_words t) now part) (sym some.tells)
+      (by (has_expired some.expires now) refl)
+    where
+      both : last_label part.book.part c ∷ value_at part.key_words part.value_words part.book.part c
+          ≡ some.expires ∷ value_words some.value
+      both = sym had.told ∙ some.has_words
+
+      label : last_label part.book.part c ≡ some.expires
+      label = cc both
+
+      by : (b : Bool) → has_expired some.expires now ≡ b
+          → HadValue key (option_map value_words (if b then None else Some some.value)) now part
+      by true expired = λ value expires kept. ap (λ at. has_expired at now)
+          (sym (one_item is key value expires c had.under kept) ∙ label) ∙ expired
+      by false fresh = (
+        some.expires,
+        fresh,
+        record { chunk = c; under = had.under; value = cc both; label = label },
+      )
+
+  -- what is told of an evicted item are a time and then the words of a key and a value
+  pub entry_told : (chunk : Option ℕ) (from row : List ℕ) (after : PartView)
+      → TellsRowOf (IsPair fits_key key_words fits_value value_words) chunk from row part after
+      → IfSome chunk (λ c. (expires : ℕ) × (words : List ℕ) × (row ≡ expires ∷ words)
+      × IsPairOfWords fits_key key_words fits_value value_words words)
+  entry_told None from row after told = tt
+  entry_told (Some c) from row after told =
+      let it = row_of c told.obeys in (
+        last_label part.book.part c,
+        words_from 0 (part.key_words + part.value_words) part.book.part c,
+        told.told,
+        (it.key, it.value, it.key_fits, it.value_fits, it.row),
+      )
+
+  -- an item whose row tells this is the one that is told
+  told_is : (c : ℕ) (row : List ℕ) (now : ℕ) (it : Evicted K V) → Law (last_words part.book.part c)
+      → row ≡ row_at part c → (tells : TellsEvicted fits_key key_words fits_value value_words row now it)
+      → (key_at part.key_words part.book.part c ≡ key_words it.key)
+      × (value_at part.key_words part.value_words part.book.part c ≡ value_words it.value)
+      × (last_label part.book.part c ≡ tells.expires)
+  told_is c row now it obeys told tells =
+      let own = row_of c obeys in
+      let rows : last_label part.book.part c ∷ words_from 0 (part.key_words + part.value_words) part.book.part c
+      ≡ tells.expires ∷ (key_words it.key ++ value_words it.value) = sym told ∙ tells.has_row in
+      let even : length (key_words own.key) ≡ length (key_words it.key) =
+      key_length own.key own.key_fits ∙ sym (key_length it.key tells.key_fits) in
+      let both = same_parts (key_words own.key) (value_words own.value) (key_words it.key) (value_words it.value) even
+      (sym own.row ∙ cc rows) in
+      (own.at_key ∙ both.0, own.at_value ∙ both.1, cc rows)
+
+  -- what was evicted
+  pub evicted_told : (chunk : Option ℕ) (from row : List ℕ) (now : ℕ) (after : PartView) (told : Option (Evicted K V))
+      → TellsRowOf (IsPair fits_key key_words fits_value value_words) chunk from row part after
+      → is_some told ≡ is_some chunk
+      → IfSome told (λ it. TellsEvicted fits_key key_words fits_value value_words row now it)
+      → IfSome told (λ it. WasEvicted key_words value_words it now part after)
+  evicted_told None from row now after None gone some is = tt
+  evicted_told None from row now after (Some it) gone some is = absurd (cc some)
+  evicted_told (Some c) from row now after None gone some is = tt
+  evicted_told (Some c) from row now after (Some it) gone some is =
+      let one = told_is c row now it gone.obeys gone.told is in record {
+        expires = is.expires;
+        kept = record {
+          chunk = c;
+          under = record { linked = gone.linked; key = one.0 };
+          value = one.1;
+          label = one.2;
+        };
+        cause = is.cause;
+        gone = subst (λ key. IsUnknown key after) one.0 gone.unknown;
+      }
+
   -- and its key
-  pub key_told : (chunk : Option ℕ) (from row : List ℕ) (after : PartView) (entry : Option (Entry K V))
-      → Evicted (IsPair fits_key key_words fits_value value_words) chunk from row part after
-      → is_some entry ≡ is_some chunk
-      → IfSome entry (λ e. fits_key e.key × fits_value e.value × (row ≡ key_words e.key ++ value_words e.value))
-      → key_of_evicted chunk part ≡ evicted_key key_words entry
-  key_told None from row after None told some is = refl
-  key_told None from row after (Some e) told some is = absurd (cc some)
-  key_told (Some c) from row after None told some is = absurd (cc some)
-  key_told (Some c) from row after (Some e) told some is =
-      ap Some (entry_is c row e told.obeys told.told is.0 is.2).0
+  pub key_told : (chunk : Option ℕ) (from row : List ℕ) (now : ℕ) (after : PartView) (told : Option (Evicted K V))
+      → TellsRowOf (IsPair fits_key key_words fits_value value_words) chunk from row part after
+      → is_some told ≡ is_some chunk
+      → IfSome told (λ it. TellsEvicted fits_key key_words fits_value value_words row now it)
+      → key_of_evicted chunk part ≡ evicted_key key_words told
+  key_told None from row now after None gone some is = refl
+  key_told None from row now after (Some it) gone some is = absurd (cc some)
+  key_told (Some c) from row now after None gone some is = absurd (cc some)
+  key_told (Some c) from row now after (Some it) gone some is = ap Some (told_is c row now it gone.obeys gone.told is).0

@@ -1,4 +1,5 @@
--- What contracts see of an item that a reader of a cache holds, and what a get that hands none out leaves of the reader.
+-- What contracts see of an item that a reader of a cache holds, and what a get that hands none out leaves of the
+-- reader.
 use Rattle.std.specs.Prelude.{◌≡◌, Option}
 use Rattle.std.specs.Borrow.{Fml, GName, MutBor, RattleType, RestsIfNone}
 use Rattle.bump_readers.specs.declared.names.Name.{Ghosts}

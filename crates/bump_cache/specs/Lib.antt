@@ -2,6 +2,7 @@ pub mod Configs
 pub mod Pairs
 pub mod States
 pub mod Readers
+pub mod Many
 pub mod Held
 pub mod Opening
 pub mod Putting
@@ -24,6 +25,7 @@ pub use Rattle.bump_steps.specs.Views
 pub use Rattle.cache_lists.specs.Counts
 pub use Rattle.cache_lists.specs.Items
 pub use Rattle.cache_lists.specs.Segments
+pub use Rattle.cache_part.specs.Expiring
 pub use Rattle.cache_part.specs.Keys
 pub use Rattle.cache_part.specs.Parts
 pub use Rattle.cache_part.specs.Stats
@@ -33,6 +35,7 @@ pub use Rattle.cache_readers.specs.Readers as WordReaders
 pub use Rattle.cache_shelf.specs.Entries
 pub use Rattle.cache_shelf.specs.Shelves
 pub use Rattle.cache_shelf.specs.Turns
+pub use Rattle.entry_times.specs.Times
 pub use Rattle.call_log.specs.Blanks
 pub use Rattle.call_log.specs.Calls
 pub use Rattle.call_log.specs.Logs

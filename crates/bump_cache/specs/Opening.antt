@@ -41,14 +41,15 @@ abbrev pub limits_of : CacheConfig → Limits
 limits_of config = record {
   bounds = bounds_of config;
   most = config.ring;
+  looks = config.expiry_looks;
 }
 
 -- the rings into which readers send
 abbrev pub reader_rings : List ReaderView → List Ring
 reader_rings readers = map (λ reader. reader.worker.sender.ring) readers
 
--- These are the readers of a cache of this configuration that was just opened: each got nothing yet, and has a worker of
--- the store that made no step.
+-- These are the readers of a cache of this configuration that was just opened: each got nothing yet, and has a worker
+-- of the store that made no step.
 pub record AreNewReaders (config : CacheConfig) (readers : List ReaderView) : Type 0 where
   pub store : Config
   pub workers : List WorkerState
@@ -57,8 +58,8 @@ pub record AreNewReaders (config : CacheConfig) (readers : List ReaderView) : Ty
   pub new_workers : worker_parts_of workers ≡ worker_parts 0 config.readers
   pub capacity : All (λ worker. worker.sender.capacity ≡ config.ring) workers
 
--- What a cache of this configuration is when it is opened, with keys and values of so many words: no chunk was used yet,
--- nothing was counted, and its lanes are those of these rings.
+-- What a cache of this configuration is when it is opened, with keys and values of so many words: no chunk was used
+-- yet, nothing was counted, its lanes are those of these rings, and the first looks for expired items are at chunk 0.
 pub record IsNewShelf (config : CacheConfig) (key_width value_width : ℕ) (rings : List Ring) (shelf : ShelfView)
     : Type 0 where
   pub chunks : shelf.part.book.part.count ≡ (class_of config).chunks
@@ -70,6 +71,8 @@ pub record IsNewShelf (config : CacheConfig) (key_width value_width : ℕ) (ring
   pub key_words : shelf.part.key_words ≡ key_width
   pub value_words : shelf.part.value_words ≡ value_width
   pub items : shelf.part.items ≡ config.items
+  pub temporary : shelf.part.temporary ≡ config.temporary
+  pub cursor : shelf.part.cursor ≡ 0
   pub limits : shelf.limits ≡ limits_of config
   pub puts : shelf.puts ≡ 0
   pub lanes : raw_rings shelf.lanes ≡ rings

@@ -26,8 +26,10 @@ no_state = record {
     key_words = 0;
     value_words = 0;
     items = 0;
+    temporary = None;
+    cursor = 0;
   };
   lanes = [];
-  limits = record { bounds = record { hot = 0; warm = 0; hot_age = None; warm_age = None }; most = 0 };
+  limits = record { bounds = record { hot = 0; warm = 0; hot_age = None; warm_age = None }; most = 0; looks = 0 };
   puts = 0;
 }

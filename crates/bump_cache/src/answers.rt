@@ -1,23 +1,37 @@
 //! What calls of a cache answer.
 
-/// A key and its value.
+/// Why an item was evicted.
 #[derive(Clone, Copy, Debug, PartialEq, Eq, Drop)]
-pub struct Entry<K, V> {
+pub enum Cause {
+    /// It was its turn, and it hadn't expired: memcached's `evicted`.
+    Room,
+
+    /// It was its turn, and it had expired: memcached's `reclaimed`.
+    Expired,
+}
+
+/// What was evicted.
+#[derive(Clone, Copy, Debug, PartialEq, Eq, Drop)]
+pub struct Evicted<K, V> {
     /// The key.
     pub key: K,
 
     /// The value that was put under it.
     pub value: V,
+
+    /// Whether it had expired.
+    pub cause: Cause,
 }
 
 /// What a put came to.
 #[derive(Clone, Copy, Debug, PartialEq, Eq, Drop)]
 pub struct Put<K, V> {
-    /// What the key had before, if it had something: that item ended.
+    /// What the key had before, if it had something that hadn't expired. Its item ended, and one that had expired did
+    /// too.
     pub old: Option<V>,
 
     /// What was evicted to make room, if something was. It is never more than one.
-    pub evicted: Option<Entry<K, V>>,
+    pub evicted: Option<Evicted<K, V>>,
 }
 
 /// A put was refused: each chunk that has no item is held by a reader, or by a bump that waits, or has had its last
@@ -25,5 +39,5 @@ pub struct Put<K, V> {
 #[derive(Clone, Copy, Debug, PartialEq, Eq, Drop)]
 pub struct NoRoom<K, V> {
     /// What was evicted to make room, if something was.
-    pub evicted: Option<Entry<K, V>>,
+    pub evicted: Option<Evicted<K, V>>,
 }

@@ -60,8 +60,9 @@ pub struct CacheConfig {
     /// At most so many percent of them are in WARM. memcached has 40.
     pub warm: u32,
 
-    /// HOT's last item goes to COLD also where it was used longer ago than so many percent of COLD's age, which is how long
-    /// ago COLD's last item was used. memcached has 20 (`hot_max_factor` 0.2). Without a percentage ages don't count.
+    /// HOT's last item goes to COLD also where it was used longer ago than so many percent of COLD's age, which is how
+    /// long ago COLD's last item was used. memcached has 20 (`hot_max_factor` 0.2). Without a percentage ages don't
+    /// count.
     pub hot_age: Option<u32>,
 
     /// And WARM's where it was used longer ago than so many percent of it. memcached has 200 (`warm_max_factor` 2.0).
@@ -72,6 +73,14 @@ pub struct CacheConfig {
 
     /// Each reader's ring has room for so many bumps, 1 to 65,536.
     pub ring: u32,
+
+    /// What expires within so many ticks from its put on is in TEMP, whose items no look moves and which are evicted
+    /// last; nothing is where this is None. memcached has 61 seconds where TEMP is on (`temporary_ttl`).
+    pub temporary: Option<u64>,
+
+    /// A tend looks at so many chunks for items that have expired, around and around; 0 looks at none. An item that has
+    /// expired keeps its chunk until a tend looks at it, or it is put anew, removed or evicted.
+    pub expiry_looks: u32,
 
     /// The seed of the keys' hashes. Who knows it can choose keys that have one hash, and make each call slow: where
     /// others choose the keys take `Seed::random`.
@@ -88,9 +97,10 @@ fn share(items: u32, percent: u32) -> u32
 
 impl CacheConfig {
     /// That of a cache of so many items, 1 to 1,000,000, and so many readers, 1 to 64, as memcached has it: at most 20
-    /// percent of the items are in HOT and 40 in WARM, their last ones are used no longer ago than 20 and 200 percent of
-    /// COLD's age, and a reader's ring has room for 8,192 bumps (`LRU_BUMP_BUF_SIZE`). There is a spare chunk for each 64
-    /// items and one for each reader, as far as there may be.
+    /// percent of the items are in HOT and 40 in WARM, their last ones are used no longer ago than 20 and 200 percent
+    /// of COLD's age, and a reader's ring has room for 8,192 bumps (`LRU_BUMP_BUF_SIZE`). There is a spare chunk for
+    /// each 64 items and one for each reader, as far as there may be. Nothing is in TEMP, and a tend looks at 1,000
+    /// chunks for items that have expired.
     pub fn new(items: u32, readers: u32, seed: Seed) -> CacheConfig
         ensures { result ≡ record {
           items = items;
@@ -101,6 +111,8 @@ impl CacheConfig {
           warm_age = Some 200;
           readers = readers;
           ring = 8192;
+          temporary = None;
+          expiry_looks = 1000;
           seed = seed;
         } }
     {
@@ -115,6 +127,8 @@ impl CacheConfig {
             warm_age: Some(200),
             readers,
             ring: 8_192,
+            temporary: None,
+            expiry_looks: 1_000,
             seed,
         }
     }

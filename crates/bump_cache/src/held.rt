@@ -114,9 +114,9 @@ impl<N: Name, K: Packed, V: Packed> PairHold<N, K, V> {
 }
 
 /// An item that `CacheReader::get_with` found, which its reader holds: its value may be read as often as is wanted, and
-/// is what the put of this life stored, whatever is put, removed or evicted meanwhile. While there is one its chunk isn't
-/// free, and its reader does nothing else. When it is dropped it gives the hold back, as `Hold::release` does, and the
-/// reader is as it was behind the get.
+/// is what the put of this life stored, whatever is put, removed or evicted meanwhile. While there is one its chunk
+/// isn't free, and its reader does nothing else. When it is dropped it gives the hold back, as `Hold::release` does,
+/// and the reader is as it was behind the get.
 pub struct HeldItem<'a, N: Name, K: Packed, V: Packed> {
     reader: &'a mut CacheReader<N, K, V>,
     hold: PairHold<N, K, V>,
@@ -158,8 +158,8 @@ impl<'a, N: Name, K: Packed, V: Packed> HeldItem<'a, N, K, V> {
         self.hold.word(self.reader.words(), index)
     }
 
-    /// Reads the first words of the value into `words`, as many as it has, by one load each: as many as a value takes, or
-    /// fewer. Nothing changes.
+    /// Reads the first words of the value into `words`, as many as it has, by one load each: as many as a value takes,
+    /// or fewer. Nothing changes.
     #[inline(always)]
     pub fn read(&mut self, words: &mut [u64])
         requires few { length words.old ≤ V.width }

@@ -1,5 +1,5 @@
-//! A cache of keys and values that threads share, over a store: a get waits for nobody. Keys and values lie in the words
-//! of the store's chunks.
+//! A cache of keys and values that threads share, over a store: a get waits for nobody. Keys and values lie in the
+//! words of the store's chunks, and an item's label is the time at which it expires.
 #![tactic(auto)]
 
 mod answers;
@@ -8,12 +8,13 @@ mod caches;
 mod config;
 mod held;
 mod law;
+mod many;
 mod opening;
 mod pairs;
 mod readers;
 mod states;
 
-pub use answers::{Entry, NoRoom, Put};
+pub use answers::{Cause, Evicted, NoRoom, Put};
 pub use blanks::CacheBlank;
 pub use bump_heads::Name;
 pub use bump_rules::{Accounts, ClassConfig, Classes, Config};

@@ -82,6 +82,7 @@ pub fn open<N: Name + LogName, K: Packed, V: Packed, W: Wait>(
         K::words() as u32,
         V::words() as u32,
         config.items,
+        config.temporary,
     );
     let pairs = Pairs::new(alloc, Shelf::new(part, lanes, limits(&config)))?;
     let (log, mut caller) = log.open::<N>();
@@ -101,6 +102,7 @@ fn limits(config: &CacheConfig) -> Limits
     Limits {
         bounds: config.bounds(),
         most: config.ring,
+        looks: config.expiry_looks,
     }
 }
 

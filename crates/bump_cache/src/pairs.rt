@@ -1,19 +1,21 @@
 //! What a cache's lock guards: a shelf whose rows are those of keys and values.
-ghost use Rattle.std.specs.Prelude.{◌≡◌, ℕ, List, ◌+◌, ◌++◌, ◌<◌, ◌^◌, IfSome, IfOk, IfErr, None, is_some, length, option_map};
+ghost use Rattle.std.specs.Prelude.{◌≡◌, ℕ, suc, List, ◌+◌, ◌∷◌, ◌++◌, ◌<◌, ◌^◌, IfSome, IfNone, IfOk, IfErr, None, is_some, length};
 ghost use Rattle.bump_steps.specs.Views.{last_word};
+ghost use Rattle.cache_part.specs.Expiring.{KeepsUnexpired};
 ghost use Rattle.cache_part.specs.Parts.{IsUnknown};
 ghost use Rattle.cache_part.specs.Stats.{stats_of};
-ghost use Rattle.cache_shelf.specs.Entries.{AllKept, Keeps, OthersKept};
-ghost use Rattle.cache_shelf.specs.Shelves.{with_ended, with_put};
-ghost use Rattle.cache_shelf.specs.Turns.{OnlyMoves, TendsShelf};
-ghost use Rattle.bump_cache.specs.Putting.{EndsOne, HadValue, PutsRow, RefusesRow, WasEvicted, evicted_key};
+ghost use Rattle.cache_shelf.specs.Entries.{AllUnexpiredKept};
+ghost use Rattle.cache_shelf.specs.Shelves.{with_ended, with_put, with_tended};
+ghost use Rattle.cache_shelf.specs.Turns.{LooksInTurn, TendsShelf};
+ghost use Rattle.bump_cache.specs.Putting.{IsPairOfWords, IsTimedValue, PutsValue, RefusesValue, RemovesValue, TellsEvicted, TellsValue, cause_of};
 
-use crate::answers::{Entry, NoRoom, Put};
+use crate::answers::{Cause, Evicted, NoRoom, Put};
 use crate::law::PairLaw;
 use crate::states::CacheState;
 use bump_heads::Name;
 use cache_shelf::{Shelf, Stats};
 use call_log::Shows;
+use entry_times::has_expired;
 use packed_words::Packed;
 use std::alloc::{AllocError, Global};
 use std::marker::Model;
@@ -27,14 +29,14 @@ pub struct Pairs<N: Name, K: Packed, V: Packed> {
     key: Vec<u64>,
     // the row of the item that is put
     row: Vec<u64>,
-    // the value that the key had
+    // when the item that the key had expires, and its value
     had: Vec<u64>,
-    // the row of the item that is evicted
+    // when the item that is evicted expires, and its row
     evicted: Vec<u64>,
 }
 
 impl<N: Name, K: Packed, V: Packed> Model for Pairs<N, K, V> {
-    ghost use Rattle.std.specs.Prelude.{◌≡◌, ◌+◌, length};
+    ghost use Rattle.std.specs.Prelude.{◌≡◌, ◌+◌, suc, length};
     ghost use Rattle.cache_shelf.specs.Shelves.{ShelfView};
 
     ghost Value = { ShelfView };
@@ -42,8 +44,8 @@ impl<N: Name, K: Packed, V: Packed> Model for Pairs<N, K, V> {
     ghost view = { λ p. p.shelf };
 
     ghost invariant = { λ p. (p.shelf.part.key_words ≡ K.width) × (p.shelf.part.value_words ≡ V.width)
-        × (length p.key.items ≡ K.width) × (length p.row.items ≡ K.width + V.width) × (length p.had.items ≡ V.width)
-        × (length p.evicted.items ≡ K.width + V.width) };
+        × (length p.key.items ≡ K.width) × (length p.row.items ≡ K.width + V.width)
+        × (length p.had.items ≡ suc V.width) × (length p.evicted.items ≡ suc (K.width + V.width)) };
 }
 
 impl<N: Name, K: Packed, V: Packed> Shows<CacheState> for Pairs<N, K, V> {
@@ -61,33 +63,72 @@ fn pack_row<K: Packed, V: Packed>(key: &K, value: &V, row: &mut [u64])
     value.pack(&mut row[key_words..]);
 }
 
-// The value that was told, if one was.
-fn told_value<V: Packed>(chunk: Option<u32>, words: &[u64]) -> Option<V>
-    requires { IfSome chunk (λ c. (v : V) × V.fits v × (words.now ≡ V.as_words v)) }
-    ensures told { is_some result ≡ is_some chunk }
-    ensures value { IfSome result (λ v. V.fits v × (words.now ≡ V.as_words v)) }
+// The value of these words, where it hasn't expired: they are the time at which it does, and then the value's.
+fn unexpired_value<V: Packed>(words: &[u64], now: u64) -> Option<V>
+    requires length { length words.now ≡ suc V.width }
+    requires value { IsTimedValue V.fits V.as_words words.now }
+    ensures { TellsValue V.fits V.as_words words.now now result }
+{
+    if has_expired(words[0], now) {
+        return None;
+    }
+    Some(V::unpack(&words[1..]))
+}
+
+// The value that was told, if one was that hasn't expired.
+fn told_value<V: Packed>(chunk: Option<u32>, words: &[u64], now: u64) -> Option<V>
+    requires length { length words.now ≡ suc V.width }
+    requires value { IfSome chunk (λ c. IsTimedValue V.fits V.as_words words.now) }
+    ensures none { IfNone chunk (result ≡ None) }
+    ensures told { IfSome chunk (λ c. TellsValue V.fits V.as_words words.now now result) }
 {
     match chunk {
-        Some(_) => Some(V::unpack(words)),
+        Some(_) => unexpired_value(words, now),
         None => None,
     }
 }
 
-// The key and the value whose row was told, if one was.
-fn told_entry<K: Packed, V: Packed>(chunk: Option<u32>, row: &[u64]) -> Option<Entry<K, V>>
+// Why an item that expires then is evicted now.
+fn cause_at(expires: u64, now: u64) -> Cause
+    ensures { result ≡ cause_of expires now }
+{
+    if has_expired(expires, now) {
+        Cause::Expired
+    } else {
+        Cause::Room
+    }
+}
+
+// The key and the value of a row.
+fn unpack_row<K: Packed, V: Packed>(row: &[u64]) -> (K, V)
     requires length { length row.now ≡ K.width + V.width }
-    requires pair { IfSome chunk (λ c. (k : K) × (v : V) × K.fits k × V.fits v
-        × (row.now ≡ K.as_words k ++ V.as_words v)) }
+    requires pair { IsPairOfWords K.fits K.as_words V.fits V.as_words row.now }
+    ensures fits { K.fits result.0 × V.fits result.1 }
+    ensures row { row.now ≡ K.as_words result.0 ++ V.as_words result.1 }
+{
+    let key_words = K::words();
+    let key = K::unpack(&row[..key_words]);
+    let value = V::unpack(&row[key_words..]);
+    (key, value)
+}
+
+// What was evicted, if something was: its row was told, behind the time at which it expires.
+fn told_evicted<K: Packed, V: Packed>(
+    chunk: Option<u32>,
+    row: &[u64],
+    now: u64,
+) -> Option<Evicted<K, V>>
+    requires length { length row.now ≡ suc (K.width + V.width) }
+    requires pair { IfSome chunk (λ c. (expires : ℕ) × (words : List ℕ) × (row.now ≡ expires ∷ words)
+        × IsPairOfWords K.fits K.as_words V.fits V.as_words words) }
     ensures told { is_some result ≡ is_some chunk }
-    ensures entry { IfSome result (λ e. K.fits e.key × V.fits e.value
-        × (row.now ≡ K.as_words e.key ++ V.as_words e.value)) }
+    ensures evicted { IfSome result (λ it. TellsEvicted K.fits K.as_words V.fits V.as_words row.now now it) }
 {
     match chunk {
         Some(_) => {
-            let key_words = K::words();
-            let key = K::unpack(&row[..key_words]);
-            let value = V::unpack(&row[key_words..]);
-            Some(Entry { key, value })
+            let (key, value) = unpack_row(&row[1..]);
+            let cause = cause_at(row[0], now);
+            Some(Evicted { key, value, cause })
         }
         None => None,
     }
@@ -99,6 +140,7 @@ fn put_row<N: Name, K: Packed, V: Packed>(
     _key: &K,
     _value: &V,
     row: &[u64],
+    expires: u64,
     had: &mut [u64],
     evicted: &mut [u64],
     now: u64,
@@ -107,37 +149,26 @@ fn put_row<N: Name, K: Packed, V: Packed>(
     requires value { shelf.old.part.value_words ≡ V.width }
     requires in_range { K.fits _key.now × V.fits _value.now }
     requires row { row.now ≡ K.as_words _key.now ++ V.as_words _value.now }
-    requires had { length had.old ≡ V.width }
-    requires evicted { length evicted.old ≡ K.width + V.width }
-    ensures kept { IfOk result (λ did. Keeps (K.as_words _key.now) (V.as_words _value.now) shelf.new.part) }
-    ensures old { IfOk result (λ did. HadValue (K.as_words _key.now) (option_map V.as_words did.old)
-        shelf.old.part) }
-    ensures evicted { IfOk result (λ did. WasEvicted K.as_words V.as_words did.evicted shelf.old.part shelf.new.part) }
-    ensures others { IfOk result (λ did. OthersKept (K.as_words _key.now) (evicted_key K.as_words did.evicted)
-        shelf.old.part shelf.new.part) }
-    ensures puts { IfOk result (λ did. PutsRow (K.as_words _key.now ++ V.as_words _value.now) now (is_some did.old)
-        (is_some did.evicted) shelf.old shelf.new) }
-    ensures evicted_refused { IfErr result (λ why. WasEvicted K.as_words V.as_words why.evicted shelf.old.part
-        shelf.new.part) }
-    ensures stay { IfErr result (λ why. AllKept (evicted_key K.as_words why.evicted) shelf.old.part shelf.new.part) }
-    ensures refuses { IfErr result (λ why. RefusesRow (K.as_words _key.now) now (is_some why.evicted) shelf.old
+    requires had { length had.old ≡ suc V.width }
+    requires evicted { length evicted.old ≡ suc (K.width + V.width) }
+    ensures puts { IfOk result (λ did. PutsValue K.as_words V.as_words _key.now _value.now expires now did shelf.old
         shelf.new) }
+    ensures refuses { IfErr result (λ why. RefusesValue K.as_words V.as_words _key.now now why shelf.old shelf.new) }
     ensures same { shelf.new ≡ with_put shelf.new shelf.old }
     ensures lengths { (length had.new ≡ length had.old) × (length evicted.new ≡ length evicted.old) }
 {
-    let did = match shelf.put(row, had, evicted, now) {
+    // A key is that of one item: so what is told of it is all that it had.
+    shelf.promise();
+    let did = match shelf.put(row, expires, had, evicted, now) {
         Ok(did) => did,
         Err(why) => {
-            let lost = told_entry(why.evicted, evicted);
+            let lost = told_evicted(why.evicted, evicted, now);
             return Err(NoRoom { evicted: lost });
         }
     };
-    let old = told_value(did.old, had);
-    let entry = told_entry(did.evicted, evicted);
-    Ok(Put {
-        old,
-        evicted: entry,
-    })
+    let old = told_value(did.old, had, now);
+    let gone = told_evicted(did.evicted, evicted, now);
+    Ok(Put { old, evicted: gone })
 }
 
 // Ends the item of a key, and unpacks what is told.
@@ -146,21 +177,19 @@ fn remove_key<N: Name, K: Packed, V: Packed>(
     _key: &K,
     words: &[u64],
     had: &mut [u64],
+    now: u64,
 ) -> Option<V>
     requires key { shelf.old.part.key_words ≡ K.width }
     requires value { shelf.old.part.value_words ≡ V.width }
     requires in_range { K.fits _key.now }
     requires words { words.now ≡ K.as_words _key.now }
-    requires had { length had.old ≡ V.width }
-    ensures old { HadValue (K.as_words _key.now) (option_map V.as_words result) shelf.old.part }
-    ensures gone { IsUnknown (K.as_words _key.now) shelf.new.part }
-    ensures others { OthersKept (K.as_words _key.now) None shelf.old.part shelf.new.part }
-    ensures ends { EndsOne (is_some result) shelf.old.part shelf.new.part }
-    ensures same { shelf.new ≡ with_ended shelf.new shelf.old }
+    requires had { length had.old ≡ suc V.width }
+    ensures removes { RemovesValue K.as_words V.as_words _key.now now result shelf.old shelf.new }
     ensures length { length had.new ≡ length had.old }
 {
+    shelf.promise();
     let chunk = shelf.remove(words, had);
-    told_value(chunk, had)
+    told_value(chunk, had, now)
 }
 
 impl<N: Name, K: Packed, V: Packed> Pairs<N, K, V> {
@@ -181,26 +210,22 @@ impl<N: Name, K: Packed, V: Packed> Pairs<N, K, V> {
             shelf,
             key: vec![in alloc; 0; key_words]?,
             row: vec![in alloc; 0; key_words + value_words]?,
-            had: vec![in alloc; 0; value_words]?,
-            evicted: vec![in alloc; 0; key_words + value_words]?,
+            had: vec![in alloc; 0; 1 + value_words]?,
+            evicted: vec![in alloc; 0; 1 + key_words + value_words]?,
         })
     }
 
-    /// Puts a value under a key, as `Shelf::put` does.
-    pub(crate) fn put(&mut self, key: &K, value: &V, now: u64) -> Result<Put<K, V>, NoRoom<K, V>>
-        ensures kept { IfOk result (λ did. Keeps (K.as_words key.now) (V.as_words value.now) self.new.part) }
-        ensures old { IfOk result (λ did. HadValue (K.as_words key.now) (option_map V.as_words did.old) self.old.part) }
-        ensures evicted { IfOk result (λ did. WasEvicted K.as_words V.as_words did.evicted self.old.part
-            self.new.part) }
-        ensures others { IfOk result (λ did. OthersKept (K.as_words key.now) (evicted_key K.as_words did.evicted)
-            self.old.part self.new.part) }
-        ensures puts { IfOk result (λ did. PutsRow (K.as_words key.now ++ V.as_words value.now) now (is_some did.old)
-            (is_some did.evicted) self.old self.new) }
-        ensures evicted_refused { IfErr result (λ why. WasEvicted K.as_words V.as_words why.evicted self.old.part
-            self.new.part) }
-        ensures stay { IfErr result (λ why. AllKept (evicted_key K.as_words why.evicted) self.old.part self.new.part) }
-        ensures refuses { IfErr result (λ why. RefusesRow (K.as_words key.now) now (is_some why.evicted) self.old
+    /// Puts a value under a key, which expires at `expires`, as `Shelf::put` does.
+    pub(crate) fn put(
+        &mut self,
+        key: &K,
+        value: &V,
+        expires: u64,
+        now: u64,
+    ) -> Result<Put<K, V>, NoRoom<K, V>>
+        ensures puts { IfOk result (λ did. PutsValue K.as_words V.as_words key.now value.now expires now did self.old
             self.new) }
+        ensures refuses { IfErr result (λ why. RefusesValue K.as_words V.as_words key.now now why self.old self.new) }
         ensures same { self.new ≡ with_put self.new self.old }
     {
         pack_row(key, value, &mut self.row);
@@ -209,30 +234,28 @@ impl<N: Name, K: Packed, V: Packed> Pairs<N, K, V> {
             key,
             value,
             &self.row,
+            expires,
             &mut self.had,
             &mut self.evicted,
             now,
         )
     }
 
-    /// Ends the item of a key, and tells its value, as `Shelf::remove` does.
-    pub(crate) fn remove(&mut self, key: &K) -> Option<V>
-        ensures old { HadValue (K.as_words key.now) (option_map V.as_words result) self.old.part }
-        ensures gone { IsUnknown (K.as_words key.now) self.new.part }
-        ensures others { OthersKept (K.as_words key.now) None self.old.part self.new.part }
-        ensures ends { EndsOne (is_some result) self.old.part self.new.part }
-        ensures same { self.new ≡ with_ended self.new self.old }
+    /// Ends the item of a key, as `Shelf::remove` does, and tells its value where it hasn't expired.
+    pub(crate) fn remove(&mut self, key: &K, now: u64) -> Option<V>
+        ensures { RemovesValue K.as_words V.as_words key.now now result self.old self.new }
     {
         key.pack(&mut self.key);
-        remove_key(&mut self.shelf, key, &self.key, &mut self.had)
+        remove_key(&mut self.shelf, key, &self.key, &mut self.had, now)
     }
 
     /// Tends the shelf, as `Shelf::tend` does.
     pub(crate) fn tend(&mut self, now: u64)
         ensures tends { TendsShelf now self.old self.new }
-        ensures moves { OnlyMoves self.old.part self.new.part }
-        ensures kept { AllKept None self.old.part self.new.part }
-        ensures same { self.new ≡ record self.old { part = self.new.part; lanes = self.new.lanes } }
+        ensures looked { LooksInTurn self.old.limits.looks now self.old.part self.new.part }
+        ensures unexpired { KeepsUnexpired now self.old.part.book self.new.part.book }
+        ensures kept { AllUnexpiredKept now self.old.part self.new.part }
+        ensures same { self.new ≡ with_tended self.new self.old }
     {
         self.shelf.tend(now);
     }

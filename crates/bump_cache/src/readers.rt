@@ -2,11 +2,10 @@
 ghost use Rattle.std.specs.Prelude.{◌≡◌, ◌+◌, ◌≤◌, true, false, length, IfSome, IfNone};
 ghost use Rattle.bump_rules.specs.declared.hands.Hand.TheVariants as hand;
 ghost use Rattle.bump_rules.specs.Rings.{IsAccounts};
-ghost use Rattle.cache_readers.specs.Looks.{Finds, FindsNothing, HasWords, Hits, Peeks, Sees};
-ghost use Rattle.cache_readers.specs.Readers.{Misses, one_more};
+ghost use Rattle.cache_readers.specs.Readers.{CountsHit, CountsNothing, KeepsRing, Misses, ReadsNothing};
 ghost use Rattle.bump_cache.specs.Opening.{most_words};
 ghost use Rattle.bump_cache.specs.Pairs.{IsPair};
-ghost use Rattle.bump_cache.specs.Readers.{dropped_of};
+ghost use Rattle.bump_cache.specs.Readers.{FindsValue, HitsItem, HoldsValue, PeeksValue, SeesItem, dropped_of};
 
 use crate::held::{HeldItem, PairHold};
 use crate::law::{MOST_WORDS, PairLaw};
@@ -50,19 +49,11 @@ fn get_by<N: Name, K: Packed, V: Packed>(
     requires few { K.width + V.width ≤ N.table.slots }
     requires words { length words.old ≡ K.width }
     requires value { length value.old ≡ V.width }
-    ensures found { IfSome result (λ it. Finds (IsPair K.fits K.as_words V.fits V.as_words) reader.old.config
-        (K.as_words key.now) (V.as_words it) now reader.old.worker reader.new.worker) }
-    ensures counted { IfSome result (λ it. reader.new ≡ record reader.old {
-      worker = reader.new.worker;
-      hits = one_more reader.old.hits;
-    }) }
-    ensures nothing { IfNone result (FindsNothing reader.old.config (K.as_words key.now) reader.old.worker
-        reader.new.worker) }
-    ensures missed { IfNone result (reader.new ≡ record reader.old {
-      worker = reader.new.worker;
-      misses = one_more reader.old.misses;
-    }) }
-    ensures ring { reader.new.worker.sender.ring ≡ reader.old.worker.sender.ring }
+    ensures found { IfSome result (λ it. FindsValue (IsPair K.fits K.as_words V.fits V.as_words) (K.as_words key.now)
+        (V.as_words it) now reader.old reader.new) }
+    ensures counted { IfSome result (λ it. CountsHit reader.old reader.new) }
+    ensures missed { IfNone result (Misses (K.as_words key.now) now reader.old reader.new) }
+    ensures ring { KeepsRing reader.old reader.new }
 {
     key.pack(words);
     if !reader.get(seed.hash(words), words, value, now) {
@@ -83,15 +74,12 @@ fn hold_by<N: Name, K: Packed, V: Packed>(
     requires few { K.width + V.width ≤ N.table.slots }
     requires most { K.width + V.width ≤ most_words }
     requires words { length words.old ≡ K.width }
-    ensures found { IfSome result (λ hold. Hits (IsPair K.fits K.as_words V.fits V.as_words) reader.old.config
-        (K.as_words key.now) now reader.old.worker reader.new.worker hold) }
-    ensures counted { IfSome result (λ hold. reader.new ≡ record reader.old {
-      worker = reader.new.worker;
-      hits = one_more reader.old.hits;
-    }) }
-    ensures value { IfSome result (λ hold. (v : V) × V.fits v × HasWords (V.as_words v) K.width hold.row) }
-    ensures missed { IfNone result (Misses (K.as_words key.now) reader.old reader.new) }
-    ensures ring { reader.new.worker.sender.ring ≡ reader.old.worker.sender.ring }
+    ensures found { IfSome result (λ hold. HitsItem (IsPair K.fits K.as_words V.fits V.as_words) (K.as_words key.now)
+        now reader.old reader.new hold) }
+    ensures counted { IfSome result (λ hold. CountsHit reader.old reader.new) }
+    ensures value { IfSome result (λ hold. HoldsValue V.fits V.as_words K.width hold) }
+    ensures missed { IfNone result (Misses (K.as_words key.now) now reader.old reader.new) }
+    ensures ring { KeepsRing reader.old reader.new }
 {
     key.pack(words);
     let Some(hold) = reader.hold(seed.hash(words), words, now) else {
@@ -108,19 +96,19 @@ fn peek_by<N: Name, K: Packed, V: Packed>(
     key: &K,
     words: &mut [u64],
     value: &mut [u64],
+    now: u64,
 ) -> Option<V>
     requires few { K.width + V.width ≤ N.table.slots }
     requires words { length words.old ≡ K.width }
     requires value { length value.old ≡ V.width }
-    ensures found { IfSome result (λ it. Peeks (IsPair K.fits K.as_words V.fits V.as_words) reader.old.config
-        (K.as_words key.now) (V.as_words it) reader.old.worker reader.new.worker) }
-    ensures nothing { IfNone result (FindsNothing reader.old.config (K.as_words key.now) reader.old.worker
-        reader.new.worker) }
-    ensures uncounted { reader.new ≡ record reader.old { worker = reader.new.worker } }
-    ensures ring { reader.new.worker.sender.ring ≡ reader.old.worker.sender.ring }
+    ensures found { IfSome result (λ it. PeeksValue (IsPair K.fits K.as_words V.fits V.as_words) (K.as_words key.now)
+        (V.as_words it) now reader.old reader.new) }
+    ensures nothing { IfNone result (ReadsNothing (K.as_words key.now) now reader.old reader.new) }
+    ensures uncounted { CountsNothing reader.old reader.new }
+    ensures ring { KeepsRing reader.old reader.new }
 {
     key.pack(words);
-    if !reader.peek(seed.hash(words), words, value) {
+    if !reader.peek(seed.hash(words), words, value, now) {
         return None;
     }
     Some(V::unpack(value))
@@ -151,33 +139,27 @@ impl<N: Name, K: Packed, V: Packed> CacheReader<N, K, V> {
         &self.reader
     }
 
-    /// What was put under the key, as memcached's `get`; or None where nothing was found. `now` is the time that a touch
-    /// stores, in the caller's ticks. It takes no lock and no memory, and waits for nobody.
+    /// What was put under the key, as memcached's `get`; or None where nothing was found. `now` is the time by which an
+    /// item has expired, and that which a touch stores, in the caller's ticks. It takes no lock and no memory, and
+    /// waits for nobody.
     ///
-    /// It looks at the chunks to which the index leads for the key's hash. There it takes a hold of the item that is linked
-    /// then, compares its key, and gives the hold back where that is another one. An item with the key is touched, as
-    /// `Worker::touch` does, unless the head by which the hold was taken had both marks: the first get sets FETCHED, the
-    /// second ACTIVE, and in COLD it queues a bump. Its value is what the put of this life stored. Where an item was ended
-    /// by another thread in between it searches anew, at most 1,000 times.
+    /// It looks at the chunks to which the index leads for the key's hash. There it takes a hold of the item that is
+    /// linked then, compares its key, and gives the hold back where that is another one. An item with the key that has
+    /// expired at `now` isn't found, as in memcached's `do_item_get`: it is neither touched nor ended. Another is
+    /// touched, as `Worker::touch` does, unless the head by which the hold was taken had both marks: the first get sets
+    /// FETCHED, the second ACTIVE, and in COLD it queues a bump. Its value is what the put of this life stored. Where
+    /// an item was ended by another thread in between it searches anew, at most 1,000 times.
     #[inline(always)]
     pub fn get(&mut self, key: &K, now: u64) -> Option<V>
-        ensures found { IfSome result (λ value. Finds (IsPair K.fits K.as_words V.fits V.as_words) self.old.config
-            (K.as_words key.now) (V.as_words value) now self.old.worker self.new.worker) }
-        ensures counted { IfSome result (λ value. self.new ≡ record self.old {
-          worker = self.new.worker;
-          hits = one_more self.old.hits;
-        }) }
-        ensures nothing { IfNone result (FindsNothing self.old.config (K.as_words key.now) self.old.worker
-            self.new.worker) }
-        ensures missed { IfNone result (self.new ≡ record self.old {
-          worker = self.new.worker;
-          misses = one_more self.old.misses;
-        }) }
-        ensures ring { self.new.worker.sender.ring ≡ self.old.worker.sender.ring }
+        ensures found { IfSome result (λ value. FindsValue (IsPair K.fits K.as_words V.fits V.as_words)
+            (K.as_words key.now) (V.as_words value) now self.old self.new) }
+        ensures counted { IfSome result (λ value. CountsHit self.old self.new) }
+        ensures missed { IfNone result (Misses (K.as_words key.now) now self.old self.new) }
+        ensures ring { KeepsRing self.old self.new }
     {
         let seed = self.seed;
-        // Arrays, of which as many words are used as the types have: the compiler knows these numbers, and keeps words of
-        // short keys and values in registers.
+        // Arrays, of which as many words are used as the types have: the compiler knows these numbers, and keeps words
+        // of short keys and values in registers.
         let mut key_row = [0; MOST_WORDS];
         let mut value_row = [0; MOST_WORDS];
         let words = &mut key_row[..K::words()];
@@ -185,25 +167,31 @@ impl<N: Name, K: Packed, V: Packed> CacheReader<N, K, V> {
         get_by(&mut self.reader, seed, key, words, value, now)
     }
 
+    // Looks ahead for a key that is to be got soon: its get needn't wait for the memory of the index.
+    #[inline(always)]
+    pub(crate) fn look_ahead(&self, key: &K) {
+        let seed = self.seed;
+        let mut key_row = [0; MOST_WORDS];
+        let words = &mut key_row[..K::words()];
+        key.pack(words);
+        self.reader.look_ahead(seed.hash(words));
+    }
+
     /// What was put under the key, as `get` finds it, but the item is handed out, held, in place of its value; or None
-    /// where nothing was found. Its value is read by `HeldItem::value`, and its words by `HeldItem::word` and
-    /// `HeldItem::read`; they stay as they are whatever is put, removed or evicted meanwhile. It touches and counts as
-    /// `get` does. While there is such an item its chunk isn't free, and the reader does nothing else; when it is dropped
-    /// the hold is given back.
+    /// where nothing was found, or what has expired at `now`. Its value is read by `HeldItem::value`, and its words by
+    /// `HeldItem::word` and `HeldItem::read`; they stay as they are whatever is put, removed or evicted meanwhile. It
+    /// touches and counts as `get` does. While there is such an item its chunk isn't free, and the reader does nothing
+    /// else; when it is dropped the hold is given back.
     #[inline(always)]
     pub fn get_with(&mut self, key: &K, now: u64) -> Option<HeldItem<'_, N, K, V>>
         ensures* missed { sem 𝓛 (EndsIfNone N.row K.row V.row N.Name K.Packed V.Packed self.entry result
-            (Misses (K.as_words key.now) self.old)) }
+            (Misses (K.as_words key.now) now self.old)) }
         ensures loan { IfSome result (λ held. loan_of held ≡ self.entry.ghost_name) }
-        ensures found { IfSome result (λ held. Hits (IsPair K.fits K.as_words V.fits V.as_words) self.old.config
-            (K.as_words key.now) now self.old.worker (reader_of held).worker (hold_of held)) }
-        ensures counted { IfSome result (λ held. reader_of held ≡ record self.old {
-          worker = (reader_of held).worker;
-          hits = one_more self.old.hits;
-        }) }
-        ensures value { IfSome result (λ held. (v : V) × V.fits v × HasWords (V.as_words v) K.width
-            (hold_of held).row) }
-        ensures ring { IfSome result (λ held. (reader_of held).worker.sender.ring ≡ self.old.worker.sender.ring) }
+        ensures found { IfSome result (λ held. HitsItem (IsPair K.fits K.as_words V.fits V.as_words)
+            (K.as_words key.now) now self.old (reader_of held) (hold_of held)) }
+        ensures counted { IfSome result (λ held. CountsHit self.old (reader_of held)) }
+        ensures value { IfSome result (λ held. HoldsValue V.fits V.as_words K.width (hold_of held)) }
+        ensures ring { IfSome result (λ held. KeepsRing self.old (reader_of held)) }
     {
         let seed = self.seed;
         let mut key_row = [0; MOST_WORDS];
@@ -214,40 +202,38 @@ impl<N: Name, K: Packed, V: Packed> CacheReader<N, K, V> {
         Some(HeldItem::new(self, hold))
     }
 
-    /// What was put under the key, as `get` finds it, but without a touch, and without being counted: so the item may be
-    /// evicted as if nobody had asked.
+    /// What was put under the key, as `get` finds it, but without a touch, and without being counted: so the item may
+    /// be evicted as if nobody had asked. `now` is the time by which an item has expired, in the caller's ticks.
     #[inline(always)]
-    pub fn peek(&mut self, key: &K) -> Option<V>
-        ensures found { IfSome result (λ value. Peeks (IsPair K.fits K.as_words V.fits V.as_words) self.old.config
-            (K.as_words key.now) (V.as_words value) self.old.worker self.new.worker) }
-        ensures nothing { IfNone result (FindsNothing self.old.config (K.as_words key.now) self.old.worker
-            self.new.worker) }
-        ensures uncounted { self.new ≡ record self.old { worker = self.new.worker } }
-        ensures ring { self.new.worker.sender.ring ≡ self.old.worker.sender.ring }
+    pub fn peek(&mut self, key: &K, now: u64) -> Option<V>
+        ensures found { IfSome result (λ value. PeeksValue (IsPair K.fits K.as_words V.fits V.as_words)
+            (K.as_words key.now) (V.as_words value) now self.old self.new) }
+        ensures nothing { IfNone result (ReadsNothing (K.as_words key.now) now self.old self.new) }
+        ensures uncounted { CountsNothing self.old self.new }
+        ensures ring { KeepsRing self.old self.new }
     {
         let seed = self.seed;
         let mut key_row = [0; MOST_WORDS];
         let mut value_row = [0; MOST_WORDS];
         let words = &mut key_row[..K::words()];
         let value = &mut value_row[..V::words()];
-        peek_by(&mut self.reader, seed, key, words, value)
+        peek_by(&mut self.reader, seed, key, words, value, now)
     }
 
-    /// Whether something is under the key: `peek` without the value.
+    /// Whether something is under the key that hasn't expired at `now`: `peek` without the value.
     #[inline(always)]
-    pub fn contains(&mut self, key: &K) -> bool
-        ensures found { result ≡ true → Sees (IsPair K.fits K.as_words V.fits V.as_words) self.old.config
-            (K.as_words key.now) self.old.worker self.new.worker }
-        ensures nothing { result ≡ false → FindsNothing self.old.config (K.as_words key.now) self.old.worker
-            self.new.worker }
-        ensures uncounted { self.new ≡ record self.old { worker = self.new.worker } }
-        ensures ring { self.new.worker.sender.ring ≡ self.old.worker.sender.ring }
+    pub fn contains(&mut self, key: &K, now: u64) -> bool
+        ensures found { result ≡ true → SeesItem (IsPair K.fits K.as_words V.fits V.as_words) (K.as_words key.now) now
+            self.old self.new }
+        ensures nothing { result ≡ false → ReadsNothing (K.as_words key.now) now self.old self.new }
+        ensures uncounted { CountsNothing self.old self.new }
+        ensures ring { KeepsRing self.old self.new }
     {
         let seed = self.seed;
         let mut key_row = [0; MOST_WORDS];
         let words = &mut key_row[..K::words()];
         key.pack(words);
-        self.reader.contains(seed.hash(words), words)
+        self.reader.contains(seed.hash(words), words, now)
     }
 
     /// How many gets found something (memcached's `get_hits`), at most 2^64 - 1.

@@ -270,6 +270,8 @@ fn plan_of(matches: &ArgMatches<'_>) -> Plan {
             warm: number_of(matches, "warm"),
             hot_age: age_of(matches, "hot-age"),
             warm_age: age_of(matches, "warm-age"),
+            temporary: None,
+            expiry_looks: 0,
             readers: number_of(matches, "workers"),
             ring: number_of(matches, "ring"),
             seed: SEED,

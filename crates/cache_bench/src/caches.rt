@@ -19,6 +19,9 @@ use std::thread::Threads;
 // So often a reader gets all keys before the passes, so that most items have both marks then.
 const ROUNDS: u32 = 4;
 
+// So many keys are got at a time. A pass has a multiple of them.
+const AT_A_TIME: usize = 32;
+
 // A seed that is the same in each run, so that each takes the same way.
 const SEED: Seed = Seed {
     first: 0x9E37_79B9_7F4A_7C15,
@@ -29,6 +32,41 @@ impl<N: Name> Called for CacheReader<N, u64, u64> {
     #[inline(always)]
     fn call(&mut self, key: u64) -> bool {
         self.get(&key, 5) == Some(key)
+    }
+}
+
+// A reader that gets so many keys at a time: each one waits until there are as many.
+#[derive(Drop)]
+struct Gatherer<N: Name> {
+    reader: CacheReader<N, u64, u64>,
+    keys: [u64; AT_A_TIME],
+    values: [Option<u64>; AT_A_TIME],
+    waiting: usize,
+}
+
+impl<N: Name> Gatherer<N> {
+    // Whether each key has the value that was put under it.
+    #[inline(always)]
+    fn are_right(&self) -> bool {
+        for (key, value) in self.keys.iter().zip(self.values.iter()) {
+            if *value != Some(*key) {
+                return false;
+            }
+        }
+        true
+    }
+}
+
+impl<N: Name> Called for Gatherer<N> {
+    #[inline(always)]
+    fn call(&mut self, key: u64) -> bool {
+        self.keys[self.waiting % AT_A_TIME] = key;
+        self.waiting = self.waiting.wrapping_add(1);
+        if self.waiting % AT_A_TIME != 0 {
+            return true;
+        }
+        self.reader.get_many(&self.keys, &mut self.values, 5);
+        self.are_right()
     }
 }
 
@@ -115,6 +153,23 @@ fn prepare<N: Name + LogName, R: Wait>(
     }
 }
 
+// The readers, each of which gets many keys at a time.
+fn make_gatherers<N: Name>(
+    alloc: Global,
+    readers: Vec<CacheReader<N, u64, u64>>,
+) -> Result<Vec<Gatherer<N>>, AllocError> {
+    let mut gatherers = Vec::with_capacity(alloc, readers.len())?;
+    for reader in readers {
+        gatherers.push(Gatherer {
+            reader,
+            keys: [0; AT_A_TIME],
+            values: [None; AT_A_TIME],
+            waiting: 0,
+        })?;
+    }
+    Ok(gatherers)
+}
+
 // Those that put, for so many threads.
 fn make_putters<'a, N: Name + LogName, R: Wait + Copy>(
     rt: R,
@@ -168,6 +223,9 @@ impl<R: Threads + Clock + Wait + Copy + Send + Sync> Passes<R> {
         if puts {
             let putters = make_putters(self.rt, self.alloc, &cache, caller, self.threads).ok()?;
             return self.time_all(putters);
+        }
+        if self.work == Work::GetMany {
+            return self.time_all(make_gatherers(self.alloc, readers).ok()?);
         }
         self.time_all(readers)
     }

@@ -71,7 +71,7 @@ impl<R: Threads + Clock + Wait + Copy + Send + Sync> Passes<R> {
         match self.work {
             Work::Put => None,
             Work::Hot => Some(1),
-            Work::Get | Work::PutSame | Work::Bytes => Some(u64::from(self.items)),
+            Work::Get | Work::GetMany | Work::PutSame | Work::Bytes => Some(u64::from(self.items)),
         }
     }
 

@@ -19,6 +19,9 @@ pub enum Work {
     /// Gets of keys that are there, at random.
     Get,
 
+    /// The same gets, 32 keys at a time.
+    GetMany,
+
     /// Gets of one key, by all threads.
     Hot,
 
@@ -40,7 +43,8 @@ pub struct Workload {
 }
 
 impl Workload {
-    /// The workload of a name: whose calls, and which, as `cache_get` and `lru16_put_same`.
+    /// The workload of a name: whose calls, and which, as `cache_get` and `lru16_put_same`. Many keys at a time are got
+    /// of a cache alone.
     pub fn named(name: &str) -> Option<Workload> {
         let (subject, work) = name.split_once('_')?;
         let subject = match subject {
@@ -51,6 +55,7 @@ impl Workload {
         };
         let work = match work {
             "get" => Work::Get,
+            "get_many" if subject == Subject::Cache => Work::GetMany,
             "hot" => Work::Hot,
             "put" => Work::Put,
             "put_same" => Work::PutSame,

@@ -5,7 +5,7 @@ use Rattle.bump_rules.specs.declared.places.Tail.{Tail}
 use Rattle.bump_rules.specs.Tables.{pulled_to, last_pulled}
 use Rattle.bump_class.specs.Books.{BookView}
 use Rattle.cache_lists.specs.declared.ages.Bound.{Bound}
-use Rattle.cache_lists.specs.Ages.{LooksPast, PullsPast, PullsPastAt, SeesAge, SeesTime}
+use Rattle.cache_lists.specs.Ages.{LooksPast, PullsPast, PullsPastAt, SeesTime}
 use Rattle.cache_lists.specs.Flows.{Flows}
 use Rattle.cache_lists.specs.Items.{KeepsItems}
 use Rattle.cache_lists.proofs.Ways.{still}

@@ -4,7 +4,9 @@ use Rattle.std.proofs.lemmas.Bool.{and_parts}
 use Rattle.bump_rules.specs.declared.places.Place.{Place}
 use Rattle.bump_rules.specs.declared.places.Place.TheVariants.{Hot, Warm, Cold, Temp, Dying, Unused, Retired}
 use Rattle.bump_rules.specs.Lawful.{bit}
-use Rattle.bump_rules.specs.Places.{is_place, is_segment_place}
+use Rattle.bump_rules.specs.declared.places.Start.{Start}
+use Rattle.bump_rules.specs.declared.places.Start.TheVariants as start
+use Rattle.bump_rules.specs.Places.{first_segment, is_place, is_segment_place}
 use Rattle.bump_rules.proofs.Standings.{same_place}
 use Rattle.bump_class.specs.Books.{BookView}
 use Rattle.cache_lists.specs.declared.flow.Flow.{Flow}
@@ -48,6 +50,8 @@ pub flow_goes_on : (way : Option Way) (before after : BookView) (flow : Flow)
 flow_goes_on way before after flow ours flows is = record {
   linked = ap (more (is_way way Unused Hot)) is.linked
       ∙ (more_capped (is_way way Unused Hot) (crossings Unused Hot before.part) ∙ ap capped (sym (flows.counts Unused Hot refl)));
+  linked_temp = ap (more (is_way way Unused Temp)) is.linked_temp
+      ∙ (more_capped (is_way way Unused Temp) (crossings Unused Temp before.part) ∙ ap capped (sym (flows.counts Unused Temp refl)));
   hot_to_warm = ap (more (is_way way Hot Warm)) is.hot_to_warm
       ∙ (more_capped (is_way way Hot Warm) (crossings Hot Warm before.part) ∙ ap capped (sym (flows.counts Hot Warm refl)));
   hot_to_cold = ap (more (is_way way Hot Cold)) is.hot_to_cold
@@ -64,6 +68,8 @@ flow_goes_on way before after flow ours flows is = record {
       ∙ (more_capped (is_way way Warm Dying) (crossings Warm Dying before.part) ∙ ap capped (sym (flows.counts Warm Dying refl)));
   ended_cold = ap (more (is_way way Cold Dying)) is.ended_cold
       ∙ (more_capped (is_way way Cold Dying) (crossings Cold Dying before.part) ∙ ap capped (sym (flows.counts Cold Dying refl)));
+  ended_temp = ap (more (is_way way Temp Dying)) is.ended_temp
+      ∙ (more_capped (is_way way Temp Dying) (crossings Temp Dying before.part) ∙ ap capped (sym (flows.counts Temp Dying refl)));
   no_other = λ from to segment other. flows.counts from to segment
       ∙ ap₂ (λ n b. n + bit b) (is.no_other from to segment other) (apart way from to ours other);
 }
@@ -113,6 +119,11 @@ nothing_told (pulled.Cold item) from before after book left evictions is same = 
 nothing_told (pulled.Freed item) from before after book left evictions is same = tt
 nothing_told (pulled.Deferred item) from before after book left evictions is same = tt
 
+-- an item begins in HOT or in TEMP
+pub link_is_ours : (begins : Start) → are_ours (Some (Unused, place_of (first_segment begins)))
+link_is_ours start.Hot = refl
+link_is_ours start.Temp = refl
+
 -- each list of linked items is one from which items end
 pub end_is_ours : (from : Segment) → are_ours (Some (place_of from, Dying))
 end_is_ours segment.Hot = refl
@@ -129,11 +140,13 @@ bump_is_ours (Some (applied.Gone ended)) = tt
 
 -- what came in is there still, or went out, by the ways that there are
 pub segments_add_up : (book : BookView) (flow : Flow) → AddsUp book → IsFlow flow book.part
-    → SegmentsAddUp (length book.lists.hot) (length book.lists.warm) (length book.lists.cold) book.part
+    → SegmentsAddUp (length book.lists.hot) (length book.lists.warm) (length book.lists.cold) (length book.lists.temp)
+    book.part
 segments_add_up book flow adds is = record {
   hot_adds_up = omega (arith, adds Hot refl, no Cold Hot refl refl, no Dying Hot refl refl, no Hot Hot refl refl, no Hot Retired refl refl, no Hot Temp refl refl, no Hot Unused refl refl, no Retired Hot refl refl, no Temp Hot refl refl, no Warm Hot refl refl);
   warm_adds_up = omega (arith, adds Warm refl, no Dying Warm refl refl, no Retired Warm refl refl, no Temp Warm refl refl, no Unused Warm refl refl, no Warm Hot refl refl, no Warm Retired refl refl, no Warm Temp refl refl, no Warm Unused refl refl);
   cold_adds_up = omega (arith, adds Cold refl, no Cold Cold refl refl, no Cold Hot refl refl, no Cold Retired refl refl, no Cold Temp refl refl, no Cold Unused refl refl, no Dying Cold refl refl, no Retired Cold refl refl, no Temp Cold refl refl, no Unused Cold refl refl);
+  temp_adds_up = omega (arith, adds Temp refl, no Temp Hot refl refl, no Temp Warm refl refl, no Temp Cold refl refl, no Temp Temp refl refl, no Temp Unused refl refl, no Temp Retired refl refl, no Hot Temp refl refl, no Warm Temp refl refl, no Cold Temp refl refl, no Dying Temp refl refl, no Retired Temp refl refl);
 }
   where
     no : (from to : Place) → (is_segment_place from || is_segment_place to) ≡ true → is_ours from to ≡ false

@@ -6,6 +6,8 @@ pub mod Counting
 pub mod Flowing
 pub mod Ways
 pub mod Segments
+pub mod LookLemmas
 pub mod DrainingLemmas
 pub mod FreeingLemmas
 pub mod RescueLemmas
+pub mod ExpiringLemmas

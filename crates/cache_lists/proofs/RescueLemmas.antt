@@ -1,4 +1,4 @@
--- Pulls of COLD one after the other, and whose turn it is behind them.
+-- Looks at COLD one after the other, and whose turn it is behind them.
 use Rattle.std.proofs.Common.{◌≡◌, ◌≢◌, ℕ, zero, suc, ◌+◌, ◌<◌, ◌⊎◌, Bool, true, false, is_some, List, ◌∷◌, Option, Some, None, if◌then◌else◌, refl, sym, ap, ap₂, ◌∙◌, subst, arith, inl, inr}
 use Rattle.bump_links.specs.Lists.{last_of, without}
 use Rattle.bump_rules.specs.declared.bumps.Ended.TheVariants as ended
@@ -14,20 +14,21 @@ use Rattle.bump_rules.specs.Tables.{pulled_to}
 use Rattle.bump_rules.proofs.SixLists.{list_at_front}
 use Rattle.bump_steps.specs.Applications.{life_in}
 use Rattle.bump_class.specs.Books.{BookView}
-use Rattle.bump_class.specs.Pulls.{Pulls, PullsAt}
+use Rattle.bump_class.specs.Pulls.{PullsAt}
 use Rattle.cache_lists.specs.declared.flow.Flow.{Flow}
 use Rattle.cache_lists.specs.declared.victims.Victim.{Victim}
 use Rattle.cache_lists.specs.Counts.{CountedView, noted}
 use Rattle.cache_lists.specs.Flows.{Way, way_of_pull}
 use Rattle.cache_lists.specs.Items.{victim, or_else, may_tell}
-use Rattle.cache_lists.specs.Rescues.{most_rescues, Rescues, StaysInCold, LooksAtCold, RescuesUpTo, noted_times, rescue_way, MayEnd}
+use Rattle.cache_lists.specs.Rescues.{most_rescues, FindsExpired, LooksAtCold, MayEnd, PullsUnexpired, Rescues, RescuesUpTo, SeesExpiry, StaysInCold, noted_times, rescue_way}
 use Rattle.cache_lists.proofs.Counting.{counts}
 
 -- ---- the victim
 
 -- what COLD has last is the victim
 cold_victim : (lists : Lists) (chunk : ℕ) → last_of lists.cold ≡ Some chunk → victim lists ≡ Some chunk
-cold_victim lists chunk is = ap (λ at. or_else at (or_else (last_of lists.warm) (last_of lists.hot))) is
+cold_victim lists chunk is =
+    ap (λ at. or_else at (or_else (last_of lists.warm) (or_else (last_of lists.hot) (last_of lists.temp)))) is
 
 -- where there is none COLD is empty
 no_cold : (lists : Lists) → victim lists ≡ None → last_of lists.cold ≡ None
@@ -41,7 +42,7 @@ no_cold lists none = by (last_of lists.cold) refl
 warm_victim : (lists : Lists) → last_of lists.warm ≢ None → victim lists ≢ None
 warm_victim lists some none = some (by (last_of lists.cold) (last_of lists.warm) none)
   where
-    by : (cold warm : Option ℕ) → or_else cold (or_else warm (last_of lists.hot)) ≡ None → warm ≡ None
+    by : (cold warm : Option ℕ) → or_else cold (or_else warm (or_else (last_of lists.hot) (last_of lists.temp))) ≡ None → warm ≡ None
     by None None e = refl
     by None (Some chunk) e = absurd (cc e)
     by (Some chunk) warm e = absurd (cc e)
@@ -55,9 +56,9 @@ front_last : (chunk : ℕ) (lists : Lists) → last_of (list_at (to_front chunk 
 front_last chunk lists none =
     has_last chunk (without chunk lists.warm) (sym (ap last_of (list_at_front chunk Warm Warm lists)) ∙ none)
 
--- ---- one pull of COLD
+-- ---- one look at COLD
 
--- it doesn't tell that it found nothing where it found something
+-- a pull doesn't tell that it found nothing where it found something
 never_empty : (active : Bool) (id : ItemId) → pulled.Empty ≢ (if active then pulled.Warm id else pulled.Stay id)
 never_empty true id e = absurd (cc e)
 never_empty false id e = absurd (cc e)
@@ -84,34 +85,36 @@ stay_leaves before after item (Some chunk) is pulls =
     (cold_victim before.lists item.chunk (sym is ∙ ap (λ (l : ItemId). Some l.chunk)
     (sym (stay_told pulls.0.active item (life_in before.part chunk) (pulls.2.pulled ended.Freed)))))
 
--- where nothing was found nothing is there, and nothing is changed
-empty_leaves : (before after : BookView) (at : Option ℕ) → PullsAt before tail.Cold at pulled.Empty after
-    → (at ≡ None) × (after ≡ before)
-empty_leaves before after None pulls = (refl, pulls.1)
-empty_leaves before after (Some chunk) pulls =
-    absurd (never_empty pulls.0.active (life_in before.part chunk) (pulls.2.pulled ended.Freed))
+-- where something is there a pull finds something
+found_some : (before after : BookView) (chunk : ℕ) (at : Option ℕ) → at ≡ Some chunk
+    → PullsAt before tail.Cold at pulled.Empty after → ⊥
+found_some before after chunk None is pulls = absurd (cc is)
+found_some before after chunk (Some other) is pulls =
+    absurd (never_empty pulls.0.active (life_in before.part other) (pulls.2.pulled ended.Freed))
 
--- where COLD is empty nobody is rescued, and nobody stays
-no_warm : (before after : BookView) (item : ItemId) (at : Option ℕ) → at ≡ None
-    → PullsAt before tail.Cold at (pulled.Warm item) after → ⊥
-no_warm before after item None e pulls = absurd (cc pulls.0)
-no_warm before after item (Some chunk) e pulls = absurd (cc e)
+-- where a look at a label found COLD's last item there was a victim
+seen_some : (chunk expires : ℕ) (before seen : BookView) → SeesExpiry chunk expires before seen
+    → victim before.lists ≢ None
+seen_some chunk expires before seen sees none = absurd (cc (sym (no_cold before.lists none) ∙ sees.last))
 
-no_stay : (before after : BookView) (item : ItemId) (at : Option ℕ) → at ≡ None
-    → PullsAt before tail.Cold at (pulled.Stay item) after → ⊥
-no_stay before after item None e pulls = absurd (cc pulls.0)
-no_stay before after item (Some chunk) e pulls = absurd (cc e)
+-- and it is the victim behind the look
+seen_victim : (chunk expires : ℕ) (before seen : BookView) → SeesExpiry chunk expires before seen
+    → victim seen.lists ≡ Some chunk
+seen_victim chunk expires before seen sees =
+    subst (λ (b : BookView). victim b.lists ≡ Some chunk) (sym sees.seen) (cold_victim before.lists chunk sees.last)
 
 -- a pull rescued its item or nobody, by where it moved the item
-pub looked_at_cold : (before after : BookView) (answer : Pulled) → may_tell tail.Cold answer ≡ true
-    → Pulls before tail.Cold answer after → LooksAtCold (is_some (pulled_to answer)) before after
-looked_at_cold before after pulled.Empty may pulls = inr pulls
-looked_at_cold before after (pulled.Stay item) may pulls = inl (item, pulls)
-looked_at_cold before after (pulled.Warm item) may pulls = (item, pulls)
-looked_at_cold before after (pulled.Again item) may pulls = absurd (cc may)
-looked_at_cold before after (pulled.Cold item) may pulls = absurd (cc may)
-looked_at_cold before after (pulled.Freed item) may pulls = absurd (cc may)
-looked_at_cold before after (pulled.Deferred item) may pulls = absurd (cc may)
+pub looked_at_cold : (now : ℕ) (before after : BookView) (answer : Pulled) → may_tell tail.Cold answer ≡ true
+    → PullsUnexpired now answer before after → LooksAtCold now (is_some (pulled_to answer)) before after
+looked_at_cold now before after pulled.Empty may looks =
+    absurd (found_some looks.between after looks.chunk (last_of looks.between.lists.cold)
+    (ap (λ (b : BookView). last_of b.lists.cold) looks.sees.seen ∙ looks.sees.last) looks.pulls)
+looked_at_cold now before after (pulled.Stay item) may looks = inr (inl (item, looks))
+looked_at_cold now before after (pulled.Warm item) may looks = (item, looks)
+looked_at_cold now before after (pulled.Again item) may looks = absurd (cc may)
+looked_at_cold now before after (pulled.Cold item) may looks = absurd (cc may)
+looked_at_cold now before after (pulled.Freed item) may looks = absurd (cc may)
+looked_at_cold now before after (pulled.Deferred item) may looks = absurd (cc may)
 
 -- and is the way from COLD to WARM, or none
 pub cold_way : (answer : Pulled) → may_tell tail.Cold answer ≡ true
@@ -127,11 +130,11 @@ cold_way (pulled.Deferred item) may = absurd (cc may)
 -- ---- several
 
 -- one more is rescued
-pub rescues_more : (count : ℕ) (before between after : BookView) → Rescues count before between
-    → LooksAtCold true between after → Rescues (count + 1) before after
-rescues_more count before between after rescues (item, pulls) =
+pub rescues_more : (now count : ℕ) (before between after : BookView) → Rescues now count before between
+    → LooksAtCold now true between after → Rescues now (count + 1) before after
+rescues_more now count before between after rescues (item, looks) =
     let one_more : suc count ≡ count + 1 = omega arith in
-    subst (λ n. Rescues n before after) one_more (between, item, rescues, pulls)
+    subst (λ n. Rescues now n before after) one_more (between, item, rescues, looks)
 
 -- and counted
 pub noted_more : (count : ℕ) (way : Option Way) (first flow after : Flow) → flow ≡ noted_times count way first
@@ -141,89 +144,105 @@ noted_more count way first flow after is next =
     next ∙ (ap (noted way) is ∙ ap (λ n. noted_times n way first) one_more)
 
 -- where there is no victim nobody is rescued
-none_rescued : (count : ℕ) (before after : BookView) → victim before.lists ≡ None → Rescues count before after
+none_rescued : (now count : ℕ) (before after : BookView) → victim before.lists ≡ None → Rescues now count before after
     → after ≡ before
-none_rescued zero before after none rescues = rescues
-none_rescued (suc count) before after none (between, item, rescues, pulls) =
-    absurd (no_warm between after item (last_of between.lists.cold)
-    (ap (λ (b : BookView). last_of b.lists.cold) (none_rescued count before between none rescues) ∙ no_cold before.lists none) pulls)
+none_rescued now zero before after none rescues = rescues
+none_rescued now (suc count) before after none (between, item, rescues, looks) =
+    absurd (seen_some looks.chunk looks.expires between looks.between looks.sees
+    (ap (λ (b : BookView). victim b.lists) (none_rescued now count before between none rescues) ∙ none))
 
 -- behind rescues there is one
-some_rescued : (count : ℕ) (before after : BookView) → Rescues (suc count) before after → victim after.lists ≢ None
-some_rescued count before after (between, item, rescues, pulls) =
-    warm_leaves between after item (last_of between.lists.cold) pulls
+some_rescued : (now count : ℕ) (before after : BookView) → Rescues now (suc count) before after
+    → victim after.lists ≢ None
+some_rescued now count before after (between, item, rescues, looks) =
+    warm_leaves looks.between after item (last_of looks.between.lists.cold) looks.pulls
 
--- a pull that rescued nobody and leaves no victim changed nothing
-stays_none : (before after : BookView) → StaysInCold before after → victim after.lists ≡ None → after ≡ before
-stays_none before after (inl (item, pulls)) none =
-    absurd (cc (sym none ∙ stay_leaves before after item (last_of before.lists.cold) refl pulls))
-stays_none before after (inr pulls) none = (empty_leaves before after (last_of before.lists.cold) pulls).1
+-- a look that rescued nobody and leaves no victim changed nothing
+stays_none : (now : ℕ) (before after : BookView) → StaysInCold now before after → victim after.lists ≡ None
+    → after ≡ before
+stays_none now before after (inl (chunk, finds)) none =
+    absurd (cc (sym none ∙ seen_victim chunk finds.expires before after finds.sees))
+stays_none now before after (inr (inl (item, looks))) none =
+    absurd (cc (sym none ∙ stay_leaves looks.between after item (last_of looks.between.lists.cold) refl looks.pulls))
+stays_none now before after (inr (inr (empty, same))) none = same
 
 -- and where there was none it leaves none
-still_none : (before after : BookView) → StaysInCold before after → victim before.lists ≡ None → victim after.lists ≡ None
-still_none before after (inl (item, pulls)) none =
-    absurd (no_stay before after item (last_of before.lists.cold) (no_cold before.lists none) pulls)
-still_none before after (inr pulls) none =
-    ap (λ (b : BookView). victim b.lists) (empty_leaves before after (last_of before.lists.cold) pulls).1 ∙ none
+still_none : (now : ℕ) (before after : BookView) → StaysInCold now before after → victim before.lists ≡ None
+    → victim after.lists ≡ None
+still_none now before after (inl (chunk, finds)) none =
+    absurd (seen_some chunk finds.expires before after finds.sees none)
+still_none now before after (inr (inl (item, looks))) none =
+    absurd (seen_some looks.chunk looks.expires before looks.between looks.sees none)
+still_none now before after (inr (inr (empty, same))) none = ap (λ (b : BookView). victim b.lists) same ∙ none
 
 -- where nobody was rescued and no victim is left nothing was changed
-nobody : (most : ℕ) (before between left : BookView) → 0 < most → between ≡ before
-    → ((0 ≡ most) × (left ≡ between)) ⊎ StaysInCold between left → victim left.lists ≡ None → left ≡ before
-nobody most before between left some same (inl (all, still)) none =
+nobody : (now most : ℕ) (before between left : BookView) → 0 < most → between ≡ before
+    → ((0 ≡ most) × (left ≡ between)) ⊎ StaysInCold now between left → victim left.lists ≡ None → left ≡ before
+nobody now most before between left some same (inl (all, still)) none =
     absurd (let no : ⊥ = omega (arith, some, all) in no)
-nobody most before between left some same (inr stays) none = stays_none between left stays none ∙ same
+nobody now most before between left some same (inr stays) none = stays_none now between left stays none ∙ same
 
 -- where no victim is left there was none behind the rescues
-left_none : (most count : ℕ) (between left : BookView) → ((count ≡ most) × (left ≡ between)) ⊎ StaysInCold between left
-    → victim left.lists ≡ None → victim between.lists ≡ None
-left_none most count between left (inl (all, still)) none = ap (λ (b : BookView). victim b.lists) (sym still) ∙ none
-left_none most count between left (inr stays) none =
-    ap (λ (b : BookView). victim b.lists) (sym (stays_none between left stays none)) ∙ none
+left_none : (now most count : ℕ) (between left : BookView)
+    → ((count ≡ most) × (left ≡ between)) ⊎ StaysInCold now between left → victim left.lists ≡ None
+    → victim between.lists ≡ None
+left_none now most count between left (inl (all, still)) none =
+    ap (λ (b : BookView). victim b.lists) (sym still) ∙ none
+left_none now most count between left (inr stays) none =
+    ap (λ (b : BookView). victim b.lists) (sym (stays_none now between left stays none)) ∙ none
 
 -- rescues that leave no victim are none, and changed nothing
-pub nothing_rescued : (most count : ℕ) (before left : BookView) → 0 < most → RescuesUpTo most count before left
+pub nothing_rescued : (now most count : ℕ) (before left : BookView) → 0 < most → RescuesUpTo now most count before left
     → victim left.lists ≡ None → (count ≡ 0) × (left ≡ before)
-nothing_rescued most zero before left some up none =
-    (refl, nobody most before up.between left some up.rescues up.ends none)
-nothing_rescued most (suc count) before left some up none =
-    absurd (some_rescued count before up.between up.rescues (left_none most (suc count) up.between left up.ends none))
+nothing_rescued now most zero before left some up none =
+    (refl, nobody now most before up.between left some up.rescues up.ends none)
+nothing_rescued now most (suc count) before left some up none =
+    absurd (some_rescued now count before up.between up.rescues
+    (left_none now most (suc count) up.between left up.ends none))
 
 -- where there was no victim there is none behind them
-pub nothing_there : (most count : ℕ) (before left : BookView) → RescuesUpTo most count before left
+pub nothing_there : (now most count : ℕ) (before left : BookView) → RescuesUpTo now most count before left
     → victim before.lists ≡ None → victim left.lists ≡ None
-nothing_there most count before left up none = by up.ends
+nothing_there now most count before left up none = by up.ends
   where
     between_none : victim up.between.lists ≡ None
-    between_none = ap (λ (b : BookView). victim b.lists) (none_rescued count before up.between none up.rescues) ∙ none
+    between_none = ap (λ (b : BookView). victim b.lists) (none_rescued now count before up.between none up.rescues)
+        ∙ none
 
-    by : ((count ≡ most) × (left ≡ up.between)) ⊎ StaysInCold up.between left → victim left.lists ≡ None
+    by : ((count ≡ most) × (left ≡ up.between)) ⊎ StaysInCold now up.between left → victim left.lists ≡ None
     by (inl (all, still)) = ap (λ (b : BookView). victim b.lists) still ∙ between_none
-    by (inr stays) = still_none up.between left stays between_none
+    by (inr stays) = still_none now up.between left stays between_none
 
--- the last item of a list isn't of COLD where a pull found that empty
-not_of_cold : (it : Victim) (between left : BookView) → Pulls between tail.Cold pulled.Empty left
+-- the last item of a list isn't of COLD where that is empty
+not_of_cold : (it : Victim) (left : BookView) → last_of left.lists.cold ≡ None
     → last_of (list_at left.lists (place_of it.last_of)) ≡ Some it.chunk → it.last_of ≢ segment.Cold
-not_of_cold it between left pulls list cold =
-    let found = empty_leaves between left (last_of between.lists.cold) pulls in
-    let none : last_of left.lists.cold ≡ None = ap (λ (b : BookView). last_of b.lists.cold) found.1 ∙ found.0 in
+not_of_cold it left none list cold =
     let some : last_of left.lists.cold ≡ Some it.chunk =
     sym (ap (λ s. last_of (list_at left.lists (place_of s))) cold) ∙ list in
     absurd (cc (sym none ∙ some))
 
 -- the victim behind them may end
-pub may_end : (count : ℕ) (it : Victim) (before left : BookView) (up : RescuesUpTo most_rescues count before left)
+pub may_end : (now count : ℕ) (it : Victim) (before left : BookView) (up : RescuesUpTo now most_rescues count before left)
     → victim left.lists ≡ Some it.chunk → last_of (list_at left.lists (place_of it.last_of)) ≡ Some it.chunk
-    → MayEnd count it up.between left
-may_end count it before left up next list = by up.ends
+    → MayEnd now count it up.between left
+may_end now count it before left up next list = by up.ends
   where
-    by : ((count ≡ most_rescues) × (left ≡ up.between)) ⊎ StaysInCold up.between left → MayEnd count it up.between left
+    by : ((count ≡ most_rescues) × (left ≡ up.between)) ⊎ StaysInCold now up.between left
+        → MayEnd now count it up.between left
     by (inl all) = inl all
-    by (inr (inl (item, pulls))) =
+    by (inr (inl (chunk, finds))) =
+        let one : Some chunk ≡ Some it.chunk =
+        sym (seen_victim chunk finds.expires up.between left finds.sees) ∙ next in
+        let same : chunk ≡ it.chunk = cc one in
+        inr (inl (subst (λ c. FindsExpired now c up.between left) same finds))
+    by (inr (inr (inl (item, looks)))) =
         let one : Some item.chunk ≡ Some it.chunk =
-        sym (stay_leaves up.between left item (last_of up.between.lists.cold) refl pulls) ∙ next in
+        sym (stay_leaves looks.between left item (last_of looks.between.lists.cold) refl looks.pulls) ∙ next in
         let same : item.chunk ≡ it.chunk = cc one in
-        inr (inl (item, same, pulls))
-    by (inr (inr pulls)) = inr (inr (not_of_cold it up.between left pulls list, pulls))
+        inr (inr (inl (item, same, looks)))
+    by (inr (inr (inr (none, same)))) =
+        let empty : last_of left.lists.cold ≡ None = ap (λ (b : BookView). last_of b.lists.cold) same ∙ none in
+        inr (inr (inr (not_of_cold it left empty list, none, same)))
 
 -- ---- a Book that counts
 

@@ -1,7 +1,7 @@
 -- The words of chunks behind the beginning of a life.
-use Rattle.std.proofs.Common.{◌≡◌, ℕ, zero, suc, ◌+◌, ◌<◌, Bool, true, false, ◌==◌, List, [], ◌∷◌, ◌++◌, eqb, get_or, length, if◌then◌else◌, refl, sym, ap, ◌∙◌, subst, arith, append_assoc, append-nil}
+use Rattle.std.proofs.Common.{◌≡◌, ℕ, zero, suc, Bool, true, false, ◌==◌, List, [], ◌∷◌, ◌++◌, eqb, if◌then◌else◌, refl, sym, ap, ◌∙◌, subst, arith, append_assoc, append-nil}
 use Rattle.bump_rules.specs.declared.items.ItemId.{ItemId}
-use Rattle.bump_rules.specs.declared.places.Start.TheVariants as start
+use Rattle.bump_rules.specs.declared.places.Start.{Start}
 use Rattle.bump_rules.specs.declared.labels.LabelStep.TheVariants.{Stored}
 use Rattle.bump_rules.specs.Labels.{label_word}
 use Rattle.bump_steps.specs.declared.views.ClassPart.{ClassPart}
@@ -30,23 +30,23 @@ puts_elsewhere c d i j (x ∷ xs) ws other = ap (λ (l : List WordStep). label_w
     by false = refl
 
 -- so does the beginning of a life at the chunk
-pub row_elsewhere : (class : ClassPart) (item : ItemId) (label : ℕ) (words : List ℕ) (now i c : ℕ)
+pub row_elsewhere : (begins : Start) (class : ClassPart) (item : ItemId) (label : ℕ) (words : List ℕ) (now i c : ℕ)
     → (item.chunk == c) ≡ false
-    → last_word i (class_with_item start.Hot item label now (class_with_words item.chunk 0 words class)) c
+    → last_word i (class_with_item begins item label now (class_with_words item.chunk 0 words class)) c
     ≡ last_word i class c
-row_elsewhere class item label words now zero c other =
+row_elsewhere begins class item label words now zero c other =
     word_linked c 0 (class.labels ++ Stored item.chunk label ∷ []) item
     ∙ word_stored c 0 class.labels item.chunk label
     ∙ ap (λ (b : Bool). if b then label else label_word c 0 class.labels) other
-row_elsewhere class item label words now (suc j) c other =
+row_elsewhere begins class item label words now (suc j) c other =
     ap (label_word c 0) (of_word_begun j (class.words ++ puts item.chunk 0 words) item)
     ∙ word_linked c 0 (of_word j (class.words ++ puts item.chunk 0 words)) item
     ∙ puts_elsewhere c item.chunk 0 j words class.words other
 
 -- and its chunk has the row that was given
-pub row_given : (book left : BookView) (item : ItemId) (label : ℕ) (words : List ℕ) (now : ℕ)
-    → left ≡ book_with_words start.Hot item label words now book → HasRow item.chunk label words left
-row_given book left item label words now after = subst (HasRow item.chunk label words) (sym after) (
+pub row_given : (begins : Start) (book left : BookView) (item : ItemId) (label : ℕ) (words : List ℕ) (now : ℕ)
+    → left ≡ book_with_words begins item label words now book → HasRow item.chunk label words left
+row_given begins book left item label words now after = subst (HasRow item.chunk label words) (sym after) (
   word_linked item.chunk 0 (book.part.labels ++ Stored item.chunk label ∷ []) item
       ∙ just_stored item.chunk book.part.labels label,
   λ j low. ap (label_word item.chunk 0) (of_word_begun j (book.part.words ++ puts item.chunk 0 words) item)

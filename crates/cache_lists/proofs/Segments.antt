@@ -1,6 +1,6 @@
 -- What changes of a Book leave of the lists of its linked items.
 use Rattle.std.proofs.Common.{◌≡◌, ◌≢◌, ℕ, ◌<◌, ◌==◌, ◌&&◌, Bool, true, false, cond, List, [], ◌∷◌, Option, Some, None, IfSome, Ok, option_map, if◌then◌else◌, refl, sym, ap, ◌∙◌, subst, eq-eqb, arith}
-use Rattle.bump_links.specs.Lists.{times, without, last_of}
+use Rattle.bump_links.specs.Lists.{times, without}
 use Rattle.bump_links.proofs.ListsLemmas.{apart-from_times, without-absent, times-without_same}
 use Rattle.bump_rules.specs.declared.bumps.Ended.{Ended}
 use Rattle.bump_rules.specs.declared.history.Change.TheVariants as change
@@ -26,11 +26,10 @@ use Rattle.bump_rules.proofs.Standings.{same_place}
 use Rattle.bump_steps.specs.Applications.{life_in}
 use Rattle.bump_steps.specs.Views.{owns, standing}
 use Rattle.bump_class.specs.Books.{BookView}
-use Rattle.bump_class.specs.Changes.{book_after_unlink, book_after_clear_active, book_after_load}
+use Rattle.bump_class.specs.Changes.{book_after_unlink, book_after_clear_active}
 use Rattle.bump_class.specs.Ends.{EndsItem, Unlinks}
 use Rattle.bump_class.specs.Pulls.{PullsAt, PullsAtBy, MovesItemBy, book_after_pull_to}
 use Rattle.bump_class.specs.Sweeps.{SweepsThese}
-use Rattle.cache_lists.specs.Items.{victim, or_else}
 use Rattle.cache_lists.specs.Linked.{linked_at}
 use Rattle.cache_lists.specs.Segments.{SameSegments}
 use Rattle.cache_lists.proofs.Standings.{Stands, freed_nowhere, listed_there}
@@ -77,13 +76,6 @@ pub same_without : (c : ℕ) (before after : Lists) → SameSegments before afte
     → SameSegments (all_without c before) (all_without c after)
 same_without c before after same place segment = list_at_without c place after
     ∙ (ap (without c) (same place segment) ∙ sym (list_at_without c place before))
-
--- the same item's turn it is
-pub same_victim : (before after : Lists) → SameSegments before after → victim after ≡ victim before
-same_victim before after same =
-    ap (λ xs. or_else (last_of xs) (or_else (last_of after.warm) (last_of after.hot))) (same Cold refl)
-    ∙ (ap (λ xs. or_else (last_of before.cold) (or_else (last_of xs) (last_of after.hot))) (same Warm refl)
-    ∙ ap (λ xs. or_else (last_of before.cold) (or_else (last_of before.warm) (last_of xs))) (same Hot refl))
 
 -- ---- what single changes leave
 
@@ -153,11 +145,6 @@ evict_others book left answer item (Some chunk) pulls is =
     let same : chunk ≡ item.chunk = cc is in
     subst (λ c. SameSegments (all_without c book.lists) left.lists) same
     (ends_others book left chunk pulls.0 pulls.1 pulls.2 pulls.3.ends)
-
--- a look behind it changes no list
-pub seen_others : (lists : Lists) (book seen : BookView) (c : ℕ) (head : Head)
-    → seen ≡ book_after_load c head book → SameSegments lists book.lists → SameSegments lists seen.lists
-seen_others lists book seen c head is same = subst (λ (b : BookView). SameSegments lists b.lists) (sym is) same
 
 -- a pull leaves all but its chunk in place
 pub moves_others : (limits : Limits) (book left : BookView) (from : Tail) (chunk : ℕ) (answer : Pulled) (cleared moved : Head)

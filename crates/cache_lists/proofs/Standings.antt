@@ -1,5 +1,5 @@
 -- Where changes of a Book leave its items.
-use Rattle.std.proofs.Common.{◌≡◌, ◌≢◌, ℕ, ◌<◌, Bool, true, false, cond, ◌==◌, ◌&&◌, not, nat_lt, length, option_map, IfSome, IfNone, ◌+◌, List, [], ◌∷◌, ◌++◌, Option, Some, None, if◌then◌else◌, refl, sym, ap, ap₂, ◌∙◌, subst, eqb, eqb-true, eq-eqb, arith, append-nil, append_assoc, Ok, Err}
+use Rattle.std.proofs.Common.{◌≡◌, ◌≢◌, ℕ, ◌<◌, Bool, true, false, cond, ◌==◌, ◌&&◌, not, nat_lt, length, option_map, IfSome, IfNone, ◌+◌, List, [], ◌∷◌, ◌++◌, Option, Some, None, if◌then◌else◌, refl, sym, ap, ap₂, ◌∙◌, subst, eqb, eqb-true, eq-eqb, arith, append-nil, append_assoc, Ok}
 use Rattle.std.proofs.lemmas.Bool.{and_parts}
 use Rattle.bump_links.specs.Lists.{times, last_of, first_of}
 use Rattle.bump_rules.specs.declared.history.Change.{Change}
@@ -16,19 +16,21 @@ use Rattle.bump_rules.specs.declared.places.Place.{Place}
 use Rattle.bump_rules.specs.declared.places.Place.TheVariants.{Hot, Warm, Cold, Temp, Dying, Unused, Retired}
 use Rattle.bump_rules.specs.declared.places.Segment.{Segment}
 use Rattle.bump_rules.specs.declared.places.Segment.TheVariants as segment
-use Rattle.bump_rules.specs.declared.places.Start.TheVariants as start
+use Rattle.bump_rules.specs.declared.places.Start.{Start}
 use Rattle.bump_rules.specs.declared.places.Tail.{Tail}
 use Rattle.bump_rules.specs.declared.places.Tail.TheVariants as tail
 use Rattle.bump_rules.specs.History.{subject, target, standing_in, is_place, place_of, freed_change, is_between}
 use Rattle.bump_rules.specs.Lawful.{bit, Shows}
 use Rattle.bump_rules.specs.Lists.{Lists, list_at}
 use Rattle.bump_rules.specs.Lives.{life}
-use Rattle.bump_rules.specs.Places.{is_segment_place, segment_places}
+use Rattle.bump_rules.specs.Places.{first_segment, is_segment_place, segment_places}
+use Rattle.bump_rules.specs.Starts.{begun_change}
 use Rattle.std.specs.List.{list_any}
 use Rattle.bump_class.specs.declared.ending.UnlinkRefusal.{UnlinkRefusal}
 use Rattle.bump_class.specs.declared.ending.UnlinkRefusal.TheVariants.{NoSuchChunk, NotLinked}
 use Rattle.bump_rules.specs.Sweeps.{unheld, swept_changes, swept_of}
 use Rattle.bump_rules.specs.Tables.{segment_of, pulled_to, last_pulled, is_unheld, evicted_as, pulled_of, is_over}
+use Rattle.bump_rules.proofs.Beginnings.{begun_subject, begun_target}
 use Rattle.bump_rules.proofs.Laws.{bit_some}
 use Rattle.bump_rules.proofs.PlainLists.{last_there, first_there, times_same, times_rest}
 use Rattle.bump_rules.proofs.Replay.{standing_push}
@@ -229,12 +231,14 @@ sweeps_keep book left freed_chunks heads looked stands dying sweeps = subst (Kee
 })
 
 -- a life begins
-pub begins_at : (book left : BookView) (item : ItemId) (label : ℕ) (words : List ℕ) (now : ℕ) → Stands book → linked_item book ≡ Ok item
-    → left ≡ book_with_words start.Hot item label words now book → BeginsAt item book left
-begins_at book left item label words now stands is after = subst (BeginsAt item book) (sym after) (by (first_of book.lists.unused) refl is)
+pub begins_at : (begins : Start) (book left : BookView) (item : ItemId) (label : ℕ) (words : List ℕ) (now : ℕ)
+    → Stands book → linked_item book ≡ Ok item → left ≡ book_with_words begins item label words now book
+    → BeginsAt item book left
+begins_at begins book left item label words now stands is after =
+    subst (BeginsAt item book) (sym after) (by (first_of book.lists.unused) refl is)
   where
     by : (at : Option ℕ) → first_of book.lists.unused ≡ at → item_of book at ≡ Ok item
-        → BeginsAt item book (book_with_words start.Hot item label words now book)
+        → BeginsAt item book (book_with_words begins item label words now book)
     by None e linked = absurd (cc linked)
     by (Some chunk) e linked =
         let it : next_life book chunk ≡ item = cc linked in
@@ -244,8 +248,12 @@ begins_at book left item label words now stands is after = subst (BeginsAt item 
           class = record { first = refl; count = refl };
           own = ap (λ d. owns d book.part) (sym same) ∙ there.0;
           free = ap (linked_at book.part) (sym same) ∙ stands_elsewhere book.part chunk Unused there.1 refl;
-          linked = linked_push book.part.fresh book.part.history (change.Linked item);
-          words = λ i c other. row_elsewhere book.part item label words now i c other;
+          linked = λ c. linked_push book.part.fresh book.part.history (begun_change begins item) c
+              ∙ (ap₂ (λ p (l : ItemId). if l.chunk == c then linked_standing (p, l.generation) else linked_at book.part c)
+              (begun_target begins item) (begun_subject begins item)
+              ∙ ap (λ (o : Option ℕ). if item.chunk == c then o else linked_at book.part c)
+              (segment_linked (first_segment begins) item.generation));
+          words = λ i c other. row_elsewhere begins book.part item label words now i c other;
         }
 
 -- a life begins at the first chunk of UNUSED
@@ -333,14 +341,17 @@ see_keeps book seen chunk head is = subst (KeepsItems book) (sym is) (record {
   words = λ i c. refl;
 })
 
--- a head of a chunk whose item ended isn't linked
-pub ended_shown : (book ended : BookView) (chunk : ℕ) (head : Head) → EndsAt chunk book ended
-    → Shows head (standing ended.part chunk).0 → head.linked ≡ false
-ended_shown book ended chunk head ends shows =
-    by (standing ended.part chunk).0 (ends.linked chunk
-    ∙ ap (λ b. if b then None else linked_at book.part chunk) (eq-eqb chunk chunk refl)) shows
+-- behind its end no item is linked at the chunk
+pub ended_none : (book ended : BookView) (chunk : ℕ) → EndsAt chunk book ended → linked_at ended.part chunk ≡ None
+ended_none book ended chunk ends = ends.linked chunk
+    ∙ ap (λ b. if b then None else linked_at book.part chunk) (eq-eqb chunk chunk refl)
+
+-- a head of a chunk at which no item is linked isn't linked
+pub unlinked_shown : (class : ClassPart) (chunk : ℕ) (head : Head) → linked_at class chunk ≡ None
+    → Shows head (standing class chunk).0 → head.linked ≡ false
+unlinked_shown class chunk head none shows = by (standing class chunk).0 none shows
   where
-    by : (p : Place) → linked_standing (p, (standing ended.part chunk).1) ≡ None → Shows head p → head.linked ≡ false
+    by : (p : Place) → linked_standing (p, (standing class chunk).1) ≡ None → Shows head p → head.linked ≡ false
     by Hot none shown = absurd (cc none)
     by Warm none shown = absurd (cc none)
     by Cold none shown = absurd (cc none)
@@ -427,14 +438,6 @@ unlinks_at book left item ended own was (looked, found, last, behind, looks, end
       linked = λ c. at.linked c ∙ ap (λ (b : BookView). if item.chunk == c then None else linked_at b.part c) looks.after;
       words = λ i c. at.words i c ∙ ap (λ (b : BookView). last_word i b.part c) looks.after;
     }
-
--- and where it is
-pub unlinks_nothing : (book left : BookView) (item : ItemId) (refusal : UnlinkRefusal) → Unlinks book item (Err refusal) left
-    → KeepsItems book left
-unlinks_nothing book left item NoSuchChunk is =
-    subst (KeepsItems book) (sym is) (record { class = record { first = refl; count = refl }; linked = λ c. refl; words = λ i c. refl })
-unlinks_nothing book left item NotLinked (found, looks) =
-    subst (KeepsItems book) (sym looks.after) (record { class = record { first = refl; count = refl }; linked = λ c. refl; words = λ i c. refl })
 
 -- what a pull tells is the item at which it looked, and that is still linked
 tells_item : (from : Tail) (head : Head) (lists : Lists) (limits : Limits) (ended : Ended) (item : ItemId)

@@ -19,16 +19,18 @@ use Rattle.bump_rules.specs.declared.places.Place.{Place}
 use Rattle.bump_rules.specs.declared.places.Place.TheVariants.{Hot, Warm, Cold, Temp, Dying, Unused, Retired}
 use Rattle.bump_rules.specs.declared.places.Segment.{Segment}
 use Rattle.bump_rules.specs.declared.places.Segment.TheVariants as segment
-use Rattle.bump_rules.specs.declared.places.Start.TheVariants as start
+use Rattle.bump_rules.specs.declared.places.Start.{Start}
 use Rattle.bump_rules.specs.declared.places.Tail.{Tail}
 use Rattle.bump_rules.specs.declared.places.Tail.TheVariants as tail
 use Rattle.bump_rules.specs.History.{subject, target, standing_in, freed_change}
 use Rattle.bump_rules.specs.Lawful.{bit, Shows}
 use Rattle.bump_rules.specs.Lists.{Lists}
 use Rattle.bump_rules.specs.Lives.{life}
-use Rattle.bump_rules.specs.Places.{place_of, is_place, is_segment_place}
+use Rattle.bump_rules.specs.Places.{first_segment, place_of, is_place, is_segment_place}
+use Rattle.bump_rules.specs.Starts.{begun_change}
 use Rattle.bump_rules.specs.Sweeps.{unheld, swept_changes, swept_of}
 use Rattle.bump_rules.specs.Tables.{segment_of, pulled_to, last_pulled, is_unheld, evicted_as, pulled_of, is_over, is_cold, ended_of}
+use Rattle.bump_rules.proofs.Beginnings.{begun_subject, begun_target}
 use Rattle.bump_rules.proofs.PlainLists.{last_there, first_there, times_same, times_rest}
 use Rattle.bump_rules.proofs.Replay.{standing_push}
 use Rattle.bump_rules.proofs.Standings.{same_place}
@@ -341,20 +343,26 @@ evicts_flow book left answer item stands pulls told =
 
 -- ---- links and sweeps
 
--- a link takes its chunk from UNUSED to HOT
-pub links_flow : (book left : BookView) (item : ItemId) (label : ℕ) (words : List ℕ) (now : ℕ) → Stands book → linked_item book ≡ Ok item
-    → left ≡ book_with_words start.Hot item label words now book → Flows (Some (Unused, Hot)) book left
-links_flow book left item label words now stands is after =
-    subst (Flows (Some (Unused, Hot)) book) (sym after) (by (first_of book.lists.unused) refl is)
+-- a link takes its chunk from UNUSED to where its item begins
+pub links_flow : (begins : Start) (book left : BookView) (item : ItemId) (label : ℕ) (words : List ℕ) (now : ℕ)
+    → Stands book → linked_item book ≡ Ok item → left ≡ book_with_words begins item label words now book
+    → Flows (Some (Unused, place_of (first_segment begins))) book left
+links_flow begins book left item label words now stands is after =
+    subst (Flows (Some (Unused, place_of (first_segment begins))) book) (sym after)
+    (by (first_of book.lists.unused) refl is)
   where
+    begun : BookView
+    begun = book_with_words begins item label words now book
+
     by : (at : Option ℕ) → first_of book.lists.unused ≡ at → item_of book at ≡ Ok item
-        → Flows (Some (Unused, Hot)) book (book_with_words start.Hot item label words now book)
+        → Flows (Some (Unused, place_of (first_segment begins))) book begun
     by None e linked = absurd (cc linked)
     by (Some chunk) e linked =
         let it : next_life book chunk ≡ item = cc linked in
         let there = listed_there book stands chunk Unused (first_there chunk book.lists.unused e) in
-        entered book (book_with_words start.Hot item label words now book) (change.Linked item) Unused refl refl
-        (ap (λ (l : ItemId). (standing book.part l.chunk).0) (sym it) ∙ there.1)
+        subst (λ p. Flows (Some (Unused, p)) book begun) (begun_target begins item)
+        (entered book begun (begun_change begins item) Unused refl refl
+        (ap (λ (l : ItemId). (standing book.part l.chunk).0) (begun_subject begins item ∙ sym it) ∙ there.1))
 
 -- freeing chunks that aren't linked counts nothing
 swept_flow : (fresh : ℕ) (heads : ℕ → Head) (from to : Place)

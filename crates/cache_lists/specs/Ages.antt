@@ -1,5 +1,5 @@
 -- How long ago the last items of the lists were used, and what a look at one comes to.
-use Rattle.std.specs.Prelude.{◌≡◌, ℕ, ◌-◌, ◌*◌, ◌/◌, Bool, true, false, ◌||◌, if◌then◌else◌, nat_lt, Option, None, Some, is_some}
+use Rattle.std.specs.Prelude.{◌≡◌, ℕ, ◌-◌, ◌*◌, ◌/◌, Bool, false, ◌||◌, if◌then◌else◌, nat_lt, Option, None, Some, is_some}
 use Rattle.bump_links.specs.Lists.{last_of}
 use Rattle.bump_rules.specs.declared.commands.Pulled.{Pulled}
 use Rattle.bump_rules.specs.declared.items.Head.{Head}

@@ -1,13 +1,12 @@
 -- What the counts of a Book say.
 use Rattle.std.specs.Prelude.{◌≡◌, ℕ, ◌+◌, min, Bool, true, false, not, ◌||◌, Option}
 use Rattle.bump_rules.specs.declared.places.Place.{Place}
-use Rattle.bump_rules.specs.declared.places.Place.TheVariants.{Hot, Warm, Cold, Dying, Unused}
+use Rattle.bump_rules.specs.declared.places.Place.TheVariants.{Hot, Warm, Cold, Temp, Dying, Unused}
 use Rattle.bump_rules.specs.Places.{is_segment_place}
 use Rattle.bump_steps.specs.declared.views.ClassPart.{ClassPart}
 use Rattle.cache_lists.specs.declared.flow.Flow.{Flow}
 use Rattle.cache_lists.specs.declared.evictions.Evictions.{Evictions}
 use Rattle.bump_class.specs.Books.{BookView}
-use Rattle.cache_lists.specs.Items.{ShowsMarks}
 use Rattle.cache_lists.specs.Flows.{Way, is_way, crossings}
 pub use Rattle.cache_lists.specs.Ours.{ways, is_ours, are_ours}
 
@@ -24,6 +23,7 @@ more false count = count
 abbrev pub no_flow : Flow
 no_flow = record {
   linked = 0;
+  linked_temp = 0;
   hot_to_warm = 0;
   hot_to_cold = 0;
   warm_to_warm = 0;
@@ -32,12 +32,14 @@ no_flow = record {
   ended_hot = 0;
   ended_warm = 0;
   ended_cold = 0;
+  ended_temp = 0;
 }
 
 -- an item went one of these ways, or none did
 abbrev pub noted : Option Way → Flow → Flow
 noted way flow = record {
   linked = more (is_way way Unused Hot) flow.linked;
+  linked_temp = more (is_way way Unused Temp) flow.linked_temp;
   hot_to_warm = more (is_way way Hot Warm) flow.hot_to_warm;
   hot_to_cold = more (is_way way Hot Cold) flow.hot_to_cold;
   warm_to_warm = more (is_way way Warm Warm) flow.warm_to_warm;
@@ -46,6 +48,7 @@ noted way flow = record {
   ended_hot = more (is_way way Hot Dying) flow.ended_hot;
   ended_warm = more (is_way way Warm Dying) flow.ended_warm;
   ended_cold = more (is_way way Cold Dying) flow.ended_cold;
+  ended_temp = more (is_way way Temp Dying) flow.ended_temp;
 }
 
 -- a Book, how its items went from list to list, and what was evicted
@@ -58,6 +61,7 @@ pub record CountedView : Type 0 where
 -- item that is linked came or went another way.
 pub record IsFlow (flow : Flow) (class : ClassPart) : Type 0 where
   pub linked : flow.linked ≡ capped (crossings Unused Hot class)
+  pub linked_temp : flow.linked_temp ≡ capped (crossings Unused Temp class)
   pub hot_to_warm : flow.hot_to_warm ≡ capped (crossings Hot Warm class)
   pub hot_to_cold : flow.hot_to_cold ≡ capped (crossings Hot Cold class)
   pub warm_to_warm : flow.warm_to_warm ≡ capped (crossings Warm Warm class)
@@ -66,34 +70,48 @@ pub record IsFlow (flow : Flow) (class : ClassPart) : Type 0 where
   pub ended_hot : flow.ended_hot ≡ capped (crossings Hot Dying class)
   pub ended_warm : flow.ended_warm ≡ capped (crossings Warm Dying class)
   pub ended_cold : flow.ended_cold ≡ capped (crossings Cold Dying class)
+  pub ended_temp : flow.ended_temp ≡ capped (crossings Temp Dying class)
   pub no_other : (from to : Place) → (is_segment_place from || is_segment_place to) ≡ true → is_ours from to ≡ false
       → crossings from to class ≡ 0
 
--- Items in and out of HOT, WARM and COLD, by how often the class's history has each way: what came in is there still,
+-- Items in and out of HOT, WARM, COLD and TEMP, by how often the class's history has each way: what came in is there still,
 -- or went out.
-pub record SegmentsAddUp (hot warm cold : ℕ) (class : ClassPart) : Type 0 where
+pub record SegmentsAddUp (hot warm cold temp : ℕ) (class : ClassPart) : Type 0 where
   pub hot_adds_up : hot + crossings Hot Warm class + crossings Hot Cold class + crossings Hot Dying class
       ≡ crossings Unused Hot class
   pub warm_adds_up : warm + crossings Warm Cold class + crossings Warm Dying class
       ≡ crossings Hot Warm class + crossings Cold Warm class
   pub cold_adds_up : cold + crossings Cold Warm class + crossings Cold Dying class
       ≡ crossings Hot Cold class + crossings Warm Cold class
+  pub temp_adds_up : temp + crossings Temp Dying class ≡ crossings Unused Temp class
 
--- nothing was evicted
+-- nothing was evicted, and nothing was ended that had expired
 abbrev pub no_evictions : Evictions
-no_evictions = record { evicted = 0; unfetched = 0; active = 0 }
+no_evictions = record {
+  evicted = 0;
+  unfetched = 0;
+  active = 0;
+  reclaimed = 0;
+  expired_unfetched = 0;
+  crawler_reclaimed = 0;
+}
 
--- an item was evicted, which was fetched or not, and ACTIVE or not
-abbrev pub with_eviction : Bool → Bool → Evictions → Evictions
-with_eviction fetched active evictions = record {
+-- an item ended to make room that had expired or not, was fetched or not, and ACTIVE or not: one that had is reclaimed,
+-- and one that hadn't is evicted
+abbrev pub with_eviction : Bool → Bool → Bool → Evictions → Evictions
+with_eviction true fetched active evictions = record evictions {
+  reclaimed = more true evictions.reclaimed;
+  expired_unfetched = more (not fetched) evictions.expired_unfetched;
+}
+with_eviction false fetched active evictions = record evictions {
   evicted = more true evictions.evicted;
   unfetched = more (not fetched) evictions.unfetched;
   active = more active evictions.active;
 }
 
--- One eviction was counted, by the marks that the last look found, which was one at the chunk of the item that ended.
-pub record CountsEviction (chunk : ℕ) (before after : CountedView) : Type 0 where
-  pub fetched : Bool
-  pub active : Bool
-  pub shown : ShowsMarks chunk fetched active after.book
-  pub counted : after.evictions ≡ with_eviction fetched active before.evictions
+-- an item that was looked for was found expired, and ended, which was fetched or not
+abbrev pub with_crawled : Bool → Evictions → Evictions
+with_crawled fetched evictions = record evictions {
+  expired_unfetched = more (not fetched) evictions.expired_unfetched;
+  crawler_reclaimed = more true evictions.crawler_reclaimed;
+}

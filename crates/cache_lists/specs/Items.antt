@@ -24,9 +24,11 @@ abbrev pub or_else : Option ℕ → Option ℕ → Option ℕ
 or_else None other = other
 or_else (Some chunk) other = Some chunk
 
--- the chunk whose item is evicted next: the last of COLD; where COLD is empty, of WARM; and where that is too, of HOT
+-- the chunk whose item's turn it is to make room: the last of COLD; where COLD is empty, of WARM; where that is too, of
+-- HOT; and where all these are, of TEMP
 abbrev pub victim : Lists → Option ℕ
-victim lists = or_else (last_of lists.cold) (or_else (last_of lists.warm) (last_of lists.hot))
+victim lists = or_else (last_of lists.cold) (or_else (last_of lists.warm)
+    (or_else (last_of lists.hot) (last_of lists.temp)))
 
 -- what a pull may tell
 abbrev pub may_tell : Tail → Pulled → Bool

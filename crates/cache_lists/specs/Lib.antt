@@ -1,11 +1,13 @@
 pub mod Linked
 pub mod Items
 pub mod Segments
+pub mod Looks
 pub mod Flows
 pub mod Ours
 pub mod Counts
 pub mod Ages
 pub mod Ends
+pub mod Expiring
 pub mod Draining
 pub mod Rescues
 pub mod Freeing

@@ -5,9 +5,9 @@ use Rattle.bump_rules.specs.declared.places.Place.{Place}
 use Rattle.bump_rules.specs.declared.places.Place.TheVariants.{Hot, Warm, Cold, Temp, Dying, Unused}
 use Rattle.cache_lists.specs.Flows.{Way, is_way}
 
--- the ways of its items. Nothing goes to TEMP, so nothing ends there either.
+-- the ways of its items. From TEMP an item goes nowhere else: it ends there.
 abbrev pub ways : List Way
-ways = (Unused, Hot) ∷ (Hot, Warm) ∷ (Hot, Cold) ∷ (Warm, Warm) ∷ (Warm, Cold) ∷ (Cold, Warm) ∷ (Hot, Dying)
+ways = (Unused, Hot) ∷ (Unused, Temp) ∷ (Hot, Warm) ∷ (Hot, Cold) ∷ (Warm, Warm) ∷ (Warm, Cold) ∷ (Cold, Warm) ∷ (Hot, Dying)
     ∷ (Warm, Dying) ∷ (Cold, Dying) ∷ (Temp, Dying) ∷ []
 
 abbrev pub is_ours : Place → Place → Bool

@@ -10,18 +10,19 @@ ghost use Rattle.bump_steps.specs.Applications.{life_in};
 ghost use Rattle.bump_class.specs.Pulls.{Pulls};
 ghost use Rattle.bump_class.specs.Sweeps.{Sweeps};
 ghost use Rattle.bump_rules.specs.declared.items.Head.{Head as TheHead};
-ghost use Rattle.bump_rules.specs.declared.places.Start.TheVariants as start;
+ghost use Rattle.bump_rules.specs.declared.places.Place.TheVariants.{Dying, Unused};
+ghost use Rattle.bump_rules.specs.Places.{first_segment, place_of};
 ghost use Rattle.bump_links.specs.Lists.{first_of};
 ghost use Rattle.bump_rules.specs.Commands.{item_told};
 ghost use Rattle.bump_rules.specs.Lists.{list_at, all_without};
 ghost use Rattle.bump_rules.specs.declared.places.Tail.TheVariants as tail;
 ghost use Rattle.bump_steps.specs.Views.{owns, last_label, last_word, of_word};
-ghost use Rattle.cache_lists.specs.Counts.{CountedView as TheCountedView, IsFlow, SegmentsAddUp, CountsEviction};
+ghost use Rattle.cache_lists.specs.Counts.{CountedView as TheCountedView, IsFlow, SegmentsAddUp};
 ghost use Rattle.cache_lists.specs.Counts.{no_flow, no_evictions, noted};
-ghost use Rattle.cache_lists.specs.Ends.{EndsNext, EndsLinked};
+ghost use Rattle.cache_lists.specs.Ends.{EndsLinked, EndsNext};
 ghost use Rattle.cache_lists.specs.Draining.{AppliesNext};
 ghost use Rattle.cache_lists.specs.Flows.{way_of_pull};
-ghost use Rattle.cache_lists.specs.Items.{victim, may_tell, KeepsItems, EndsAt, BeginsAt, HasRow};
+ghost use Rattle.cache_lists.specs.Items.{may_tell, KeepsItems, BeginsAt, HasRow};
 ghost use Rattle.cache_lists.specs.Segments.{SameSegments};
 
 use crate::evictions::Evictions;
@@ -30,8 +31,9 @@ use crate::items;
 use crate::victims::Victim;
 use bump_class::{Book, RawLane};
 use bump_heads::Name;
-use bump_rules::{Applied, ItemId, Place, Pulled, Segment, Tail};
+use bump_rules::{Applied, ItemId, Place, Pulled, Segment, Start, Tail};
 use bump_steps::{AnyRow, RowLaw};
+use entry_times::has_expired;
 use std::marker::Model;
 
 /// A Book, how its items went from list to list, and how many were evicted.
@@ -39,7 +41,7 @@ use std::marker::Model;
 pub struct CountedBook<N: Name, L: RowLaw = AnyRow> {
     pub(crate) book: Book<N, L>,
     pub(crate) flow: Flow,
-    evictions: Evictions,
+    pub(crate) evictions: Evictions,
 }
 
 impl<N: Name, L: RowLaw> Model for CountedBook<N, L> {
@@ -64,12 +66,12 @@ impl<N: Name, L: RowLaw> CountedBook<N, L> {
     }
 
     /// What it keeps: each count of its flow is how often the class's history has that way, as far as the count goes;
-    /// and what came into HOT, WARM or COLD is there still or went out.
+    /// and what came into HOT, WARM, COLD or TEMP is there still or went out.
     pub fn promise(&self)
         ensures book { IsBook self.now.book }
         ensures flow { IsFlow self.now.flow self.now.book.part }
         ensures sums { SegmentsAddUp (length self.now.book.lists.hot) (length self.now.book.lists.warm)
-            (length self.now.book.lists.cold) self.now.book.part }
+            (length self.now.book.lists.cold) (length self.now.book.lists.temp) self.now.book.part }
     {
         self.book.promise();
     }
@@ -129,21 +131,24 @@ impl<N: Name, L: RowLaw> CountedBook<N, L> {
         self.evictions
     }
 
-    /// Links an item at the front of HOT, at a chunk that is free, as `Book::link_words` does: with a label and further
-    /// words, the first ones, which each reader who holds the item reads. The words are at most `further`; the table's
-    /// law holds of whatever row begins with the label and these words; `now` is the item's time, in the caller's ticks.
-    /// It answers None exactly where no chunk is free, and changes nothing then. Its chunk has this row then, and each
-    /// other chunk the words that it had.
-    pub fn begin(&mut self, label: u64, words: &[u64], now: u64) -> Option<ItemId>
+    /// Links an item at the front of HOT or of TEMP, at a chunk that is free, as `Book::link_words` and
+    /// `Book::link_temp_words` do: with a label and further words, the first ones, which each reader who holds the item
+    /// reads. The label says when it expires, in the caller's ticks; 0 is never. The words are at most `further`; the
+    /// table's law holds of whatever row begins with the label and these words; `now` is the item's time, in the same
+    /// ticks. It answers None exactly where no chunk is free, and changes nothing then. Its chunk has this row then, and
+    /// each other chunk the words that it had.
+    pub fn begin(&mut self, start: Start, label: u64, words: &[u64], now: u64) -> Option<ItemId>
         requires few { length words.now ≤ N.table.slots }
         requires law { MayHave L.law label words.now }
         ensures free { IfNone result (first_of self.old.book.lists.unused ≡ None) }
         ensures none { IfNone result (self.new ≡ self.old) }
         ensures linked { IfSome result (λ id. self.new.book
-            ≡ book_with_words start.Hot id label words.now now self.old.book) }
+            ≡ book_with_words start id label words.now now self.old.book) }
         ensures label { IfSome result (λ id. label_of_life id 0 self.new.book.part.labels ≡ Some label) }
         ensures words { IfSome result (λ id. (j : ℕ) → j < length words.now
             → label_of_life id 0 (of_word j self.new.book.part.words) ≡ Some (slice_index words.now j)) }
+        ensures flow { IfSome result (λ id. self.new.flow
+            ≡ noted (Some (Unused, place_of (first_segment start))) self.old.flow) }
         ensures begins { IfSome result (λ id. BeginsAt id self.old.book self.new.book) }
         ensures first { IfSome result (λ id. first_of self.old.book.lists.unused ≡ Some id.chunk) }
         ensures row { IfSome result (λ id. HasRow id.chunk label words.now self.new.book) }
@@ -151,9 +156,9 @@ impl<N: Name, L: RowLaw> CountedBook<N, L> {
             self.old.book.lists) }
         ensures evictions { self.new.evictions ≡ self.old.evictions }
     {
-        match items::begin(&mut self.book, label, words, now) {
+        match items::begin(&mut self.book, start, label, words, now) {
             Some(id) => {
-                self.flow.note_link();
+                self.flow.note_link(start);
                 Some(id)
             }
             None => None,
@@ -161,10 +166,12 @@ impl<N: Name, L: RowLaw> CountedBook<N, L> {
     }
 
     /// Ends the item that is linked at a chunk of the class, and tells the list in which it was; or None exactly where
-    /// none is linked there, and the linked items stay then.
+    /// none is linked there, and then nothing changes but the steps that the class's seat notes.
     pub fn end(&mut self, chunk: u32) -> Option<Segment>
         requires own { owns chunk self.old.book.part ≡ true }
         ensures ends { EndsLinked chunk result self.old.book self.new.book }
+        ensures flow { IfSome result (λ from. self.new.flow ≡ noted (Some (place_of from, Dying)) self.old.flow) }
+        ensures stays { IfNone result (self.new.flow ≡ self.old.flow) }
         ensures evictions { self.new.evictions ≡ self.old.evictions }
     {
         match items::end(&mut self.book, chunk) {
@@ -176,41 +183,27 @@ impl<N: Name, L: RowLaw> CountedBook<N, L> {
         }
     }
 
-    /// Evicts the item whose turn it is, whatever its marks: the last of COLD; where COLD is empty, of WARM; and where
-    /// that is too, of HOT. It tells the item's chunk, or None exactly where there is none, and changes nothing then. It
-    /// counts one eviction, by the marks that a look just behind the item's end found.
-    pub fn end_next(&mut self) -> Option<u32>
-        ensures next { victim self.old.book.lists ≡ result }
-        ensures ends { IfSome result (λ chunk. EndsAt chunk self.old.book self.new.book) }
-        ensures counted { IfSome result (λ chunk. CountsEviction chunk self.old self.new) }
-        ensures others { IfSome result (λ chunk. SameSegments (all_without chunk self.old.book.lists)
-            self.new.book.lists) }
-        ensures none { IfNone result (self.new ≡ self.old) }
-    {
-        match self.end_victim() {
-            Some(ended) => Some(ended.chunk),
-            None => None,
-        }
-    }
-
-    // The same, which tells of the item what is told of a victim.
-    pub(crate) fn end_victim(&mut self) -> Option<Victim>
-        ensures ends { EndsNext result self.old self.new }
+    // Ends the item whose turn it is, whatever its marks: the last of COLD; where COLD is empty, of WARM; where that is
+    // too, of HOT; and where all these are, of TEMP. It answers None exactly where there is none, and changes nothing
+    // then. It counts it, by whether it has expired at `now` and by the marks that a look just behind its end found.
+    pub(crate) fn end_victim(&mut self, now: u64) -> Option<Victim>
+        ensures ends { EndsNext now result self.old self.new }
     {
         match items::end_next(&mut self.book) {
             Some(ended) => {
                 self.flow.note_move(ended.last_of, ended.moved);
                 self.flow.note_end(ended.from);
-                self.evictions.note(ended.fetched, ended.active);
+                let expired = has_expired(ended.expires, now);
+                self.evictions.note(expired, ended.fetched, ended.active);
                 Some(ended)
             }
             None => None,
         }
     }
 
-    /// Looks at the last item of HOT, WARM or COLD, and moves it by the tail table, as `Book::pull` does. Where the list is
-    /// empty nothing is changed.
-    pub fn look_at(&mut self, from: Tail) -> Pulled
+    // Looks at the last item of HOT, WARM or COLD, and moves it by the tail table, as `Book::pull` does. Where the list is
+    // empty nothing is changed.
+    pub(crate) fn look_at(&mut self, from: Tail) -> Pulled
         requires { from ≢ tail.Evict }
         ensures kept { KeepsItems self.old.book self.new.book }
         ensures pulls { Pulls self.old.book from result self.new.book }

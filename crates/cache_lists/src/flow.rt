@@ -1,17 +1,20 @@
 //! How items of a Shelf went from list to list.
 ghost use Rattle.std.specs.Prelude.{◌≡◌, None, Some};
-ghost use Rattle.bump_rules.specs.Places.{place_of};
-ghost use Rattle.bump_rules.specs.declared.places.Place.TheVariants.{Hot, Cold, Warm, Dying, Unused};
+ghost use Rattle.bump_rules.specs.Places.{first_segment, place_of};
+ghost use Rattle.bump_rules.specs.declared.places.Place.TheVariants.{Cold, Dying, Hot, Temp, Unused, Warm};
 ghost use Rattle.cache_lists.specs.Flows.{way_to, way_of_applied};
 ghost use Rattle.cache_lists.specs.Counts.{noted, no_flow};
 
-use bump_rules::{Applied, Segment};
+use bump_rules::{Applied, Segment, Start};
 
 /// How often items went from list to list since the Shelf was made. Each count stops at 2^64 - 1.
 #[derive(Clone, Copy, Debug, PartialEq, Eq)]
 pub struct Flow {
-    /// Items that were linked, in HOT: those that were put, and those for which memory was refused then.
+    /// Items that were linked in HOT.
     pub linked: u64,
+
+    /// Items that were linked in TEMP.
+    pub linked_temp: u64,
 
     /// From HOT to WARM, rescued by ACTIVE.
     pub hot_to_warm: u64,
@@ -36,6 +39,9 @@ pub struct Flow {
 
     /// Items that ended in COLD.
     pub ended_cold: u64,
+
+    /// Items that ended in TEMP.
+    pub ended_temp: u64,
 }
 
 impl Flow {
@@ -45,6 +51,7 @@ impl Flow {
     {
         Flow {
             linked: 0,
+            linked_temp: 0,
             hot_to_warm: 0,
             hot_to_cold: 0,
             warm_to_warm: 0,
@@ -53,14 +60,18 @@ impl Flow {
             ended_hot: 0,
             ended_warm: 0,
             ended_cold: 0,
+            ended_temp: 0,
         }
     }
 
-    // An item was put.
-    pub(crate) fn note_link(&mut self)
-        ensures { self.new ≡ noted (Some (Unused, Hot)) self.old }
+    // An item was linked, where this says.
+    pub(crate) fn note_link(&mut self, start: Start)
+        ensures { self.new ≡ noted (Some (Unused, place_of (first_segment start))) self.old }
     {
-        self.linked = self.linked.saturating_add(1);
+        match start {
+            Start::Hot => self.linked = self.linked.saturating_add(1),
+            Start::Temp => self.linked_temp = self.linked_temp.saturating_add(1),
+        }
     }
 
     // An item of HOT, WARM or COLD went from there to the front of another list, or of the same, if anywhere.
@@ -95,7 +106,7 @@ impl Flow {
             Segment::Hot => self.ended_hot = self.ended_hot.saturating_add(1),
             Segment::Warm => self.ended_warm = self.ended_warm.saturating_add(1),
             Segment::Cold => self.ended_cold = self.ended_cold.saturating_add(1),
-            Segment::Temp => {}
+            Segment::Temp => self.ended_temp = self.ended_temp.saturating_add(1),
         }
     }
 

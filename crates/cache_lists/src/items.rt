@@ -1,28 +1,28 @@
 //! What is done with a Book's items.
-ghost use Rattle.std.specs.Prelude.{◌≡◌, ◌≢◌, ℕ, ◌+◌, ◌<◌, ◌≤◌, true, length, slice_index, IfSome, IfNone, option_map, None, Some, is_some};
+ghost use Rattle.std.specs.Prelude.{◌≡◌, ◌≢◌, ℕ, ◌+◌, ◌<◌, ◌≤◌, true, length, slice_index, IfSome, IfNone, IfOk, OnErr, option_map, None, Some, is_some};
 ghost use Rattle.bump_links.specs.Lists.{last_of, first_of};
 ghost use Rattle.bump_rules.specs.Commands.{item_told};
 ghost use Rattle.bump_rules.specs.Lists.{all_without};
-ghost use Rattle.bump_rules.specs.Places.{place_of};
-ghost use Rattle.bump_rules.specs.declared.places.Place.TheVariants.{Hot, Dying, Unused};
+ghost use Rattle.bump_rules.specs.Places.{first_segment, place_of};
+ghost use Rattle.bump_rules.specs.declared.places.Place.TheVariants.{Dying, Unused};
 ghost use Rattle.bump_rules.specs.declared.places.Tail.TheVariants as tail;
 ghost use Rattle.bump_rules.specs.Labels.{label_of_life};
-ghost use Rattle.bump_steps.specs.Views.{owns, of_word};
+ghost use Rattle.bump_steps.specs.Views.{last_label, owns, of_word};
 ghost use Rattle.cache_lists.specs.Linked.{linked_at};
-ghost use Rattle.cache_lists.specs.Items.{may_tell, chunk_told, victim, KeepsItems, BeginsAt, HasRow};
+ghost use Rattle.cache_lists.specs.Items.{may_tell, chunk_told, victim, KeepsItems, BeginsAt, HasRow, ShowsMarks};
+ghost use Rattle.cache_lists.specs.Looks.{LooksOnly};
 ghost use Rattle.cache_lists.specs.Freeing.{FreesUpTo};
 ghost use Rattle.cache_lists.specs.Ends.{EndsOne, EndsLinked};
 ghost use Rattle.cache_lists.specs.Items.{HasNoBumpFor};
 ghost use Rattle.bump_class.specs.Applications.{AppliesFront};
 ghost use Rattle.bump_class.specs.Books.{BookView as TheBookView};
 ghost use Rattle.bump_class.specs.Changes.{book_with_words};
-ghost use Rattle.bump_class.specs.Links.{MayHave};
+ghost use Rattle.bump_class.specs.Links.{MayHave, linked_item};
 ghost use Rattle.bump_class.specs.Lanes.{entries, LaneView as TheLaneView};
 ghost use Rattle.bump_class.specs.Pulls.{Pulls, PullsBy, limits_of_call};
 ghost use Rattle.cache_lists.specs.Ages.{LooksPast};
 ghost use Rattle.bump_class.specs.Sweeps.{Sweeps};
 ghost use Rattle.bump_rules.specs.declared.items.Head.{Head as TheHead};
-ghost use Rattle.bump_rules.specs.declared.places.Start.TheVariants as start;
 ghost use Rattle.cache_lists.specs.Segments.{SameSegments};
 ghost use Rattle.cache_lists.specs.Flows.{Flows, way_of_pull, way_of_applied};
 ghost use Rattle.bump_rules.specs.declared.items.ItemId.{ItemId as TheItemId};
@@ -30,9 +30,9 @@ ghost use Rattle.bump_rules.specs.Tables.{last_pulled, pulled_to};
 
 use crate::ages::Bound;
 use crate::victims::Victim;
-use bump_class::{Book, RawLane};
+use bump_class::{Book, LinkRefusal, RawLane};
 use bump_heads::Name;
-use bump_rules::{Applied, ItemId, Pulled, Segment, Tail};
+use bump_rules::{Applied, ItemId, Place, Pulled, Segment, Start, Tail};
 use bump_steps::RowLaw;
 
 // The last item of HOT, WARM or COLD is looked at, and moved by the tail table.
@@ -86,6 +86,20 @@ pub(crate) fn look_past<N: Name, L: RowLaw>(
     pull_past(book, from, bound.most_at(idle))
 }
 
+// The label of a chunk whose item ended, and then the marks: when it expires, whether it was hit, and whether it was
+// ACTIVE.
+fn see_ended<N: Name, L: RowLaw>(book: &mut Book<N, L>, chunk: u32) -> (u64, bool, bool)
+    requires own { owns chunk book.old.part ≡ true }
+    requires ended { linked_at book.old.part chunk ≡ None }
+    ensures expires { result.0 ≡ last_label book.old.part chunk }
+    ensures marks { ShowsMarks chunk result.1 result.2 book.new }
+    ensures looks { LooksOnly book.old book.new }
+{
+    let expires = book.label(chunk);
+    let head = book.load_head(chunk);
+    (expires, head.fetched, head.active)
+}
+
 // The last item of HOT or WARM ends. It answers None where there is no such item, and changes nothing then.
 fn look_and_end<N: Name, L: RowLaw>(book: &mut Book<N, L>, from: Tail) -> Option<Victim>
     requires { from ≢ tail.Evict }
@@ -99,18 +113,20 @@ fn look_and_end<N: Name, L: RowLaw>(book: &mut Book<N, L>, from: Tail) -> Option
     let Some(segment) = end(book, id.chunk) else {
         unreachable!()
     };
-    let head = book.load_head(id.chunk);
+    let (expires, fetched, active) = see_ended(book, id.chunk);
     Some(Victim {
         chunk: id.chunk,
         last_of: from.segment(),
         moved: pulled.to(),
         from: segment,
-        fetched: head.fetched,
-        active: head.active,
+        expires,
+        fetched,
+        active,
     })
 }
 
-// The item whose turn it is ends: the last of COLD; where COLD is empty, of WARM; and where that is too, of HOT.
+// The item whose turn it is ends: the last of COLD; where COLD is empty, of WARM; where that is too, of HOT; and where
+// all these are, of TEMP.
 pub(crate) fn end_next<N: Name, L: RowLaw>(book: &mut Book<N, L>) -> Option<Victim>
     ensures next { victim book.old.lists ≡ chunk_told result }
     ensures ends { EndsOne result book.old book.new }
@@ -121,7 +137,10 @@ pub(crate) fn end_next<N: Name, L: RowLaw>(book: &mut Book<N, L>) -> Option<Vict
     if let Some(ended) = look_and_end(book, Tail::Warm) {
         return Some(ended);
     }
-    look_and_end(book, Tail::Hot)
+    if let Some(ended) = look_and_end(book, Tail::Hot) {
+        return Some(ended);
+    }
+    end_temp(book)
 }
 
 // The last item of COLD ends. It answers None where there is no such item, and changes nothing then.
@@ -133,14 +152,39 @@ fn end_cold<N: Name, L: RowLaw>(book: &mut Book<N, L>) -> Option<Victim>
     let Some(id) = book.pull(Tail::Evict).item() else {
         return None;
     };
-    let head = book.load_head(id.chunk);
+    let (expires, fetched, active) = see_ended(book, id.chunk);
     Some(Victim {
         chunk: id.chunk,
         last_of: Segment::Cold,
         moved: None,
         from: Segment::Cold,
-        fetched: head.fetched,
-        active: head.active,
+        expires,
+        fetched,
+        active,
+    })
+}
+
+// The last item of TEMP ends, where it stands: no look at it comes before. It answers None where there is no such item,
+// and changes nothing then.
+fn end_temp<N: Name, L: RowLaw>(book: &mut Book<N, L>) -> Option<Victim>
+    ensures last { last_of book.old.lists.temp ≡ chunk_told result }
+    ensures ends { EndsOne result book.old book.new }
+{
+    let Some(chunk) = book.last(Place::Temp) else {
+        return None;
+    };
+    let Some(segment) = end(book, chunk) else {
+        unreachable!()
+    };
+    let (expires, fetched, active) = see_ended(book, chunk);
+    Some(Victim {
+        chunk,
+        last_of: Segment::Temp,
+        moved: None,
+        from: segment,
+        expires,
+        fetched,
+        active,
     })
 }
 
@@ -184,10 +228,34 @@ pub(crate) fn free_some<N: Name, L: RowLaw>(book: &mut Book<N, L>, freed: &mut [
     book.sweep_into(freed)
 }
 
-// An item is linked, at a chunk that is free, with a label and further words. It answers None exactly where no chunk is
-// free, and changes nothing then.
+// A life begins, where this says.
+fn link<N: Name, L: RowLaw>(
+    book: &mut Book<N, L>,
+    start: Start,
+    label: u64,
+    words: &[u64],
+    now: u64,
+) -> Result<ItemId, LinkRefusal>
+    requires few { length words.now ≤ N.table.slots }
+    requires law { MayHave L.law label words.now }
+    ensures item { result ≡ linked_item book.old }
+    ensures linked { IfOk result (λ id. book.new ≡ book_with_words start id label words.now now book.old) }
+    ensures label { IfOk result (λ id. label_of_life id 0 book.new.part.labels ≡ Some label) }
+    ensures words { IfOk result (λ id. (j : ℕ) → j < length words.now
+        → label_of_life id 0 (of_word j book.new.part.words) ≡ Some (slice_index words.now j)) }
+    ensures unchanged { OnErr result (book.new ≡ book.old) }
+{
+    match start {
+        Start::Hot => book.link_words(label, words, now),
+        Start::Temp => book.link_temp_words(label, words, now),
+    }
+}
+
+// An item is linked at the front of HOT or TEMP, at a chunk that is free, with a label and further words. It answers
+// None exactly where no chunk is free, and changes nothing then.
 pub(crate) fn begin<N: Name, L: RowLaw>(
     book: &mut Book<N, L>,
+    start: Start,
     label: u64,
     words: &[u64],
     now: u64,
@@ -196,18 +264,18 @@ pub(crate) fn begin<N: Name, L: RowLaw>(
     requires law { MayHave L.law label words.now }
     ensures free { IfNone result (first_of book.old.lists.unused ≡ None) }
     ensures none { IfNone result (book.new ≡ book.old) }
-    ensures linked { IfSome result (λ id. book.new ≡ book_with_words start.Hot id label words.now now book.old) }
+    ensures linked { IfSome result (λ id. book.new ≡ book_with_words start id label words.now now book.old) }
     ensures label { IfSome result (λ id. label_of_life id 0 book.new.part.labels ≡ Some label) }
     ensures words { IfSome result (λ id. (j : ℕ) → j < length words.now
         → label_of_life id 0 (of_word j book.new.part.words) ≡ Some (slice_index words.now j)) }
     ensures begins { IfSome result (λ id. BeginsAt id book.old book.new) }
     ensures first { IfSome result (λ id. first_of book.old.lists.unused ≡ Some id.chunk) }
     ensures row { IfSome result (λ id. HasRow id.chunk label words.now book.new) }
-    ensures flows { IfSome result (λ id. Flows (Some (Unused, Hot)) book.old book.new) }
+    ensures flows { IfSome result (λ id. Flows (Some (Unused, place_of (first_segment start))) book.old book.new) }
     ensures apart { IfSome result (λ id. SameSegments (all_without id.chunk book.old.lists) book.old.lists) }
 {
     book.promise();
-    match book.link_words(label, words, now) {
+    match link(book, start, label, words, now) {
         Ok(id) => Some(id),
         Err(_) => None,
     }

@@ -1,10 +1,12 @@
 //! The lists of a cache's items: a Book that counts how its items go from list to list and how many are evicted.
+//! The label of an item is when it expires.
 #![tactic(auto)]
 
 mod ages;
 mod counted;
 mod draining;
 mod evictions;
+mod expiring;
 mod flow;
 mod freeing;
 mod items;
@@ -14,7 +16,7 @@ mod victims;
 pub use ages::{Bound, Bounds};
 pub use bump_class::{Book, RawLane};
 pub use bump_heads::Name;
-pub use bump_rules::{Applied, ItemId, Place, Pulled, Segment, Tail};
+pub use bump_rules::{Applied, ItemId, Place, Pulled, Segment, Start, Tail};
 pub use bump_steps::{AnyRow, RowLaw};
 pub use counted::CountedBook;
 pub use evictions::Evictions;

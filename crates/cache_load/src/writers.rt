@@ -83,7 +83,7 @@ impl Wrote {
         changer: &mut Changer<N>,
         key: u64,
     ) {
-        let removed = cache.remove(rt, &mut changer.me, &key);
+        let removed = cache.remove(rt, &mut changer.me, &key, self.puts);
         count(&mut self.removed, removed.is_some());
     }
 }

@@ -7,3 +7,4 @@ pub mod ChangeLemmas
 pub mod SearchLemmas
 pub mod WriterLemmas
 pub mod AnswerLemmas
+pub mod WalkLemmas

@@ -1,13 +1,10 @@
 -- What the writer's calls need of the index, over plain values.
-use Rattle.std.proofs.Common.{◌≡◌, ℕ, zero, suc, ◌+◌, ◌-◌, ◌*◌, ◌/◌, ◌^◌, ◌<◌, ◌≤◌}
+use Rattle.std.proofs.Common.{◌≡◌, ℕ, zero, suc, ◌+◌, ◌-◌, ◌*◌, ◌^◌, ◌<◌, ◌≤◌}
 use Rattle.std.proofs.Common.{Option, Some, None, IsSome, is_some, not, eqb, List, [], ◌∷◌, length, map}
 use Rattle.std.proofs.Common.{replicate, set, get_or, refl, sym, ap, ◌∙◌, subst, arith, ⊎_elim, length-set}
 use Rattle.std.proofs.Common.{get_or-set_same, get_or-set_other}
-use Rattle.std.specs.Int.{trailing_zeros}
-use Rattle.std.proofs.Common.{w64}
 use Rattle.std.proofs.lemmas.Bool.{cases_lt, cases_eq, eq-eqb, ne_eqb, false≢true}
 use Rattle.std.proofs.lemmas.List.{length-map, map-set}
-use Rattle.std.proofs.lemmas.Nat.Bits.{bit_at-trailing_zeros, bit_at_above}
 use Rattle.cache_nests.specs.declared.led.Way.{Way}
 use Rattle.cache_nests.specs.Tags.{tag_of, tag_in}
 use Rattle.cache_nests.specs.Places.{IsPlace, tag_at, passed_at, nest_of, lane_of, home_of, nest_behind, steps_to}
@@ -16,7 +13,7 @@ use Rattle.cache_nests.specs.Leads.{life_number, generation_in, no_way, way_to, 
 use Rattle.cache_nests.specs.Views.{Led, IndexView, index_view, led_by, led_at, with_generation}
 use Rattle.cache_nests.proofs.StepsLemmas.{nest_behind-lt, steps_to-lt, steps_to-nest_behind}
 use Rattle.cache_nests.proofs.StepsLemmas.{nest_behind-steps_to, one_more_passed, one_less_passed, not_yet}
-use Rattle.cache_nests.proofs.LedLemmas.{IsLaid, IsLifted, laid_apart, lifted_is_led, life_generation, one_chunk}
+use Rattle.cache_nests.proofs.LedLemmas.{IsLaid, IsLifted, laid_apart, life_generation, one_chunk}
 use Rattle.cache_nests.proofs.LedLemmas.{chunk_of_way, place_some, way_here, way_elsewhere}
 use Rattle.cache_nests.proofs.ChangeLemmas.{put_lays, clear_lifts, some_pass}
 use Rattle.cache_nests.proofs.SearchLemmas.{led_at-way, led_so, led_by-some, led_by-none}
@@ -301,13 +298,3 @@ leads_where v nests words ways chunk seen =
     (λ none. let zero : way.place ≡ 0 = omega (arith, none) in
     ap not (eq-eqb way.place 0 zero) ∙ sym (ap is_some (led ∙ led_by-none words way zero)))
     (cases_lt 0 way.place)
-
--- the lowest bit of the lanes that were found is that of a lane
-pub lane_of_bits : (found : ℕ) → 0 < found → found < 2 ^ 48 → trailing_zeros w64 found / 8 < 6
-lane_of_bits found some few =
-    let at = trailing_zeros w64 found in
-    let lowest = bit_at-trailing_zeros w64 found some (omega arith) in
-    let below : at < 48 = ⊎_elim (λ h. h)
-    (λ above. let none = bit_at_above found 48 at few above in absurd (omega (arith, none, lowest.1)))
-    (cases_lt at 48) in
-    omega (arith, below)

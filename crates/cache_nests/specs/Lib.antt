@@ -3,3 +3,4 @@ pub mod Places
 pub mod Leads
 pub mod Changes
 pub mod Views
+pub mod Walks

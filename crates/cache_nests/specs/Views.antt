@@ -1,5 +1,5 @@
 -- What contracts see of an index and of the searches in it.
-use Rattle.std.specs.Prelude.{ℕ, ◌-◌, ◌*◌, ◌≤◌, ◌==◌, Bool, false, ◌&&◌, nat_lt, if◌then◌else◌}
+use Rattle.std.specs.Prelude.{ℕ, ◌+◌, ◌-◌, ◌*◌, ◌^◌, ◌≤◌, ◌==◌, Bool, false, ◌&&◌, nat_lt, if◌then◌else◌}
 use Rattle.std.specs.Prelude.{List, slice_index, slice_index_or, Option, Some, None, map}
 use Rattle.atomic_table.specs.Seated.{TableId}
 use Rattle.cache_nests.specs.declared.led.Way.{Way}
@@ -24,10 +24,14 @@ pub record IndexView : Type 0 where
   pub nests : ℕ
   pub places : List ℕ
 
--- a reader's search: of how many nests, and a number that gets less with each answer
-pub record AheadView : Type 0 where
+-- a reader's search: of how many nests, and for which tag; the nest in which it is, and how many it hasn't come to; and
+-- which of the lanes that it found in this nest are left, each by the highest of its 8 bits
+pub record ReaderSearchView : Type 0 where
   pub nests : ℕ
-  pub ahead : ℕ
+  pub tag : ℕ
+  pub nest : ℕ
+  pub later : ℕ
+  pub lanes : ℕ
 
 -- the writer's search for a hash: it has looked at so many lanes, from the hash's home on
 pub record SearchView : Type 0 where
@@ -46,6 +50,10 @@ index_view nests words ways = record {
   nests = nests;
   places = map (λ (way : Way). way.place) ways;
 }
+
+-- what is ahead of a reader's search: a number that gets less with each answer
+abbrev pub ahead : ReaderSearchView → ℕ
+ahead search = 2 ^ 48 * search.later + search.lanes
 
 -- the search is one of so many nests: it has looked at no more lanes than there are
 abbrev pub IsWithin : IndexView → SearchView → Type 0

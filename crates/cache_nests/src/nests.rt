@@ -39,9 +39,9 @@ impl Model for Nests {
     ghost invariant = { λ n. (n.words.count ≡ 8 * n.count) × (0 < n.count) × (n.count ≤ 2 ^ 28 + 1) };
 }
 
-// The nest so many steps behind another, where the first follows the last.
+/// The nest so many steps behind another, where the first follows the last.
 #[inline(always)]
-fn behind(nests: u32, nest: u32, steps: u32) -> u32
+pub(crate) fn behind(nests: u32, nest: u32, steps: u32) -> u32
     requires few { nests ≤ 2 ^ 28 + 1 }
     requires nest { nest < nests }
     requires steps { steps < nests }

@@ -1,10 +1,14 @@
 //! Readers, which search the index without a lock while the writer changes it.
-ghost use Rattle.std.specs.Prelude.{◌≡◌, ◌<◌, ◌≤◌, ◌+◌, ◌*◌, ◌^◌, ℕ, IfOk, IfSome};
+ghost use Rattle.std.specs.Prelude.{◌≡◌, ◌<◌, ◌+◌, ◌^◌, ℕ, IfOk, IfSome, IfNone};
 ghost use Rattle.std.specs.Arc.{arc_value};
+ghost use Rattle.cache_nests.specs.Tags.{tag_of};
+ghost use Rattle.cache_nests.specs.Places.{home_of, nest_behind};
+ghost use Rattle.cache_nests.specs.Views.{ahead};
+ghost use Rattle.cache_nests.specs.Walks.{TakesLowest, WalksOn};
 
 use crate::led::life_of;
-use crate::nests::Nests;
-use crate::tags::tag_of;
+use crate::nests::{Nests, behind};
+use crate::tags::{lowest, tag_of, without_lowest};
 use bump_rules::ItemId;
 use std::alloc::{AllocError, Global};
 use std::marker::Model;
@@ -25,9 +29,12 @@ impl Model for IndexReader {
     ghost view = { λ r. (arc_value r.nests).nests };
 }
 
-/// A reader's search. No contract says what it answers, only that it ends: whoever searches looks at the key of each
-/// life. A chunk's lane stays while the index leads to it, and a new life of its key comes into the same lane by one
-/// store. So what the index leads to all the while is among the answers; that is tested, and not proved.
+/// A reader's search. A contract sees its walk: the tag, the nest in which it is, how many nests it hasn't come to, and
+/// which of the lanes that it found in this nest are left. Which lanes lie in a nest that it comes to, whether a key
+/// passed a nest, and what life is in a lane is not told: loads of readers tell nothing. So no contract says what a
+/// search answers, and whoever searches looks at the key of each life. A chunk's lane stays while the index leads to
+/// it, and a new life of its key comes into the same lane by one store. So what the index leads to all the while is
+/// among the answers; that is tested, and not proved.
 #[derive(Drop)]
 pub struct Search {
     tag: u64,
@@ -40,14 +47,15 @@ pub struct Search {
 }
 
 impl Model for Search {
-    ghost use Rattle.std.specs.Prelude.{◌<◌, ◌+◌, ◌*◌, ◌^◌};
-    ghost use Rattle.cache_nests.specs.Views.{AheadView};
+    ghost use Rattle.std.specs.Prelude.{◌<◌, ◌≤◌, ◌+◌, ◌^◌};
+    ghost use Rattle.cache_nests.specs.Views.{ReaderSearchView};
 
-    ghost Value = { AheadView };
+    ghost Value = { ReaderSearchView };
 
-    ghost view = { λ s. record { nests = s.nests; ahead = 2 ^ 48 * s.later + s.lanes } };
+    ghost view = { λ s. record { nests = s.nests; tag = s.tag; nest = s.nest; later = s.later; lanes = s.lanes } };
 
-    ghost invariant = { λ s. (s.tag < 256) × (s.lanes < 2 ^ 48) × (s.nest < s.nests) };
+    ghost invariant = { λ s. (s.tag < 256) × (s.lanes < 2 ^ 48) × (s.nest < s.nests) × (s.later < s.nests)
+        × (s.nests ≤ 2 ^ 28 + 1) };
 }
 
 impl IndexReader {
@@ -67,10 +75,14 @@ impl IndexReader {
         })
     }
 
-    /// Begins a search for what has a key of this hash: a load of one word. It waits for nobody and takes no memory.
+    /// Begins a search for what has a key of this hash, at the hash's home: a load of one word. All other nests are yet
+    /// to come. It waits for nobody and takes no memory.
     #[inline(always)]
     pub fn search(&self, hash: u32) -> Search
-        ensures { result.nests ≡ self.now }
+        ensures nests { result.nests ≡ self.now }
+        ensures tag { result.tag ≡ tag_of hash }
+        ensures home { result.nest ≡ home_of self.now hash }
+        ensures later { result.later + 1 ≡ self.now }
     {
         let nests = self.nests.count();
         let nest = self.nests.home(hash);
@@ -86,30 +98,46 @@ impl IndexReader {
 }
 
 impl Search {
+    // Comes to the next nest.
+    #[inline(always)]
+    fn walk(&mut self, nests: &Nests)
+        requires nests { self.old.nests ≡ nests.now.nests }
+        requires later { 0 < self.old.later }
+        ensures nests { self.new.nests ≡ self.old.nests }
+        ensures tag { self.new.tag ≡ self.old.tag }
+        ensures later { self.new.later + 1 ≡ self.old.later }
+        ensures nest { self.new.nest ≡ nest_behind self.old.nests self.old.nest 1 }
+        ensures narrow { self.new.lanes < 2 ^ 48 }
+    {
+        self.later -= 1;
+        self.nest = behind(self.nests, self.nest, 1);
+        self.lanes = nests.lanes_now(self.nest, self.tag);
+    }
+
     /// The next life that may be of a key with the search's hash, or `None` where no more may be. The reader is of the
     /// index in which the search began. It waits for nobody and takes no memory, and each answer brings the search
-    /// nearer to its end.
+    /// nearer to its end: the lowest lane that is left in its nest is taken, and where none is, it walks on to a nest
+    /// that has one. It walks past a nest only where a key passed it, and ends where none did, or behind the last one.
     #[inline(always)]
     pub fn next(&mut self, reader: &IndexReader) -> Option<ItemId>
         requires { self.old.nests ≡ reader.now }
         ensures nests { self.new.nests ≡ self.old.nests }
-        ensures nearer { IfSome result (λ _. self.new.ahead < self.old.ahead) }
+        ensures tag { self.new.tag ≡ self.old.tag }
+        ensures walks { WalksOn self.old self.new }
+        ensures stays { 0 < self.old.lanes → self.new.later ≡ self.old.later }
+        ensures one { IfSome result (λ _. self.new.later ≡ self.old.later → TakesLowest self.old.lanes self.new.lanes) }
+        ensures none { IfNone result ((self.old.lanes ≡ 0) × (self.new.lanes ≡ 0)) }
+        ensures nearer { IfSome result (λ _. ahead self.new < ahead self.old) }
     {
         let nests: &Nests = &reader.nests;
         while self.lanes == 0 {
             if self.later == 0 || !nests.is_passed_now(self.nest) {
                 return None;
             }
-            self.later -= 1;
-            self.nest = if self.nest + 1 == self.nests {
-                0
-            } else {
-                self.nest + 1
-            };
-            self.lanes = nests.lanes_now(self.nest, self.tag);
+            self.walk(nests);
         }
-        let lane = self.lanes.trailing_zeros() / 8;
-        self.lanes &= self.lanes - 1;
+        let lane = lowest(self.lanes);
+        self.lanes = without_lowest(self.lanes);
         Some(life_of(nests.life_now(self.nest, lane)))
     }
 }

@@ -2,6 +2,7 @@
 ghost use Rattle.std.specs.Prelude.{◌≡◌, ◌≢◌, ◌<◌, ◌≤◌, ◌+◌, ◌*◌, ◌/◌, ◌%◌, ◌^◌, ℕ, if◌then◌else◌, ◌==◌};
 ghost use Rattle.std.specs.Int.{bit_at};
 ghost use Rattle.cache_nests.specs.Tags.{tag_of, tag_in, lanes};
+ghost use Rattle.cache_nests.specs.Walks.{TakesLowest};
 
 /// How many lanes a nest has.
 pub(crate) const LANES: u32 = 6;
@@ -70,4 +71,23 @@ pub(crate) fn lanes_with(tags: u64, tag: u64) -> u64
     // a lane's highest bit is set where one of its lower bits is
     let low = (apart & LOW_BITS) + LOW_BITS;
     !(low | apart) & HIGH_BITS
+}
+
+/// The lane that is the lowest of those that were found, where each is the highest of its 8 bits: 0 to 5. One is found.
+#[inline(always)]
+pub(crate) fn lowest(found: u64) -> u32
+    requires some { 0 < found }
+    requires narrow { found < 2 ^ 48 }
+    ensures { result < lanes }
+{
+    found.trailing_zeros() / 8
+}
+
+/// The lanes that were found, without the lowest of them. One is found.
+#[inline(always)]
+pub(crate) fn without_lowest(found: u64) -> u64
+    requires { 0 < found }
+    ensures { TakesLowest found result }
+{
+    found & (found - 1)
 }

@@ -16,7 +16,7 @@ none_without linked true none = refl
 none_without linked false none = none
 
 -- nothing is linked at a chunk whose item ended
-ended_here : (chunk : ℕ) (before after : BookView) → EndsAt chunk before after → linked_at after.part chunk ≡ None
+pub ended_here : (chunk : ℕ) (before after : BookView) → EndsAt chunk before after → linked_at after.part chunk ≡ None
 ended_here chunk before after ends = ends.linked chunk
     ∙ ap (λ b. if b then None else linked_at before.part chunk) (eq-eqb chunk chunk refl)
 
@@ -28,7 +28,7 @@ ended_there chunk c before after ends none = ends.linked c ∙ none_without (lin
 module _ (seed : Seed) (key_words : ℕ) (book : BookView) (index : List (Option Led))
     (is : IsPart seed key_words book.part index) where
   -- nothing is linked where the index leads to nothing
-  unled_empty : (chunk : ℕ) → is_some (led_at index chunk) ≡ false → linked_at book.part chunk ≡ None
+  pub unled_empty : (chunk : ℕ) → is_some (led_at index chunk) ≡ false → linked_at book.part chunk ≡ None
   unled_empty chunk = by (led_at index chunk) (is.agrees.leads chunk)
     where
       by : (at : Option Led) → generation_led at ≡ linked_at book.part chunk → is_some at ≡ false

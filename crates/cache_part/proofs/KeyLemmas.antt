@@ -1,11 +1,12 @@
 -- Keys and values as lists of words.
-use Rattle.std.proofs.Common.{◌≡◌, ℕ, zero, suc, ◌+◌, ◌<◌, ◌≤◌, List, [], ◌∷◌, length, get_or, take, drop, refl, sym, ap, ap₂, ◌∙◌, arith}
-use Rattle.std.proofs.lemmas.List.{get_or-take, get_or-drop, length-take-le, length-drop}
+use Rattle.std.proofs.Common.{◌≡◌, ℕ, zero, suc, ◌+◌, ◌-◌, ◌<◌, ◌≤◌, List, [], ◌∷◌, ◌++◌, length, get_or, take, drop, slice_set, refl, sym, ap, ap₂, ◌∙◌, arith}
+use Rattle.std.proofs.lemmas.List.{append-nil, drop_all, get_or-take, get_or-drop, length-take-le, length-drop}
+use borrow.Rule.Slice.PartMut.{put_mid, mid_of}
 use Rattle.bump_steps.specs.declared.views.ClassPart.{ClassPart}
 use Rattle.bump_steps.specs.Views.{last_word}
 use Rattle.bump_class.specs.Books.{BookView}
 use Rattle.cache_lists.specs.Items.{HasRow}
-use Rattle.cache_part.specs.Keys.{words_from, key_at, value_at}
+use Rattle.cache_part.specs.Keys.{words_from, row_of, key_at, value_at}
 
 -- words of a chunk that are these one by one are these
 pub words_read : (class : ClassPart) (chunk index : ℕ) (words : List ℕ)
@@ -37,6 +38,29 @@ pub words_same : (class left : ClassPart) (chunk index count : ℕ)
 words_same class left chunk index zero same = refl
 words_same class left chunk index (suc count) same =
     ap₂ (λ x xs. x ∷ xs) (same (suc index)) (words_same class left chunk (suc index) count same)
+
+-- and its row
+pub row_same : (class left : ClassPart) (chunk count : ℕ)
+    → ((i : ℕ) → last_word i left chunk ≡ last_word i class chunk)
+    → row_of count left chunk ≡ row_of count class chunk
+row_same class left chunk count same = ap₂ (λ x xs. x ∷ xs) (same 0) (words_same class left chunk 0 count same)
+
+-- a label and the words behind it are a row
+pub row_put : (label : ℕ) (row words : List ℕ) → 0 < length row
+    → put_mid 1 (length (slice_set row 0 label) - 1) (slice_set row 0 label) words ≡ label ∷ words
+row_put label [] words some = absurd (omega (arith, some))
+row_put label (x ∷ row) words some =
+    let rest : length row ≤ length (label ∷ row) - 1 = omega arith in
+    ap (λ end. label ∷ (words ++ end)) (drop_all (length (label ∷ row) - 1) row rest)
+    ∙ ap (λ all. label ∷ all) (append-nil words)
+
+-- and there is room for so many words behind a label
+pub rest_length : (label : ℕ) (row : List ℕ) → 0 < length row
+    → length (mid_of 1 (length (slice_set row 0 label) - 1) (slice_set row 0 label)) ≡ length row - 1
+rest_length label [] some = absurd (omega (arith, some))
+rest_length label (x ∷ row) some =
+    let rest : length (label ∷ row) - 1 ≤ length row = omega arith in
+    length-take-le (length (label ∷ row) - 1) row rest
 
 -- the key of a row is its first words
 pub key_of_row : (book : BookView) (chunk label key_words : ℕ) (row : List ℕ) → HasRow chunk label row book

@@ -8,3 +8,5 @@ pub mod LinkLemmas
 pub mod ClearLemmas
 pub mod TendingLemmas
 pub mod ViewLemmas
+pub mod TurnLemmas
+pub mod ExpiringLemmas

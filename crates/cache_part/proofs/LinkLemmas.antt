@@ -4,7 +4,7 @@ use Rattle.std.proofs.lemmas.List.{length-set}
 use Rattle.bump_rules.specs.declared.items.ItemId.{ItemId}
 use Rattle.bump_steps.specs.Views.{last_word}
 use Rattle.bump_class.specs.Books.{BookView}
-use Rattle.cache_lists.specs.Items.{EndsAt, BeginsAt, HasRow}
+use Rattle.cache_lists.specs.Items.{IsSameClass, EndsAt, BeginsAt, HasRow}
 use Rattle.cache_lists.specs.Linked.{linked_at}
 use Rattle.cache_lists.proofs.Standings.{begun_linked}
 use Rattle.cache_nests.specs.Views.{Led, led_at, with_generation}
@@ -15,9 +15,14 @@ use Rattle.cache_part.specs.Parts.{generation_led, Agrees, IsPart}
 use Rattle.cache_part.specs.Putting.{Links, EndsOld, OthersStay, leads_anew}
 use Rattle.cache_part.proofs.Agreements.{agrees_same, agrees_without, agrees_with}
 use Rattle.cache_part.proofs.KeyLemmas.{words_same, key_of_row, value_of_row}
-use Rattle.cache_part.proofs.PartLemmas.{owned_within, linked_within, key_begun}
+use Rattle.cache_part.proofs.PartLemmas.{class_then, owned_within, linked_within, key_begun}
 
--- the end of the old item leaves all words
+-- the end of the old item leaves the chunks
+ended_class : (old : Option ℕ) (begun after : BookView) → EndsOld old begun after → IsSameClass begun after
+ended_class None begun after ends = subst (IsSameClass begun) (sym ends) (record { first = refl; count = refl })
+ended_class (Some chunk) begun after ends = ends.0.class
+
+-- and all words
 ended_words : (old : Option ℕ) (begun after : BookView) → EndsOld old begun after
     → (i c : ℕ) → last_word i after.part c ≡ last_word i begun.part c
 ended_words None begun after ends i c = ap (λ (b : BookView). last_word i b.part c) ends
@@ -64,9 +69,9 @@ led_nothing None linked e none = refl
 led_nothing (Some led) linked e none = absurd (cc (e ∙ none))
 
 module _ (seed : Seed) (key_words : ℕ) (before after : BookView) (index : List (Option Led))
-    (is : IsPart seed key_words before.part index) (row : List ℕ) (few : key_words ≤ length row) where
+    (is : IsPart seed key_words before.part index) (row : List ℕ) (expires : ℕ) (few : key_words ≤ length row) where
   -- it stays a part where an item is linked under a key that had none, and the index leads to it
-  part_begun : (item : ItemId) (hash : ℕ) → BeginsAt item before after → HasRow item.chunk 0 row after
+  part_begun : (item : ItemId) (hash : ℕ) → BeginsAt item before after → HasRow item.chunk expires row after
       → hash ≡ hash_of seed (take key_words row) → IsItemOf key_words (take key_words row) None before.part
       → IsPart seed key_words after.part (leads_anew hash None item index)
   part_begun item hash begins has hashed unknown = record {
@@ -81,12 +86,12 @@ module _ (seed : Seed) (key_words : ℕ) (before after : BookView) (index : List
         (owned_within before.part index is.first is.count item.chunk begins.own) hashed
         (λ c some same. unknown c (record { linked = some; key = same })))
         (linked_at after.part) (key_at key_words after.part) begins.linked
-        (key_begun before after item.chunk 0 key_words row begins.words has few);
+        (key_begun before after item.chunk expires key_words row begins.words has few);
   }
 
   -- and where it is linked in place of the key's old item, which then ends
   part_replaced : (begun : BookView) (item : ItemId) (hash chunk : ℕ) → BeginsAt item before begun
-      → HasRow item.chunk 0 row begun → EndsAt chunk begun after
+      → HasRow item.chunk expires row begun → EndsAt chunk begun after
       → HasKey key_words (take key_words row) before.part chunk
       → IsPart seed key_words after.part (leads_anew hash (Some chunk) item index)
   part_replaced begun item hash chunk begins has ends had = record {
@@ -109,7 +114,7 @@ module _ (seed : Seed) (key_words : ℕ) (before after : BookView) (index : List
         ∙ both_linked (linked_at before.part c) item.generation chunk item.chunk c
         (begun_elsewhere before begun item chunk begins had.linked)))
         (λ c. words_same begun.part after.part c 0 key_words (λ i. ends.words i c)
-        ∙ key_begun before begun item.chunk 0 key_words row begins.words has few c));
+        ∙ key_begun before begun item.chunk expires key_words row begins.words has few c));
   }
     where
       left : List (Option Led)
@@ -138,17 +143,22 @@ module _ (seed : Seed) (key_words : ℕ) (before after : BookView) (index : List
               (sym (is.agrees.once c chunk linked had.linked (same ∙ sym had.key)))))
 
   -- so it does whichever way the key is put
-  pub part_linked : (old : Option ℕ) (item : ItemId) (hash now : ℕ) → Links old row now item before after
+  pub part_linked : (temporary old : Option ℕ) (item : ItemId) (hash now : ℕ)
+      → Links temporary old row expires now item before after
       → hash ≡ hash_of seed (take key_words row) → IsItemOf key_words (take key_words row) old before.part
       → IsPart seed key_words after.part (leads_anew hash old item index)
-  part_linked None item hash now links hashed unknown = part_begun item hash
+  part_linked temporary None item hash now links hashed unknown = part_begun item hash
       (subst (BeginsAt item before) (sym links.ends) links.begins)
-      (subst (HasRow item.chunk 0 row) (sym links.ends) links.has_row) hashed unknown
-  part_linked (Some chunk) item hash now links hashed had =
+      (subst (HasRow item.chunk expires row) (sym links.ends) links.has_row) hashed unknown
+  part_linked temporary (Some chunk) item hash now links hashed had =
       part_replaced links.begun item hash chunk links.begins links.has_row links.ends.0 had
 
-module _ (old : Option ℕ) (row : List ℕ) (now : ℕ) (item : ItemId) (before after : BookView)
-    (links : Links old row now item before after) where
+module _ (temporary old : Option ℕ) (row : List ℕ) (expires now : ℕ) (item : ItemId) (before after : BookView)
+    (links : Links temporary old row expires now item before after) where
+  -- the chunks stay the Book's
+  pub links_class : IsSameClass before after
+  links_class = class_then before links.begun after links.begins.class (ended_class old links.begun after links.ends)
+
   -- each other item stays
   pub links_stay : OthersStay (Some item.chunk) old None before after
   links_stay = record {
@@ -169,11 +179,11 @@ module _ (old : Option ℕ) (row : List ℕ) (now : ℕ) (item : ItemId) (before
         ∙ begun_linked before links.begun item links.begins)) refl;
     key = words_same links.begun.part after.part item.chunk 0 key_words
         (λ i. ended_words old links.begun after links.ends i item.chunk)
-        ∙ key_of_row links.begun item.chunk 0 key_words row links.has_row few;
+        ∙ key_of_row links.begun item.chunk expires key_words row links.has_row few;
   }
 
   -- and has the row
-  pub links_row : HasRow item.chunk 0 row after
+  pub links_row : HasRow item.chunk expires row after
   links_row = (
     ended_words old links.begun after links.ends 0 item.chunk ∙ links.has_row.0,
     λ j low. ended_words old links.begun after links.ends (suc j) item.chunk ∙ links.has_row.1 j low,
@@ -185,13 +195,13 @@ module _ (old : Option ℕ) (row : List ℕ) (now : ℕ) (item : ItemId) (before
   links_value key_words value_words all =
       words_same links.begun.part after.part item.chunk key_words value_words
       (λ i. ended_words old links.begun after links.ends i item.chunk)
-      ∙ value_of_row links.begun item.chunk 0 key_words value_words row links.has_row all
+      ∙ value_of_row links.begun item.chunk expires key_words value_words row links.has_row all
 
 -- the old item is linked no more
-pub links_ended : (old : Option ℕ) (row : List ℕ) (now : ℕ) (item : ItemId) (before after : BookView)
-    → Links old row now item before after → IfSome old (λ chunk. linked_at after.part chunk ≡ None)
-links_ended None row now item before after links = tt
-links_ended (Some chunk) row now item before after links = links.ends.0.linked chunk
+pub links_ended : (temporary old : Option ℕ) (row : List ℕ) (expires now : ℕ) (item : ItemId) (before after : BookView)
+    → Links temporary old row expires now item before after → IfSome old (λ chunk. linked_at after.part chunk ≡ None)
+links_ended temporary None row expires now item before after links = tt
+links_ended temporary (Some chunk) row expires now item before after links = links.ends.0.linked chunk
     ∙ ap (λ b. if b then None else linked_at links.begun.part chunk) (eq-eqb chunk chunk refl)
 
 -- what stays while room is made, and then while an item is linked

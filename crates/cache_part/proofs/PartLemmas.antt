@@ -1,11 +1,11 @@
 -- What changes of the lists and of the index leave of a part.
-use Rattle.std.proofs.Common.{◌≡◌, ℕ, zero, suc, ◌+◌, ◌<◌, ◌≤◌, Bool, true, false, ◌==◌, ◌&&◌, nat_le, nat_lt, List, [], Option, Some, None, IsSome, IfSome, IfNone, if◌then◌else◌, length, take, replicate, get_or, slice_set, refl, sym, ap, ap₂, ◌∙◌, subst, eqb-true, le-leb, lt-ltb, arith}
+use Rattle.std.proofs.Common.{◌≡◌, ℕ, zero, suc, ◌+◌, ◌-◌, ◌<◌, ◌≤◌, Bool, true, false, ◌==◌, ◌&&◌, nat_le, nat_lt, List, [], Option, Some, None, IsSome, IfSome, IfNone, if◌then◌else◌, length, take, replicate, get_or, slice_set, refl, sym, ap, ap₂, ◌∙◌, subst, eqb-true, le-leb, lt-ltb, arith}
 use Rattle.std.proofs.lemmas.Bool.{and_parts}
 use Rattle.std.proofs.lemmas.List.{length-set, length-replicate}
 use Rattle.bump_steps.specs.declared.views.ClassPart.{ClassPart}
 use Rattle.bump_steps.specs.Views.{owns, last_word}
 use Rattle.bump_class.specs.Books.{BookView}
-use Rattle.cache_lists.specs.Items.{KeepsItems, EndsAt, HasRow}
+use Rattle.cache_lists.specs.Items.{IsSameClass, KeepsItems, EndsAt, HasRow}
 use Rattle.bump_rules.specs.History.{standing_in}
 use Rattle.cache_lists.specs.Linked.{linked_standing, linked_at}
 use Rattle.cache_nests.specs.Views.{Led, led_at, IndexView}
@@ -65,6 +65,19 @@ module _ (seed : Seed) (key_words : ℕ) (book left : BookView) (index : List (O
   -- and one of the class
   pub linked_owned : (chunk : ℕ) → IsSome (linked_at book.part chunk) → owns chunk book.part ≡ true
   linked_owned chunk some = within_owned book.part index is.first is.count chunk (linked_within chunk some)
+
+-- the same chunks are a Book's still behind two changes
+pub class_then : (book between left : BookView) → IsSameClass book between → IsSameClass between left
+    → IsSameClass book left
+class_then book between left one other = record {
+  first = other.first ∙ one.first;
+  count = other.count ∙ one.count;
+}
+
+-- and the next turn of looks begins at one of them still
+pub cursor_kept : (cursor : ℕ) (book left : BookView) → IsSameClass book left → cursor ≤ book.part.count - 1
+    → cursor ≤ left.part.count - 1
+cursor_kept cursor book left class low = subst (λ n. cursor ≤ n - 1) (sym class.count) low
 
 -- the key of a chunk behind the beginning of an item
 pub key_begun : (book begun : BookView) (chunk label key_words : ℕ) (row : List ℕ)

@@ -48,6 +48,17 @@ pub both_stay : (part now : PartView) (left : CountedView) (to : List (Option Le
     }
 both_stay part now left to is = ap (λ (v : PartView). with_both v left to) is
 
+-- and where the next turn of looks begins may change too
+pub cursor_moves : (part now : PartView) (left : CountedView) (to : List (Option Led)) (cursor : ℕ) → part ≡ now
+    → record (with_both part left to) { cursor = cursor } ≡ record now {
+      book = left.book;
+      flow = left.flow;
+      evictions = left.evictions;
+      index = to;
+      cursor = cursor;
+    }
+cursor_moves part now left to cursor is = ap (λ (v : PartView). record (with_both v left to) { cursor = cursor }) is
+
 -- where nothing is told the Book alone changes
 pub none_changes : (told : Option ℕ) (part now : PartView) (left : CountedView) (from to : IndexView) → part ≡ now
     → IfNone told (left ≡ record (counted part) { book = left.book }) → IfNone told (to ≡ from)

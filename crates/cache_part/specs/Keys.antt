@@ -1,7 +1,7 @@
 -- The key and the value of a chunk, and which items have a key.
 use Rattle.std.specs.Prelude.{◌≡◌, ℕ, zero, suc, List, [], ◌∷◌, Option, None, Some, IsSome}
 use Rattle.bump_steps.specs.declared.views.ClassPart.{ClassPart}
-use Rattle.bump_steps.specs.Views.{last_word}
+use Rattle.bump_steps.specs.Views.{last_label, last_word}
 use Rattle.cache_lists.specs.Linked.{linked_at}
 
 -- so many further words of a chunk, from this one on, as they were stored last
@@ -9,6 +9,10 @@ abbrev pub words_from : ℕ → ℕ → ClassPart → ℕ → List ℕ
 words_from index zero class chunk = []
 words_from index (suc count) class chunk =
     last_word (suc index) class chunk ∷ words_from (suc index) count class chunk
+
+-- the row of a chunk, as it was stored last: its label, and so many further words
+abbrev pub row_of : ℕ → ClassPart → ℕ → List ℕ
+row_of count class chunk = last_label class chunk ∷ words_from 0 count class chunk
 
 -- the key of a chunk: its first further words
 abbrev pub key_at : ℕ → ClassPart → ℕ → List ℕ

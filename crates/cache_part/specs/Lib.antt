@@ -1,3 +1,4 @@
+pub mod Expiring
 pub mod Keys
 pub mod Looks
 pub mod Parts
@@ -15,10 +16,13 @@ pub use Rattle.bump_steps.specs.Views
 pub use Rattle.cache_lists.specs.Ages
 pub use Rattle.cache_lists.specs.Counts
 pub use Rattle.cache_lists.specs.Draining
+pub use Rattle.cache_lists.specs.Expiring as ListsExpiring
 pub use Rattle.cache_lists.specs.Freeing
 pub use Rattle.cache_lists.specs.Items
 pub use Rattle.cache_lists.specs.Linked
+pub use Rattle.cache_lists.specs.Looks as ListsLooks
 pub use Rattle.cache_lists.specs.Rescues
 pub use Rattle.cache_lists.specs.Segments
 pub use Rattle.cache_nests.specs.Views as NestsViews
 pub use Rattle.keyed_hash.specs.Hashes
+pub use Rattle.entry_times.specs.Times

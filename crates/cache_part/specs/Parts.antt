@@ -12,7 +12,8 @@ use Rattle.keyed_hash.specs.Hashes.{hash_of}
 use Rattle.cache_part.specs.Keys.{key_at, HasKey, IsItemOf}
 
 -- The Book, how its items went from list to list, and what was evicted; what the index leads to, by chunk; the seed of
--- the keys' hashes, how many words a key and a value have, and how many items there may be.
+-- the keys' hashes, how many words a key and a value have, how many items there may be, and within how many ticks an
+-- item expires that is linked in TEMP; and the chunk at which the next turn of looks for expired items begins.
 pub record PartView : Type 0 where
   pub book : BookView
   pub flow : Flow
@@ -22,6 +23,8 @@ pub record PartView : Type 0 where
   pub key_words : ℕ
   pub value_words : ℕ
   pub items : ℕ
+  pub temporary : Option ℕ
+  pub cursor : ℕ
 
 -- its Book, and what that counts
 abbrev pub counted : PartView → CountedView

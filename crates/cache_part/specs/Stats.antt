@@ -10,6 +10,7 @@ stats_of part = record {
   number_hot = length part.book.lists.hot;
   number_warm = length part.book.lists.warm;
   number_cold = length part.book.lists.cold;
+  number_temp = length part.book.lists.temp;
   moves_to_cold = capped (part.flow.hot_to_cold + part.flow.warm_to_cold);
   moves_to_warm = capped (part.flow.hot_to_warm + part.flow.cold_to_warm);
   moves_within_lru = part.flow.warm_to_warm;
@@ -17,5 +18,8 @@ stats_of part = record {
   evicted_unfetched = part.evictions.unfetched;
   evicted_active = part.evictions.active;
   direct_reclaims = part.evictions.evicted;
+  reclaimed = part.evictions.reclaimed;
+  expired_unfetched = part.evictions.expired_unfetched;
+  crawler_reclaimed = part.evictions.crawler_reclaimed;
   flow = part.flow;
 }

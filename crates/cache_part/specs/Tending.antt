@@ -5,10 +5,12 @@ use Rattle.bump_rules.specs.declared.items.Head.{Head}
 use Rattle.bump_class.specs.Books.{BookView}
 use Rattle.bump_class.specs.Lanes.{LaneView}
 use Rattle.bump_class.specs.Sweeps.{Sweeps}
+use Rattle.cache_lists.specs.Counts.{CountedView}
 use Rattle.cache_lists.specs.Draining.{DrainsLane}
 use Rattle.cache_lists.specs.declared.ages.Bound.{Bound}
 use Rattle.cache_lists.specs.declared.ages.Bounds.{Bounds}
 use Rattle.cache_lists.specs.Ages.{Balances, SeesColdAge, hot_bound, warm_bound}
+use Rattle.cache_part.specs.Expiring.{LooksAround, looks_of}
 
 -- each lane has its turn, with the Book that the one before left; they stay as many
 abbrev pub DrainsEach : ℕ → ℕ → BookView → List LaneView → BookView → List LaneView → Type 0
@@ -44,11 +46,16 @@ pub record BalancesOften (bounds : Bounds) (now : ℕ) (before after : BookView)
   pub often : most ≡ looks
   pub balances : BalancesByAge most bounds now before after
 
--- The lanes have their turns, ended items are swept, and then HOT and WARM are looked at.
-pub record Tends (most now : ℕ) (bounds : Bounds) (before : BookView) (from : List LaneView) (after : BookView)
-    (to : List LaneView) : Type 0 where
-  pub drained : BookView
-  pub drains : DrainsEach most now before from drained to
+-- The lanes have their turns; chunks are looked at in turn, from this one on, and items that have expired end; ended
+-- items are swept; and then HOT and WARM are looked at.
+pub record Tends (most now : ℕ) (bounds : Bounds) (looks cursor : ℕ) (before : CountedView) (from : List LaneView)
+    (after : CountedView) (to : List LaneView) : Type 0 where
+  pub drained : CountedView
+  pub drains : DrainsEach most now before.book from drained.book to
+  pub no_eviction : drained.evictions ≡ before.evictions
+  pub left : CountedView
+  pub expires : (ended : ℕ) × LooksAround (looks_of looks before.book) cursor now ended drained left
   pub swept : BookView
-  pub sweeps : (freed : ℕ) × (heads : ℕ → Head) × Sweeps drained freed swept heads
-  pub balances : BalancesOften bounds now swept after
+  pub sweeps : (freed : ℕ) × (heads : ℕ → Head) × Sweeps left.book freed swept heads
+  pub balances : BalancesOften bounds now swept after.book
+  pub evictions : after.evictions ≡ left.evictions

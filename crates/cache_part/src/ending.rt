@@ -2,7 +2,7 @@
 ghost use Rattle.std.specs.Prelude.{◌≡◌, ℕ, ◌<◌, ◌≤◌, IfSome, IfNone, IsSome, None, true, length, slice_set};
 ghost use Rattle.bump_rules.specs.Lists.{all_without};
 ghost use Rattle.bump_steps.specs.Views.{owns};
-ghost use Rattle.cache_lists.specs.Items.{EndsAt};
+ghost use Rattle.cache_lists.specs.Items.{EndsAt, IsSameClass};
 ghost use Rattle.cache_lists.specs.Linked.{linked_at};
 ghost use Rattle.cache_lists.specs.Segments.{SameSegments};
 ghost use Rattle.cache_nests.specs.Views.{led_at};
@@ -64,6 +64,7 @@ pub(crate) fn remove<N: Name, L: RowLaw>(
     requires words { length key.now ≡ key_words }
     requires few { key_words ≤ N.table.slots }
     ensures part { IsPart seed key_words lists.new.book.part index.new.table }
+    ensures class { IsSameClass lists.old.book lists.new.book }
     ensures found { IfSome result (λ chunk. HasKey key_words key.now lists.old.book.part chunk) }
     ensures ends { IfSome result (λ chunk. EndsAt chunk lists.old.book lists.new.book) }
     ensures others { IfSome result (λ chunk. SameSegments (all_without chunk lists.old.book.lists)

@@ -4,6 +4,7 @@
 
 mod clearing;
 mod ending;
+mod expiring;
 mod finding;
 mod parts;
 mod putting;

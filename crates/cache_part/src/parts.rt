@@ -1,22 +1,24 @@
 //! A part: the lists of items, the index of their keys, and what is done with both.
-ghost use Rattle.std.specs.Prelude.{◌≡◌, ◌≢◌, ℕ, ◌+◌, ◌<◌, ◌≤◌, IsSome, IfSome, IfNone, IfOk, IfErr, Option, Some, None, true, [], suc, length, replicate, take, drop};
+ghost use Rattle.std.specs.Prelude.{◌≡◌, ◌≢◌, ℕ, ◌+◌, ◌-◌, ◌<◌, ◌≤◌, IsSome, IfSome, IfNone, IfOk, IfErr, Option, Some, None, true, [], suc, length, replicate, take, drop};
 ghost use Rattle.bump_class.specs.Books.{IsBook};
 ghost use Rattle.bump_class.specs.Links.{MayHave};
 ghost use Rattle.bump_links.specs.Lists.{first_of};
 ghost use Rattle.bump_rules.specs.Lists.{all_without};
-ghost use Rattle.bump_steps.specs.Views.{owns, last_word};
+ghost use Rattle.bump_steps.specs.Views.{owns, last_label, last_word};
 ghost use Rattle.cache_lists.specs.Counts.{IsFlow, SegmentsAddUp, no_flow, no_evictions};
 ghost use Rattle.cache_lists.specs.Items.{EndsAt, KeepsItems, HasRow, IsSameClass};
 ghost use Rattle.cache_lists.specs.Linked.{linked_at};
 ghost use Rattle.cache_lists.specs.Segments.{SameSegments};
+ghost use Rattle.cache_part.specs.Expiring.{HasNoneExpired, IsInTurn, KeepsUnexpired, LooksAround};
+ghost use Rattle.cache_part.specs.Expiring.{chunk_behind, looks_of};
 ghost use Rattle.cache_part.specs.Keys.{value_at, words_from};
 ghost use Rattle.cache_part.specs.Looks.{LooksOnly};
 ghost use Rattle.cache_part.specs.Parts.{PartView as ThePartView, IsPart, IsUnder, IsUnknown, IsItem, counted};
 ghost use Rattle.cache_part.specs.Putting.{MakesRoom, Puts, IsFresh, OthersStay, TellsRow, WasAnother};
 ghost use Rattle.cache_part.specs.Tending.{BalancesByAge, DrainsEach, Tends};
 
-use crate::putting::{self, NoChunk, PutItem, Settings};
-use crate::{clearing, ending, finding, reading, tending};
+use crate::putting::{NoChunk, PutItem, Settings, make_room};
+use crate::{clearing, ending, expiring, finding, reading, replacing, tending};
 use bump_class::{Book, RawLane};
 use bump_heads::Name;
 use bump_steps::{AnyRow, RowLaw};
@@ -25,13 +27,17 @@ use cache_nests::Index;
 use keyed_hash::Seed;
 use std::marker::Model;
 
-/// The items of a class, and the index of their keys. Each item has a row: its label is 0, and its further words are its
-/// key's and then its value's. The index leads to the items that are linked, and to nothing else.
+/// The items of a class, and the index of their keys. Each item has a row: its label is the time at which it expires,
+/// in the caller's ticks, and 0 where it never does; its further words are its key's and then its value's. The index
+/// leads to the items that are linked, and to nothing else: also to those that have expired, until they end.
 #[derive(Drop)]
 pub struct Part<N: Name, L: RowLaw = AnyRow> {
     pub(crate) lists: CountedBook<N, L>,
     pub(crate) index: Index,
     pub(crate) settings: Settings,
+
+    // the chunk at which the next turn of looks for expired items begins
+    cursor: u32,
 }
 
 impl<N: Name, L: RowLaw> Model for Part<N, L> {
@@ -46,16 +52,20 @@ impl<N: Name, L: RowLaw> Model for Part<N, L> {
       key_words = p.settings.key_words;
       value_words = p.settings.value_words;
       items = p.settings.items;
+      temporary = p.settings.temporary;
+      cursor = p.cursor;
     } };
 
     ghost invariant = { λ p. IsPart p.settings.seed p.settings.key_words p.lists.book.part p.index.table
-        × (p.settings.key_words + p.settings.value_words ≤ N.table.slots) };
+        × (p.settings.key_words + p.settings.value_words ≤ N.table.slots)
+        × (p.cursor ≤ p.lists.book.part.count - 1) };
 }
 
 impl<N: Name, L: RowLaw> Part<N, L> {
     /// A part of a class that has all chunks from 0 on, and in which no item was linked yet, and of an index of as many
     /// chunks that leads to none. A key has `key_words` words and a value `value_words`, together at most as many as a
-    /// chunk has further words. Where `items` are linked, one is evicted before another key gets its first.
+    /// chunk has further words. Where `items` are linked, one is evicted before another key gets its first. What
+    /// expires within `temporary` ticks from its put on is linked in TEMP; nothing is where that is None.
     pub fn new(
         book: Book<N, L>,
         index: Index,
@@ -63,6 +73,7 @@ impl<N: Name, L: RowLaw> Part<N, L> {
         key_words: u32,
         value_words: u32,
         items: u32,
+        temporary: Option<u64>,
     ) -> Part<N, L>
         requires first { book.part.first ≡ 0 }
         requires history { book.part.history ≡ [] }
@@ -77,6 +88,8 @@ impl<N: Name, L: RowLaw> Part<N, L> {
           key_words = key_words;
           value_words = value_words;
           items = items;
+          temporary = temporary;
+          cursor = 0;
         } }
     {
         Part {
@@ -87,19 +100,23 @@ impl<N: Name, L: RowLaw> Part<N, L> {
                 key_words,
                 value_words,
                 items,
+                temporary,
             },
+            cursor: 0,
         }
     }
 
-    /// What it keeps: the index leads to what is linked by the hash of its key, each key is that of one item, and its
-    /// lists are those of a Book that counts how its items go.
+    /// What it keeps: the index leads to what is linked by the hash of its key, each key is that of one item, its lists
+    /// are those of a Book that counts how its items go, and the next turn of looks begins at one of its chunks, if it
+    /// has any.
     pub fn promise(&self)
         ensures part { IsPart self.now.seed self.now.key_words self.now.book.part self.now.index }
         ensures words { self.now.key_words + self.now.value_words ≤ N.table.slots }
         ensures book { IsBook self.now.book }
         ensures flow { IsFlow self.now.flow self.now.book.part }
         ensures sums { SegmentsAddUp (length self.now.book.lists.hot) (length self.now.book.lists.warm)
-            (length self.now.book.lists.cold) self.now.book.part }
+            (length self.now.book.lists.cold) (length self.now.book.lists.temp) self.now.book.part }
+        ensures cursor { self.now.cursor ≤ self.now.book.part.count - 1 }
     {
         self.lists.promise();
     }
@@ -123,9 +140,21 @@ impl<N: Name, L: RowLaw> Part<N, L> {
         self.lists.word(chunk, index)
     }
 
-    /// Reads the further words of a chunk of the class from number `from` on, as many as `words` has, as they were stored
-    /// last: the key's have the numbers from 0 on, and the value's come behind them. `from` and their number are together
-    /// at most the number of further words that a chunk has. A chunk's words stay until an item is linked there.
+    /// The label of a chunk of the class, as it was stored last: when its item expires, in the caller's ticks, or 0
+    /// where it never does. It stays until an item is linked there.
+    pub fn expires(&mut self, chunk: u32) -> u64
+        requires own { owns chunk self.old.book.part ≡ true }
+        ensures stored { result ≡ last_label self.old.book.part chunk }
+        ensures looks { LooksOnly self.old.book self.new.book }
+        ensures rest { self.new ≡ record self.old { book = self.new.book } }
+    {
+        self.lists.label(chunk)
+    }
+
+    /// Reads the further words of a chunk of the class from number `from` on, as many as `words` has, as they were
+    /// stored last: the key's have the numbers from 0 on, and the value's come behind them. `from` and their number are
+    /// together at most the number of further words that a chunk has. A chunk's words stay until an item is linked
+    /// there.
     pub fn read(&mut self, chunk: u32, from: u32, words: &mut [u64])
         requires own { owns chunk self.old.book.part ≡ true }
         requires few { from + length words.old ≤ N.table.slots }
@@ -157,8 +186,8 @@ impl<N: Name, L: RowLaw> Part<N, L> {
     }
 
     /// Ends the item of this key, and tells its chunk; or None exactly where no item has the key, and then nothing
-    /// changes but what the class's seat notes of its loads. The index leads to it no more before it ends. Its words can
-    /// still be read, by `word`, until an item is linked at its chunk.
+    /// changes but what the class's seat notes of its loads. The index leads to it no more before it ends. Its words
+    /// can still be read, by `word`, until an item is linked at its chunk.
     pub fn remove(&mut self, key: &[u64]) -> Option<u32>
         requires { length key.now ≡ self.old.key_words }
         ensures found { IfSome result (λ chunk. IsUnder key.now chunk self.old) }
@@ -202,20 +231,29 @@ impl<N: Name, L: RowLaw> Part<N, L> {
         clearing::clear(&mut self.lists, &mut self.index, settings);
     }
 
-    /// Puts an item under its key: the row is the key's words and then the value's, and `now` its time, in the caller's
-    /// ticks. Where the key has no item yet and as many as may be are linked, the one whose turn it is is evicted first,
-    /// as `CountedBook::evict` does. Where no chunk is free, chunks come free of ended items that nobody holds any more.
-    /// It is refused exactly where none is free then; the key keeps what it had. Else the new item is linked in HOT, the
-    /// index leads to it, and behind that the key's old item ends. The table's law holds of whatever row begins with the
-    /// label 0 and these words.
+    /// Puts an item under its key: the row is the key's words and then the value's; it expires at `expires`, or never
+    /// where that is 0; and `now` is its time. Times are in the caller's ticks. Where the key has no item yet and as
+    /// many as may be are linked, the one whose turn it is ends first, as by `CountedBook::evict`. Where no chunk is
+    /// free, chunks come free of ended items that nobody holds any more. It is refused exactly where none is free then;
+    /// the key keeps what it had. Else the new item is linked, in TEMP where it expires within as many ticks as
+    /// `Part::new` was told, or has expired already, and else in HOT; the index leads to it, and behind that the key's
+    /// old item ends, whether it had expired or not. The table's law holds of whatever row begins with the label
+    /// `expires` and these words.
     ///
-    /// `evicted` has room for a row. Where an item is evicted, also where the put is refused then, the words of its key
-    /// and of its value are written there. They are read before chunks come free, since the new item may be linked in
-    /// its chunk. Where none is evicted `evicted` stays.
-    pub fn put(&mut self, row: &[u64], evicted: &mut [u64], now: u64) -> Result<PutItem, NoChunk>
+    /// `evicted` has room for a label and a row. Where an item is evicted, also where the put is refused then, its
+    /// label is written there, which says when it expires, and then the words of its key and of its value. They are
+    /// read before chunks come free, since the new item may be linked in its chunk. Where none is evicted `evicted`
+    /// stays.
+    pub fn put(
+        &mut self,
+        row: &[u64],
+        expires: u64,
+        evicted: &mut [u64],
+        now: u64,
+    ) -> Result<PutItem, NoChunk>
         requires words { length row.now ≡ self.old.key_words + self.old.value_words }
-        requires evicted { length evicted.old ≡ self.old.key_words + self.old.value_words }
-        requires law { MayHave L.law 0 row.now }
+        requires evicted { length evicted.old ≡ suc (self.old.key_words + self.old.value_words) }
+        requires law { MayHave L.law expires row.now }
         ensures old { IfOk result (λ did. IsItem (take self.old.key_words row.now) did.old self.old) }
         ensures under { IfOk result (λ did. IsUnder (take self.old.key_words row.now) did.chunk self.new) }
         ensures value { IfOk result (λ did. value_at self.old.key_words self.old.value_words self.new.book.part did.chunk
@@ -223,9 +261,9 @@ impl<N: Name, L: RowLaw> Part<N, L> {
         ensures ended { IfOk result (λ did. IfSome did.old (λ chunk. linked_at self.new.book.part chunk ≡ None)) }
         ensures others { IfOk result (λ did. OthersStay (Some did.chunk) did.old did.evicted self.old.book
             self.new.book) }
-        ensures puts { IfOk result (λ did. Puts self.old.items did.old did.evicted row.now now did.chunk
-            (counted self.old) (counted self.new)) }
-        ensures row { IfOk result (λ did. HasRow did.chunk 0 row.now self.new.book) }
+        ensures puts { IfOk result (λ did. Puts self.old.items self.old.temporary did.old did.evicted row.now expires now
+            did.chunk (counted self.old) (counted self.new)) }
+        ensures row { IfOk result (λ did. HasRow did.chunk expires row.now self.new.book) }
         ensures length { length evicted.new ≡ length evicted.old }
         ensures told { IfOk result (λ did. TellsRow did.evicted evicted.old evicted.new self.old) }
         ensures was { IfOk result (λ did. WasAnother did.old did.evicted self.old) }
@@ -234,7 +272,7 @@ impl<N: Name, L: RowLaw> Part<N, L> {
         ensures fresh { IfOk result (λ did. IsFresh did.chunk did.evicted self.old) }
         ensures no_room { IfErr result (λ why. first_of self.new.book.lists.unused ≡ None) }
         ensures room { IfErr result (λ why. (old : Option ℕ) × IsItem (take self.old.key_words row.now) old self.old
-            × MakesRoom self.old.items old why.evicted (counted self.old) (counted self.new)) }
+            × MakesRoom self.old.items now old why.evicted (counted self.old) (counted self.new)) }
         ensures stay { IfErr result (λ why. OthersStay None None why.evicted self.old.book self.new.book) }
         ensures told_refused { IfErr result (λ why. TellsRow why.evicted evicted.old evicted.new self.old) }
         ensures was_refused { IfErr result (λ why. IfSome why.evicted (λ c. IsSome (linked_at self.old.book.part c))) }
@@ -247,25 +285,105 @@ impl<N: Name, L: RowLaw> Part<N, L> {
         } }
     {
         let settings = self.settings;
-        putting::put_item(
+        let room = make_room(
             &mut self.lists,
             &mut self.index,
             settings,
             row,
             evicted,
             now,
-        )
+        );
+        let Some(id) = replacing::link(
+            &mut self.lists,
+            &mut self.index,
+            settings.temporary,
+            room.found,
+            row,
+            expires,
+            now,
+        ) else {
+            return Err(NoChunk {
+                evicted: room.evicted,
+            });
+        };
+        Ok(PutItem {
+            chunk: id.chunk,
+            old: room.found.chunk,
+            evicted: room.evicted,
+        })
     }
 
-    /// Tends the part: the bumps that wait in the lanes are applied, lane by lane, at most `most` of each, with `now` as
-    /// their items' new time, in the caller's ticks; ended items are swept; and then HOT and WARM are balanced, as
-    /// `balance` does, in `LOOKS` rounds at most. The same items are linked, and the index stays.
-    pub fn tend(&mut self, lanes: &mut [RawLane<N, L>], most: u32, now: u64, bounds: Bounds)
-        ensures tends { Tends most now bounds self.old.book lanes.old self.new.book lanes.new }
-        ensures items { KeepsItems self.old.book self.new.book }
-        ensures rest { self.new ≡ record self.old { book = self.new.book; flow = self.new.flow } }
+    /// Ends items that have expired at `now`, in the caller's ticks, and tells how many. It looks at the next `most`
+    /// chunks of the class in turn, from where the last turn ended, around and around, and at each at most once: so all
+    /// have their turn, whoever calls it how often. The index leads to such an item no more before it ends. Each counts
+    /// as `crawler_reclaimed`, and none as evicted. What hasn't expired is linked still, and each chunk has its words.
+    pub fn end_expired(&mut self, most: u32, now: u64) -> u32
+        ensures looks { LooksAround (looks_of most self.old.book) self.old.cursor now result (counted self.old)
+            (counted self.new) }
+        ensures ended { (chunk : ℕ) → IsInTurn self.old.cursor (looks_of most self.old.book) self.old.book.part.count chunk
+            → HasNoneExpired now chunk self.new.book }
+        ensures unexpired { KeepsUnexpired now self.old.book self.new.book }
+        ensures cursor { self.new.cursor
+            ≡ chunk_behind self.old.cursor (looks_of most self.old.book) self.old.book.part.count }
+        ensures rest { self.new ≡ record self.old {
+          book = self.new.book;
+          flow = self.new.flow;
+          evictions = self.new.evictions;
+          index = self.new.index;
+          cursor = self.new.cursor;
+        } }
     {
-        tending::tend(&mut self.lists, lanes, most, now, bounds);
+        let turn = expiring::end_expired(
+            &mut self.lists,
+            &mut self.index,
+            self.settings,
+            self.cursor,
+            most,
+            now,
+        );
+        self.cursor = turn.cursor;
+        turn.ended
+    }
+
+    /// Tends the part: the bumps that wait in the lanes are applied, lane by lane, at most `most` of each, with `now`
+    /// as their items' new time, in the caller's ticks; items that have expired at `now` end, as by `end_expired`,
+    /// which looks at `looks` chunks; ended items are swept; and then HOT and WARM are balanced, as `balance` does, in
+    /// `LOOKS` rounds at most. What hasn't expired is linked still, and each chunk has its words.
+    pub fn tend(
+        &mut self,
+        lanes: &mut [RawLane<N, L>],
+        most: u32,
+        now: u64,
+        bounds: Bounds,
+        looks: u32,
+    )
+        ensures tends { Tends most now bounds looks self.old.cursor (counted self.old) lanes.old (counted self.new)
+            lanes.new }
+        ensures ended { (chunk : ℕ) → IsInTurn self.old.cursor (looks_of looks self.old.book) self.old.book.part.count chunk
+            → HasNoneExpired now chunk self.new.book }
+        ensures unexpired { KeepsUnexpired now self.old.book self.new.book }
+        ensures cursor { self.new.cursor
+            ≡ chunk_behind self.old.cursor (looks_of looks self.old.book) self.old.book.part.count }
+        ensures rest { self.new ≡ record self.old {
+          book = self.new.book;
+          flow = self.new.flow;
+          evictions = self.new.evictions;
+          index = self.new.index;
+          cursor = self.new.cursor;
+        } }
+    {
+        let cursor = tending::tend(
+            &mut self.lists,
+            &mut self.index,
+            self.settings,
+            lanes,
+            most,
+            now,
+            bounds,
+            looks,
+            self.cursor,
+        );
+        self.cursor = cursor;
     }
 
     /// Applies the bumps that wait in the lanes, lane by lane, at most `most` of each, with `now` as their items' new
@@ -278,11 +396,12 @@ impl<N: Name, L: RowLaw> Part<N, L> {
         tending::drain(&mut self.lists, lanes, most, now);
     }
 
-    /// Balances HOT and WARM, as memcached's maintainer does: first the age of COLD is looked at, which is how long before
-    /// `now` its last item was used, in the caller's ticks, and 0 where COLD is empty; and then the last items of HOT and
-    /// WARM, in turn, each by its bound, in rounds, until one moves nothing, at most `most`. An ACTIVE one loses that, and
-    /// goes to the front of WARM; another goes to COLD where its list has more items than `bounds` say, or where it was
-    /// used longer ago than so many percent of COLD's age. The same items are linked, and the index stays.
+    /// Balances HOT and WARM, as memcached's maintainer does: first the age of COLD is looked at, which is how long
+    /// before `now` its last item was used, in the caller's ticks, and 0 where COLD is empty; and then the last items
+    /// of HOT and WARM, in turn, each by its bound, in rounds, until one moves nothing, at most `most`. An ACTIVE one
+    /// loses that, and goes to the front of WARM; another goes to COLD where its list has more items than `bounds` say,
+    /// or where it was used longer ago than so many percent of COLD's age. The same items are linked, and the index
+    /// stays.
     pub fn balance(&mut self, most: u32, bounds: Bounds, now: u64)
         ensures balances { BalancesByAge most bounds now self.old.book self.new.book }
         ensures items { KeepsItems self.old.book self.new.book }

@@ -1,17 +1,15 @@
-//! An item is put under its key.
-ghost use Rattle.std.specs.Prelude.{◌≡◌, ◌≢◌, ℕ, ◌+◌, ◌≤◌, IfSome, IsSome, IfOk, IfErr, Option, Some, None, length, drop, take};
-ghost use Rattle.bump_class.specs.Links.{MayHave};
-ghost use Rattle.bump_links.specs.Lists.{first_of};
-ghost use Rattle.cache_lists.specs.Items.{HasRow};
+//! What a put came to, and what comes before its item is linked.
+ghost use Rattle.std.specs.Prelude.{◌≡◌, suc, ◌+◌, ◌≤◌, IfSome, IsSome, None, length, take};
+ghost use Rattle.cache_lists.specs.Items.{IsSameClass};
 ghost use Rattle.cache_lists.specs.Linked.{linked_at};
-ghost use Rattle.cache_part.specs.Keys.{HasKey, IsItemOf, value_at};
+ghost use Rattle.cache_part.specs.Keys.{IsItemOf};
 ghost use Rattle.cache_part.specs.Looks.{LooksOnly};
 ghost use Rattle.cache_part.specs.Parts.{IsPart};
-ghost use Rattle.cache_part.specs.Putting.{MakesRoom, Puts, OthersStay, TellsWords};
+ghost use Rattle.cache_part.specs.Putting.{MakesRoom, OthersStay, TellsWords};
 ghost use Rattle.keyed_hash.specs.Hashes.{hash_of};
 
 use crate::finding::{self, Found};
-use crate::{replacing, room};
+use crate::room;
 use bump_heads::Name;
 use bump_steps::RowLaw;
 use cache_lists::CountedBook;
@@ -27,7 +25,7 @@ pub struct PutItem {
     /// The chunk of the item that the key had before, if it had one: that item ended.
     pub old: Option<u32>,
 
-    /// The chunk of the item that was evicted, if one was.
+    /// The chunk of the item that was evicted, if one was: also of one that had expired.
     pub evicted: Option<u32>,
 }
 
@@ -35,7 +33,7 @@ pub struct PutItem {
 /// more. A chunk whose generations are used up comes free no more.
 #[derive(Clone, Copy, Debug, PartialEq, Eq)]
 pub struct NoChunk {
-    /// The chunk of the item that was evicted, if one was.
+    /// The chunk of the item that was evicted, if one was: also of one that had expired.
     pub evicted: Option<u32>,
 }
 
@@ -53,6 +51,9 @@ pub(crate) struct Settings {
 
     // where so many items are linked, one is evicted before another key gets its first
     pub(crate) items: u32,
+
+    // what expires within so many ticks is linked in TEMP
+    pub(crate) temporary: Option<u64>,
 }
 
 // The item of the key with which a row begins.
@@ -77,32 +78,34 @@ fn find_key_of<N: Name, L: RowLaw>(
 
 // What was found of a key, and what was evicted, when room is made for an item.
 #[derive(Clone, Copy)]
-struct Room {
+pub(crate) struct Room {
     // the key's item
-    found: Found,
+    pub(crate) found: Found,
 
     // the chunk of the item that was evicted, if one was
-    evicted: Option<u32>,
+    pub(crate) evicted: Option<u32>,
 }
 
-// Makes room for an item with this row.
-fn make_room<N: Name, L: RowLaw>(
+// Makes room for an item with this row, and tells the row of the item that was evicted.
+pub(crate) fn make_room<N: Name, L: RowLaw>(
     lists: &mut CountedBook<N, L>,
     index: &mut Index,
     settings: Settings,
     row: &[u64],
     told: &mut [u64],
+    now: u64,
 ) -> Room
     requires part { IsPart settings.seed settings.key_words lists.old.book.part index.old.table }
     requires words { length row.now ≡ settings.key_words + settings.value_words }
-    requires told { length told.old ≡ settings.key_words + settings.value_words }
+    requires told { length told.old ≡ suc (settings.key_words + settings.value_words) }
     requires few { length row.now ≤ N.table.slots }
     ensures part { IsPart settings.seed settings.key_words lists.new.book.part index.new.table }
+    ensures class { IsSameClass lists.old.book lists.new.book }
     ensures hash { result.found.hash ≡ hash_of settings.seed (take settings.key_words row.now) }
     ensures was { IsItemOf settings.key_words (take settings.key_words row.now) result.found.chunk lists.old.book.part }
     ensures item { IsItemOf settings.key_words (take settings.key_words row.now) result.found.chunk
         lists.new.book.part }
-    ensures room { MakesRoom settings.items result.found.chunk result.evicted lists.old lists.new }
+    ensures room { MakesRoom settings.items now result.found.chunk result.evicted lists.old lists.new }
     ensures stay { OthersStay None None result.evicted lists.old.book lists.new.book }
     ensures told { TellsWords (settings.key_words + settings.value_words) result.evicted told.old told.new
         lists.old.book.part }
@@ -111,64 +114,7 @@ fn make_room<N: Name, L: RowLaw>(
     ensures gone { IfSome result.evicted (λ c. linked_at lists.new.book.part c ≡ None) }
 {
     let found = find_key_of(lists, index, settings, row);
-    let evicted = room::evict_where_full(lists, index, settings.items, found.chunk, told);
+    let evicted = room::evict_where_full(lists, index, settings, found.chunk, told, now);
     room::free_where_none(lists);
     Room { found, evicted }
-}
-
-// Puts an item, whose row is its key's words and its value's, and tells those of the item that was evicted.
-pub(crate) fn put_item<N: Name, L: RowLaw>(
-    lists: &mut CountedBook<N, L>,
-    index: &mut Index,
-    settings: Settings,
-    row: &[u64],
-    told: &mut [u64],
-    now: u64,
-) -> Result<PutItem, NoChunk>
-    requires part { IsPart settings.seed settings.key_words lists.old.book.part index.old.table }
-    requires words { length row.now ≡ settings.key_words + settings.value_words }
-    requires told { length told.old ≡ settings.key_words + settings.value_words }
-    requires few { length row.now ≤ N.table.slots }
-    requires law { MayHave L.law 0 row.now }
-    ensures part { IsPart settings.seed settings.key_words lists.new.book.part index.new.table }
-    ensures old { IfOk result (λ did. IsItemOf settings.key_words (take settings.key_words row.now) did.old
-        lists.old.book.part) }
-    ensures puts { IfOk result (λ did. Puts settings.items did.old did.evicted row.now now did.chunk lists.old
-        lists.new) }
-    ensures under { IfOk result (λ did. HasKey settings.key_words (take settings.key_words row.now)
-        lists.new.book.part did.chunk) }
-    ensures value { IfOk result (λ did. value_at settings.key_words settings.value_words lists.new.book.part did.chunk
-        ≡ drop settings.key_words row.now) }
-    ensures ended { IfOk result (λ did. IfSome did.old (λ chunk. linked_at lists.new.book.part chunk ≡ None)) }
-    ensures others { IfOk result (λ did. OthersStay (Some did.chunk) did.old did.evicted lists.old.book
-        lists.new.book) }
-    ensures row { IfOk result (λ did. HasRow did.chunk 0 row.now lists.new.book) }
-    ensures told { IfOk result (λ did. TellsWords (settings.key_words + settings.value_words) did.evicted told.old
-        told.new lists.old.book.part) }
-    ensures was { IfOk result (λ did. IfSome did.evicted (λ c. IsSome (linked_at lists.old.book.part c)
-        × (did.old ≡ None))) }
-    ensures gone { IfOk result (λ did. IfSome did.evicted (λ c. c ≢ did.chunk
-        → linked_at lists.new.book.part c ≡ None)) }
-    ensures fresh { IfOk result (λ did. did.evicted ≢ Some did.chunk
-        → linked_at lists.old.book.part did.chunk ≡ None) }
-    ensures no_room { IfErr result (λ why. first_of lists.new.book.lists.unused ≡ None) }
-    ensures room { IfErr result (λ why. (old : Option ℕ)
-        × IsItemOf settings.key_words (take settings.key_words row.now) old lists.old.book.part
-        × MakesRoom settings.items old why.evicted lists.old lists.new) }
-    ensures stay { IfErr result (λ why. OthersStay None None why.evicted lists.old.book lists.new.book) }
-    ensures told_refused { IfErr result (λ why. TellsWords (settings.key_words + settings.value_words) why.evicted
-        told.old told.new lists.old.book.part) }
-    ensures was_refused { IfErr result (λ why. IfSome why.evicted (λ c. IsSome (linked_at lists.old.book.part c))) }
-    ensures gone_refused { IfErr result (λ why. IfSome why.evicted (λ c. linked_at lists.new.book.part c ≡ None)) }
-{
-    let room = make_room(lists, index, settings, row, told);
-    let evicted = room.evicted;
-    let Some(id) = replacing::link(lists, index, room.found, row, now) else {
-        return Err(NoChunk { evicted });
-    };
-    Ok(PutItem {
-        chunk: id.chunk,
-        old: room.found.chunk,
-        evicted,
-    })
 }

@@ -1,7 +1,7 @@
-//! The further words of a chunk are read.
-ghost use Rattle.std.specs.Prelude.{◌≡◌, ◌+◌, ◌≤◌, true, length};
+//! The label and the further words of a chunk are read.
+ghost use Rattle.std.specs.Prelude.{◌≡◌, suc, ◌+◌, ◌-◌, ◌<◌, ◌≤◌, true, length};
 ghost use Rattle.bump_steps.specs.Views.{owns};
-ghost use Rattle.cache_part.specs.Keys.{words_from};
+ghost use Rattle.cache_part.specs.Keys.{words_from, row_of};
 ghost use Rattle.cache_part.specs.Looks.{LooksOnly};
 
 use bump_heads::Name;
@@ -26,4 +26,21 @@ pub(crate) fn read<N: Name, L: RowLaw>(
     for index in 0..words.len() {
         words[index] = lists.word(chunk, from + index as u32);
     }
+}
+
+// Reads the row of a chunk: its label, and then as many of its further words as there is room for.
+pub(crate) fn read_row<N: Name, L: RowLaw>(
+    lists: &mut CountedBook<N, L>,
+    chunk: u32,
+    row: &mut [u64],
+)
+    requires own { owns chunk lists.old.book.part ≡ true }
+    requires some { 0 < length row.old }
+    requires few { length row.old ≤ suc N.table.slots }
+    ensures read { row.new ≡ row_of (length row.old - 1) lists.old.book.part chunk }
+    ensures looks { LooksOnly lists.old.book lists.new.book }
+    ensures rest { lists.new ≡ record lists.old { book = lists.new.book } }
+{
+    row[0] = lists.label(chunk);
+    read(lists, chunk, 0, &mut row[1..]);
 }

@@ -9,15 +9,16 @@ ghost use Rattle.cache_lists.specs.Linked.{linked_at};
 ghost use Rattle.cache_lists.specs.Segments.{SameSegments};
 ghost use Rattle.cache_nests.specs.Views.{led_at};
 ghost use Rattle.cache_part.specs.Parts.{generation_led};
-ghost use Rattle.cache_part.specs.Putting.{Links, leads_anew};
+ghost use Rattle.cache_part.specs.Putting.{Links, leads_anew, start_of};
 
 use crate::ending::end_unled;
 use crate::finding::Found;
 use bump_heads::Name;
-use bump_rules::ItemId;
+use bump_rules::{ItemId, Start};
 use bump_steps::RowLaw;
 use cache_lists::CountedBook;
 use cache_nests::Index;
+use entry_times::expires_within;
 
 // The index leads to a new item in place of that of a chunk, by one store, and then the old one ends.
 fn replace<N: Name, L: RowLaw>(
@@ -42,13 +43,26 @@ fn replace<N: Name, L: RowLaw>(
     end_unled(lists, index, old);
 }
 
-// Links an item with this row, and tells it; or None where no chunk is free. The index leads to it, in place of the
-// key's old item where it has one, which then ends.
+// Where an item is linked that expires then.
+fn start(temporary: Option<u64>, expires: u64, now: u64) -> Start
+    ensures { result ≡ start_of temporary expires now }
+{
+    if expires_within(temporary, expires, now) {
+        Start::Temp
+    } else {
+        Start::Hot
+    }
+}
+
+// Links an item with this row, which expires then, and tells it; or None where no chunk is free. The index leads to it,
+// in place of the key's old item where it has one, which then ends.
 pub(crate) fn link<N: Name, L: RowLaw>(
     lists: &mut CountedBook<N, L>,
     index: &mut Index,
+    temporary: Option<u64>,
     found: Found,
     row: &[u64],
+    expires: u64,
     now: u64,
 ) -> Option<ItemId>
     requires count { lists.old.book.part.count ≡ length index.old.table }
@@ -56,15 +70,17 @@ pub(crate) fn link<N: Name, L: RowLaw>(
     requires leads { (chunk : ℕ) → generation_led (led_at index.old.table chunk) ≡ linked_at lists.old.book.part chunk }
     requires old { (chunk : ℕ) → found.chunk ≡ Some chunk → IsSome (linked_at lists.old.book.part chunk) }
     requires few { length row.now ≤ N.table.slots }
-    requires law { MayHave L.law 0 row.now }
-    ensures links { IfSome result (λ id. Links found.chunk row.now now id lists.old.book lists.new.book) }
+    requires law { MayHave L.law expires row.now }
+    ensures links { IfSome result (λ id. Links temporary found.chunk row.now expires now id lists.old.book
+        lists.new.book) }
     ensures table { IfSome result (λ id. index.new.table ≡ leads_anew found.hash found.chunk id index.old.table) }
     ensures evictions { lists.new.evictions ≡ lists.old.evictions }
     ensures free { IfNone result (first_of lists.old.book.lists.unused ≡ None) }
     ensures none { IfNone result (lists.new ≡ lists.old) }
     ensures index { IfNone result (index.new ≡ index.old) }
 {
-    let Some(id) = lists.begin(0, row, now) else {
+    let start = start(temporary, expires, now);
+    let Some(id) = lists.begin(start, expires, row, now) else {
         return None;
     };
     match found.chunk {

@@ -1,5 +1,5 @@
 //! Room is made for an item.
-ghost use Rattle.std.specs.Prelude.{◌≡◌, ℕ, ◌+◌, ◌≤◌, None, length, slice_set, IfSome, IfNone};
+ghost use Rattle.std.specs.Prelude.{◌≡◌, ℕ, suc, ◌+◌, ◌≤◌, None, length, slice_set, IfSome, IfNone};
 ghost use Rattle.cache_lists.specs.Items.{KeepsItems};
 ghost use Rattle.cache_lists.specs.Linked.{linked_at};
 ghost use Rattle.cache_lists.specs.Segments.{SameSegments};
@@ -7,6 +7,7 @@ ghost use Rattle.cache_nests.specs.Views.{led_at};
 ghost use Rattle.cache_part.specs.Parts.{generation_led};
 ghost use Rattle.cache_part.specs.Putting.{linked_count, EvictsWhereFull, FreesWhereNone, TellsWords};
 
+use crate::putting::Settings;
 use crate::reading;
 use bump_heads::Name;
 use bump_rules::Place;
@@ -24,36 +25,39 @@ fn count<N: Name, L: RowLaw>(lists: &CountedBook<N, L>) -> u64
         + u64::from(lists.size(Place::Temp))
 }
 
-// Evicts the item whose turn it is, where the key has none and as many as `items` are linked; and tells its chunk, and
-// its words. The index leads to it no more behind that.
+// Evicts the item whose turn it is, where the key has none and as many as may be are linked; and tells its chunk, and
+// its row. The index leads to it no more behind that.
 pub(crate) fn evict_where_full<N: Name, L: RowLaw>(
     lists: &mut CountedBook<N, L>,
     index: &mut Index,
-    items: u32,
+    settings: Settings,
     old: Option<u32>,
     told: &mut [u64],
+    now: u64,
 ) -> Option<u32>
     requires count { lists.old.book.part.count ≡ length index.old.table }
     requires first { lists.old.book.part.first ≡ 0 }
     requires leads { (chunk : ℕ) → generation_led (led_at index.old.table chunk) ≡ linked_at lists.old.book.part chunk }
-    requires few { length told.old ≤ N.table.slots }
-    ensures evicts { EvictsWhereFull items old result lists.old lists.new }
+    requires told { length told.old ≡ suc (settings.key_words + settings.value_words) }
+    requires few { settings.key_words + settings.value_words ≤ N.table.slots }
+    ensures evicts { EvictsWhereFull settings.items now old result lists.old lists.new }
     ensures table { IfSome result (λ chunk. index.new.table ≡ slice_set index.old.table chunk None) }
     ensures index { IfNone result (index.new ≡ index.old) }
-    ensures told { TellsWords (length told.old) result told.old told.new lists.old.book.part }
+    ensures told { TellsWords (settings.key_words + settings.value_words) result told.old told.new
+        lists.old.book.part }
 {
     if old.is_some() {
         return None;
     }
-    if count(lists) < u64::from(items) {
+    if count(lists) < u64::from(settings.items) {
         return None;
     }
-    let Some(victim) = lists.evict() else {
+    let Some(victim) = lists.evict(now) else {
         return None;
     };
     index.clear(victim.chunk);
     // The chunk may be the next one that comes free, and the new item be linked there.
-    reading::read(lists, victim.chunk, 0, told);
+    reading::read_row(lists, victim.chunk, told);
     Some(victim.chunk)
 }
 

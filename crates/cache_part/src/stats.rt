@@ -21,6 +21,9 @@ pub struct Stats {
     /// Items in COLD.
     pub number_cold: u32,
 
+    /// Items in TEMP.
+    pub number_temp: u32,
+
     /// Moves from HOT and WARM to COLD.
     pub moves_to_cold: u64,
 
@@ -30,7 +33,7 @@ pub struct Stats {
     /// Moves from WARM to its front.
     pub moves_within_lru: u64,
 
-    /// Items that were evicted.
+    /// Items that were evicted which hadn't expired.
     pub evicted: u64,
 
     /// Those of them that were never hit.
@@ -42,13 +45,23 @@ pub struct Stats {
     /// Items that a put's own thread evicted. These are all of them: nobody else evicts.
     pub direct_reclaims: u64,
 
+    /// Items that ended in the same way to make room, and had expired.
+    pub reclaimed: u64,
+
+    /// Items that ended since they had expired, to make room or by `Part::end_expired`, and were never hit.
+    pub expired_unfetched: u64,
+
+    /// Items that `Part::end_expired` ended.
+    pub crawler_reclaimed: u64,
+
     /// Each way of items by itself.
     pub flow: Flow,
 }
 
 impl<N: Name, L: RowLaw> Part<N, L> {
     /// The statistics: sizes are the lists', and each count is how often the class's history has such a move
-    /// (`Part::promise` says so of each way, and that what came into HOT, WARM or COLD is there still or went out).
+    /// (`Part::promise` says so of each way, and that what came into HOT, WARM, COLD or TEMP is there still or went
+    /// out).
     pub fn stats(&self) -> Stats
         ensures { result ≡ stats_of self.now }
     {
@@ -58,6 +71,7 @@ impl<N: Name, L: RowLaw> Part<N, L> {
             number_hot: self.lists.size(Place::Hot),
             number_warm: self.lists.size(Place::Warm),
             number_cold: self.lists.size(Place::Cold),
+            number_temp: self.lists.size(Place::Temp),
             moves_to_cold: flow.hot_to_cold.saturating_add(flow.warm_to_cold),
             moves_to_warm: flow.hot_to_warm.saturating_add(flow.cold_to_warm),
             moves_within_lru: flow.warm_to_warm,
@@ -65,6 +79,9 @@ impl<N: Name, L: RowLaw> Part<N, L> {
             evicted_unfetched: evictions.unfetched,
             evicted_active: evictions.active,
             direct_reclaims: evictions.evicted,
+            reclaimed: evictions.reclaimed,
+            expired_unfetched: evictions.expired_unfetched,
+            crawler_reclaimed: evictions.crawler_reclaimed,
             flow,
         }
     }

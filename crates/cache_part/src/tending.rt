@@ -1,13 +1,18 @@
 //! A part is tended: the bumps that wait are applied, and its lists are looked at.
-ghost use Rattle.std.specs.Prelude.{◌≡◌};
+ghost use Rattle.std.specs.Prelude.{◌≡◌, ℕ, ◌≤◌, ◌-◌};
 ghost use Rattle.cache_lists.specs.Items.{KeepsItems};
+ghost use Rattle.cache_part.specs.Expiring.{HasNoneExpired, IsInTurn, KeepsUnexpired, chunk_behind, looks_of};
+ghost use Rattle.cache_part.specs.Parts.{IsPart};
 ghost use Rattle.cache_part.specs.Tending.{BalancesByAge, BalancesOften, BalancesUpTo, DrainsEach, Tends};
 
+use crate::expiring;
+use crate::putting::Settings;
 use bump_class::RawLane;
 use bump_heads::Name;
 use bump_rules::LOOKS;
 use bump_steps::RowLaw;
 use cache_lists::{Bound, Bounds, CountedBook};
+use cache_nests::Index;
 
 // Applies the bumps that wait in the lanes, lane by lane, at most `most` of each.
 pub(crate) fn drain<N: Name, L: RowLaw>(
@@ -71,16 +76,29 @@ fn balance_often<N: Name, L: RowLaw>(lists: &mut CountedBook<N, L>, bounds: Boun
 // The whole turn of a part.
 pub(crate) fn tend<N: Name, L: RowLaw>(
     lists: &mut CountedBook<N, L>,
+    index: &mut Index,
+    settings: Settings,
     lanes: &mut [RawLane<N, L>],
     most: u32,
     now: u64,
     bounds: Bounds,
-)
-    ensures tends { Tends most now bounds lists.old.book lanes.old lists.new.book lanes.new }
-    ensures kept { KeepsItems lists.old.book lists.new.book }
-    ensures evictions { lists.new.evictions ≡ lists.old.evictions }
+    looks: u32,
+    cursor: u32,
+) -> u32
+    requires part { IsPart settings.seed settings.key_words lists.old.book.part index.old.table }
+    requires cursor { cursor ≤ lists.old.book.part.count - 1 }
+    ensures part { IsPart settings.seed settings.key_words lists.new.book.part index.new.table }
+    ensures tends { Tends most now bounds looks cursor lists.old lanes.old lists.new lanes.new }
+    ensures ended { (chunk : ℕ) → IsInTurn cursor (looks_of looks lists.old.book) lists.old.book.part.count chunk
+        → HasNoneExpired now chunk lists.new.book }
+    ensures kept { KeepsUnexpired now lists.old.book lists.new.book }
+    ensures cursor { result ≡ chunk_behind cursor (looks_of looks lists.old.book) lists.old.book.part.count }
+    ensures within { result ≤ lists.new.book.part.count - 1 }
 {
     drain(lists, lanes, most, now);
+    // What ended now is swept at once, where nobody holds it.
+    let turn = expiring::end_expired(lists, index, settings, cursor, looks, now);
     lists.sweep();
     balance_often(lists, bounds, now);
+    turn.cursor
 }

@@ -7,3 +7,4 @@ pub use Rattle.bump_parts.specs.Workers
 pub use Rattle.bump_rules.specs.Rings
 pub use Rattle.bump_steps.specs.References
 pub use Rattle.bump_steps.specs.Rule
+pub use Rattle.entry_times.specs.Times

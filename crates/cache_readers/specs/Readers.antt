@@ -19,8 +19,28 @@ one_more count = min (count + 1) 18446744073709551615
 abbrev pub new_reader : Config → WorkerState → ReaderView
 new_reader config worker = record { config = config; worker = worker; hits = 0; misses = 0 }
 
+-- the reader's worker made steps, and nothing is counted
+abbrev pub CountsNothing : ReaderView → ReaderView → Type 0
+CountsNothing before after = after ≡ record before { worker = after.worker }
+
+-- the same, but a hit is counted
+abbrev pub CountsHit : ReaderView → ReaderView → Type 0
+CountsHit before after = after ≡ record before { worker = after.worker; hits = one_more before.hits }
+
+-- the same, but a miss is counted
+abbrev pub CountsMiss : ReaderView → ReaderView → Type 0
+CountsMiss before after = after ≡ record before { worker = after.worker; misses = one_more before.misses }
+
+-- the ring of the reader's worker is the one that it had
+abbrev pub KeepsRing : ReaderView → ReaderView → Type 0
+KeepsRing before after = after.worker.sender.ring ≡ before.worker.sender.ring
+
+-- a reader's looks for a key found nothing
+abbrev pub ReadsNothing : List ℕ → ℕ → ReaderView → ReaderView → Type 0
+ReadsNothing key now before after = FindsNothing before.config key now before.worker after.worker
+
 -- a get found nothing, and counted one miss
-pub record Misses (key : List ℕ) (before after : ReaderView) : Type 0 where
-  pub nothing : FindsNothing before.config key before.worker after.worker
-  pub missed : after ≡ record before { worker = after.worker; misses = one_more before.misses }
-  pub ring : after.worker.sender.ring ≡ before.worker.sender.ring
+pub record Misses (key : List ℕ) (now : ℕ) (before after : ReaderView) : Type 0 where
+  pub nothing : ReadsNothing key now before after
+  pub missed : CountsMiss before after
+  pub ring : KeepsRing before after

@@ -1,5 +1,6 @@
 //! Readers of a cache whose items lie in the words of their chunks: a get takes no lock and no memory, and waits for
-//! nobody. Keys and values are words here, so many each.
+//! nobody. Keys and values are words here, so many each. The label of an item is when it expires, in the caller's
+//! ticks, and 0 is never.
 #![tactic(auto)]
 
 mod looking;

@@ -1,21 +1,26 @@
 //! Looks at the chunks to which the index leads.
 ghost use Rattle.std.specs.Prelude.{◌≡◌, ◌+◌, ◌≤◌, true, false, IfOk, OnErr, IfSome, IfNone, length};
-ghost use Rattle.cache_readers.specs.Looks.{FindsNothing, HasOtherKey, HasWords, LooksInVain, TakesKey, TouchesUnmarked};
+ghost use Rattle.cache_readers.specs.Looks.{FindsNothing, HasOtherKey, HasWords, LooksInVain, TakesKey};
+ghost use Rattle.cache_readers.specs.Looks.{TouchesUnmarked};
 
 use bump_parts::{Hold, Worker};
 use bump_readers::{Name, ReaderHeads};
 use bump_rules::{Head, ItemId};
 use bump_steps::RowLaw;
 use cache_nests::IndexReader;
+use entry_times::has_expired;
 
-// A search begins anew where the life to which the index led has ended, so often at most: each time the key was put anew,
-// removed or evicted meanwhile.
+// A search begins anew where the life to which the index led has ended, so often at most: each time the key was put
+// anew, removed or evicted meanwhile.
 const TURNS: u32 = 1_000;
 
 // Why a look was in vain.
 pub(crate) enum Vain {
     // The life to which the index led has another key.
     Other,
+
+    // It has the key, and has expired: the search is over.
+    Over,
 
     // That life has ended: the index leads elsewhere by now.
     Ended,
@@ -77,17 +82,19 @@ pub(crate) fn touch<N: Name, L: RowLaw>(
     let _touch = worker.touch(heads, hold, now);
 }
 
-// Looks at a chunk: where its item has the key the hold of it is answered, and the head by which it was taken.
+// Looks at a chunk: where its item has the key and hasn't expired the hold of it is answered, and the head by which it
+// was taken.
 #[inline(always)]
 fn look<N: Name, L: RowLaw>(
     worker: &mut Worker<N>,
     heads: &ReaderHeads<N, L>,
     id: ItemId,
     key: &[u64],
+    now: u64,
 ) -> Result<(Hold<N>, Head), Vain>
     requires few { length key.now ≤ N.table.slots }
-    ensures takes { IfOk result (λ took. TakesKey L.law heads.now key.now worker.old worker.new took.0 took.1) }
-    ensures vain { OnErr result (LooksInVain heads.now key.now worker.old worker.new) }
+    ensures takes { IfOk result (λ took. TakesKey L.law heads.now key.now now worker.old worker.new took.0 took.1) }
+    ensures vain { OnErr result (LooksInVain heads.now key.now now worker.old worker.new) }
     ensures ring { worker.new.sender.ring ≡ worker.old.sender.ring }
 {
     let Ok((mut hold, found)) = worker.get_any(heads, id.chunk) else {
@@ -102,6 +109,10 @@ fn look<N: Name, L: RowLaw>(
             Vain::Ended
         });
     }
+    if has_expired(hold.label(heads), now) {
+        hold.release(heads);
+        return Err(Vain::Over);
+    }
     Ok((hold, found))
 }
 
@@ -113,24 +124,26 @@ fn look_through<N: Name, L: RowLaw>(
     index: &IndexReader,
     hash: u32,
     key: &[u64],
+    now: u64,
 ) -> Result<(Hold<N>, Head), Vain>
     requires few { length key.now ≤ N.table.slots }
-    ensures takes { IfOk result (λ took. TakesKey L.law heads.now key.now worker.old worker.new took.0 took.1) }
-    ensures vain { OnErr result (FindsNothing heads.now key.now worker.old worker.new) }
+    ensures takes { IfOk result (λ took. TakesKey L.law heads.now key.now now worker.old worker.new took.0 took.1) }
+    ensures vain { OnErr result (FindsNothing heads.now key.now now worker.old worker.new) }
     ensures ring { worker.new.sender.ring ≡ worker.old.sender.ring }
 {
     let mut search = index.search(hash);
     while let Some(id) = search.next(index) {
-        match look(worker, heads, id, key) {
+        match look(worker, heads, id, key, now) {
             Ok(took) => return Ok(took),
             Err(Vain::Ended) => return Err(Vain::Ended),
+            Err(Vain::Over) => return Err(Vain::Over),
             Err(Vain::Other) => {}
         }
     }
     Err(Vain::Other)
 }
 
-// Finds the item of a key: a hold of it, and the head by which it was taken.
+// Finds the item of a key that hasn't expired: a hold of it, and the head by which it was taken.
 #[inline(always)]
 pub(crate) fn find<N: Name, L: RowLaw>(
     worker: &mut Worker<N>,
@@ -138,16 +151,18 @@ pub(crate) fn find<N: Name, L: RowLaw>(
     index: &IndexReader,
     hash: u32,
     key: &[u64],
+    now: u64,
 ) -> Option<(Hold<N>, Head)>
     requires few { length key.now ≤ N.table.slots }
-    ensures takes { IfSome result (λ took. TakesKey L.law heads.now key.now worker.old worker.new took.0 took.1) }
-    ensures vain { IfNone result (FindsNothing heads.now key.now worker.old worker.new) }
+    ensures takes { IfSome result (λ took. TakesKey L.law heads.now key.now now worker.old worker.new took.0 took.1) }
+    ensures vain { IfNone result (FindsNothing heads.now key.now now worker.old worker.new) }
     ensures ring { worker.new.sender.ring ≡ worker.old.sender.ring }
 {
     for _turn in 0..TURNS {
-        match look_through(worker, heads, index, hash, key) {
+        match look_through(worker, heads, index, hash, key, now) {
             Ok(took) => return Some(took),
             Err(Vain::Other) => return None,
+            Err(Vain::Over) => return None,
             Err(Vain::Ended) => {}
         }
     }

@@ -3,14 +3,15 @@ ghost use Rattle.std.specs.Prelude.{◌≡◌, ◌+◌, ◌≤◌, true, false, 
 ghost use Rattle.std.specs.Arc.{arc_value};
 ghost use Rattle.bump_rules.specs.declared.hands.Hand.TheVariants as hand;
 ghost use Rattle.bump_rules.specs.Rings.{IsAccounts};
-ghost use Rattle.cache_readers.specs.Looks.{Finds, FindsNothing, HasWords, Hits, Peeks, Sees};
-ghost use Rattle.cache_readers.specs.Readers.{Misses, ReaderView as TheReaderView, one_more, new_reader};
+ghost use Rattle.cache_readers.specs.Looks.{Finds, HasWords, Hits, Peeks, Sees, TakesKey};
+ghost use Rattle.cache_readers.specs.Readers.{CountsHit, CountsMiss, CountsNothing, KeepsRing, Misses, ReadsNothing};
+ghost use Rattle.cache_readers.specs.Readers.{ReaderView as TheReaderView, new_reader};
 
 use crate::looking::{find, read_words, touch};
 use bump_heads::{Heads, Name};
 use bump_parts::{Hold, Worker};
 use bump_readers::ReaderHeads;
-use bump_rules::Accounts;
+use bump_rules::{Accounts, Head};
 use bump_steps::RowLaw;
 use cache_nests::IndexReader;
 use std::alloc::Global;
@@ -39,8 +40,8 @@ impl<N: Name, L: RowLaw> Model for WordReader<N, L> {
 }
 
 impl<N: Name, L: RowLaw> WordReader<N, L> {
-    /// A reader that got nothing yet: by a worker of the store of these heads, and a reader of the index that leads to its
-    /// items.
+    /// A reader that got nothing yet: by a worker of the store of these heads, and a reader of the index that leads to
+    /// its items.
     pub fn new(
         worker: Worker<N>,
         heads: Arc<Heads<N, L>, Global>,
@@ -65,36 +66,46 @@ impl<N: Name, L: RowLaw> WordReader<N, L> {
         &self.heads
     }
 
-    /// Reads the value that was put under a key into `value`, as memcached's `get`, and tells whether there was one.
-    /// `hash` is the key's, any number for a key that isn't there; `now` is the time that a touch stores, in the caller's
-    /// ticks. The words of `key` and `value` are as many as a row has, or fewer, together. It takes no lock and no memory,
-    /// and waits for nobody.
+    // Finds the item of a key by the reader's worker, and does nothing else.
+    #[inline(always)]
+    fn see(&mut self, hash: u32, key: &[u64], now: u64) -> Option<(Hold<N>, Head)>
+        requires few { length key.now ≤ N.table.slots }
+        ensures found { IfSome result (λ took. TakesKey L.law self.old.config key.now now self.old.worker
+            self.new.worker took.0 took.1) }
+        ensures nothing { IfNone result (ReadsNothing key.now now self.old self.new) }
+        ensures uncounted { CountsNothing self.old self.new }
+        ensures ring { KeepsRing self.old self.new }
+    {
+        find(&mut self.worker, &self.heads, &self.index, hash, key, now)
+    }
+
+    /// Reads the value that was put under a key into `value`, as memcached's `get`, and tells whether there was one
+    /// that hasn't expired. `hash` is the key's, any number for a key that isn't there. `now` is the time, in the
+    /// caller's ticks: a touch stores it, and an item whose label isn't 0, and isn't more than it, has expired. The
+    /// words of `key` and `value` are as many as a row has, or fewer, together. It takes no lock and no memory, and
+    /// waits for nobody.
     ///
-    /// It searches the index, and looks at each chunk to which it leads: it takes a hold of the item that is linked there
-    /// then, and compares its key. Where that is another one the hold is given back, and the search goes on. Where it is
-    /// the key, the item is touched, as `Worker::touch` does, unless the head by which the hold was taken had both marks;
-    /// the value is read, and the hold given back. What it read are the words that the put of this life stored.
+    /// It searches the index, and looks at each chunk to which it leads: it takes a hold of the item that is linked
+    /// there then, and compares its key. Where that is another one the hold is given back, and the search goes on.
+    /// Where it is the key, and the item has expired, the hold is given back too, and the search ends: the item stays
+    /// linked. Else the item is touched, as `Worker::touch` does, unless the head by which the hold was taken had both
+    /// marks; the value is read, and the hold given back. What it read are the words that the put of this life stored.
     ///
-    /// Where a life to which the index led has ended meanwhile it searches anew, up to 1,000 times: each time the key was
-    /// put anew, removed or evicted by another thread. It answers false where the index leads to no chunk with the key,
-    /// and behind the last of these searches; nothing is touched then, and `value` is as it was.
+    /// Where a life to which the index led has ended meanwhile it searches anew, up to 1,000 times: each time the key
+    /// was put anew, removed or evicted by another thread. It answers false where the item with the key has expired,
+    /// where the index leads to no chunk with the key, and behind the last of these searches; nothing is touched then,
+    /// and `value` is as it was.
     #[inline(always)]
     pub fn get(&mut self, hash: u32, key: &[u64], value: &mut [u64], now: u64) -> bool
         requires few { length key.now + length value.old ≤ N.table.slots }
         ensures found { result ≡ true → Finds L.law self.old.config key.now value.new now self.old.worker
             self.new.worker }
-        ensures counted { result ≡ true → self.new ≡ record self.old {
-          worker = self.new.worker;
-          hits = one_more self.old.hits;
-        } }
-        ensures nothing { result ≡ false → FindsNothing self.old.config key.now self.old.worker self.new.worker }
-        ensures missed { result ≡ false → self.new ≡ record self.old {
-          worker = self.new.worker;
-          misses = one_more self.old.misses;
-        } }
+        ensures counted { result ≡ true → CountsHit self.old self.new }
+        ensures nothing { result ≡ false → ReadsNothing key.now now self.old self.new }
+        ensures missed { result ≡ false → CountsMiss self.old self.new }
         ensures unread { result ≡ false → value.new ≡ value.old }
         ensures length { length value.new ≡ length value.old }
-        ensures ring { self.new.worker.sender.ring ≡ self.old.worker.sender.ring }
+        ensures ring { KeepsRing self.old self.new }
     {
         if let Some(mut hold) = self.hold(hash, key, now) {
             self.read(&mut hold, key.len(), value);
@@ -104,24 +115,20 @@ impl<N: Name, L: RowLaw> WordReader<N, L> {
         false
     }
 
-    /// The same, but hands out the hold of the item, whose value isn't read yet; or `None` where `get` answers false. It
-    /// searches, touches and counts as `get` does. The words of `key` are as many as a row has, or fewer. While there is
-    /// the hold its item's chunk isn't free, and keeps its words, whatever is put, removed or evicted meanwhile. It must be
-    /// spent, by `Hold::release` with `heads`.
+    /// The same, but hands out the hold of the item, whose value isn't read yet; or `None` where `get` answers false.
+    /// It searches, touches and counts as `get` does. The words of `key` are as many as a row has, or fewer. While
+    /// there is the hold its item's chunk isn't free, and keeps its words, whatever is put, removed or evicted
+    /// meanwhile, and also once it has expired. It must be spent, by `Hold::release` with `heads`.
     #[inline(always)]
     pub fn hold(&mut self, hash: u32, key: &[u64], now: u64) -> Option<Hold<N>>
         requires few { length key.now ≤ N.table.slots }
         ensures found { IfSome result (λ hold. Hits L.law self.old.config key.now now self.old.worker self.new.worker
             hold) }
-        ensures counted { IfSome result (λ hold. self.new ≡ record self.old {
-          worker = self.new.worker;
-          hits = one_more self.old.hits;
-        }) }
-        ensures missed { IfNone result (Misses key.now self.old self.new) }
-        ensures ring { self.new.worker.sender.ring ≡ self.old.worker.sender.ring }
+        ensures counted { IfSome result (λ hold. CountsHit self.old self.new) }
+        ensures missed { IfNone result (Misses key.now now self.old self.new) }
+        ensures ring { KeepsRing self.old self.new }
     {
-        let Some((mut hold, found)) = find(&mut self.worker, &self.heads, &self.index, hash, key)
-        else {
+        let Some((mut hold, found)) = self.see(hash, key, now) else {
             self.misses = self.misses.saturating_add(1);
             return None;
         };
@@ -142,19 +149,20 @@ impl<N: Name, L: RowLaw> WordReader<N, L> {
         read_words(hold, &self.heads, from, words);
     }
 
-    /// Reads the value as `get` does, but the item isn't touched, and nothing is counted: so it may be evicted as if it
-    /// hadn't been asked for.
+    /// Reads the value as `get` does, of an item that hasn't expired at `now`, but the item isn't touched, and nothing
+    /// is counted: so it may be evicted as if it hadn't been asked for.
     #[inline(always)]
-    pub fn peek(&mut self, hash: u32, key: &[u64], value: &mut [u64]) -> bool
+    pub fn peek(&mut self, hash: u32, key: &[u64], value: &mut [u64], now: u64) -> bool
         requires few { length key.now + length value.old ≤ N.table.slots }
-        ensures found { result ≡ true → Peeks L.law self.old.config key.now value.new self.old.worker self.new.worker }
-        ensures nothing { result ≡ false → FindsNothing self.old.config key.now self.old.worker self.new.worker }
-        ensures uncounted { self.new ≡ record self.old { worker = self.new.worker } }
+        ensures found { result ≡ true → Peeks L.law self.old.config key.now value.new now self.old.worker
+            self.new.worker }
+        ensures nothing { result ≡ false → ReadsNothing key.now now self.old self.new }
+        ensures uncounted { CountsNothing self.old self.new }
         ensures unread { result ≡ false → value.new ≡ value.old }
         ensures length { length value.new ≡ length value.old }
-        ensures ring { self.new.worker.sender.ring ≡ self.old.worker.sender.ring }
+        ensures ring { KeepsRing self.old self.new }
     {
-        let Some((mut hold, _)) = find(&mut self.worker, &self.heads, &self.index, hash, key) else {
+        let Some((mut hold, _)) = self.see(hash, key, now) else {
             return false;
         };
         read_words(&mut hold, &self.heads, key.len(), value);
@@ -162,21 +170,29 @@ impl<N: Name, L: RowLaw> WordReader<N, L> {
         true
     }
 
-    /// Whether there is a value under a key: `peek` without the value. The words of `key` are as many as a row has, or
-    /// fewer.
+    /// Whether there is a value under a key that hasn't expired at `now`: `peek` without the value. The words of `key`
+    /// are as many as a row has, or fewer.
     #[inline(always)]
-    pub fn contains(&mut self, hash: u32, key: &[u64]) -> bool
+    pub fn contains(&mut self, hash: u32, key: &[u64], now: u64) -> bool
         requires few { length key.now ≤ N.table.slots }
-        ensures found { result ≡ true → Sees L.law self.old.config key.now self.old.worker self.new.worker }
-        ensures nothing { result ≡ false → FindsNothing self.old.config key.now self.old.worker self.new.worker }
-        ensures uncounted { self.new ≡ record self.old { worker = self.new.worker } }
-        ensures ring { self.new.worker.sender.ring ≡ self.old.worker.sender.ring }
+        ensures found { result ≡ true → Sees L.law self.old.config key.now now self.old.worker self.new.worker }
+        ensures nothing { result ≡ false → ReadsNothing key.now now self.old self.new }
+        ensures uncounted { CountsNothing self.old self.new }
+        ensures ring { KeepsRing self.old self.new }
     {
-        let Some((hold, _)) = find(&mut self.worker, &self.heads, &self.index, hash, key) else {
+        let Some((hold, _)) = self.see(hash, key, now) else {
             return false;
         };
         hold.release(&self.heads);
         true
+    }
+
+    /// Loads the word of the index at which a search for this hash begins, and lets it go: a search for the same hash
+    /// that comes soon needn't wait for the memory in which the word lies. Nothing changes, and nothing is told. It
+    /// takes no lock and no memory, and waits for nobody.
+    #[inline(always)]
+    pub fn look_ahead(&self, hash: u32) {
+        let _search = self.index.search(hash);
     }
 
     /// How many gets found something (memcached's `get_hits`), at most 2^64 - 1.

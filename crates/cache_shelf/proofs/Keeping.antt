@@ -1,14 +1,17 @@
 -- What a part keeps where its items and their words stay.
-use Rattle.std.proofs.Common.{◌≡◌, ℕ, List, Option, Some, None, IsSome, IfSome, Result, Ok, Err, IfOk, IfErr, sym, ap, ap₂, ◌∙◌, subst}
+use Rattle.std.proofs.Common.{◌≡◌, ℕ, ◌+◌, false, List, ◌∷◌, Option, Some, None, IsSome, IfSome, Result, Ok, Err, IfOk, IfErr, ◌⊎◌, inl, inr, sym, ap, ap₂, ◌∙◌, subst}
 use std.Path.{fun_ext}
 use Rattle.bump_steps.specs.Rule.{RowPredicate}
-use Rattle.bump_steps.specs.Views.{last_word}
+use Rattle.bump_steps.specs.Views.{last_label, last_word}
 use Rattle.cache_lists.specs.Items.{KeepsItems}
 use Rattle.cache_lists.specs.Linked.{linked_at}
-use Rattle.cache_part.specs.Keys.{key_at, value_at}
+use Rattle.cache_part.specs.Expiring.{EndedExpired, KeepsUnexpired}
+use Rattle.cache_part.specs.Keys.{key_at, value_at, words_from}
 use Rattle.cache_part.specs.Parts.{PartView, IsUnder, IsUnknown}
+use Rattle.cache_part.specs.Putting.{row_at}
 use Rattle.cache_part.proofs.KeyLemmas.{words_same}
-use Rattle.cache_shelf.specs.Entries.{Keeps, AllKept}
+use Rattle.entry_times.specs.Times.{has_expired}
+use Rattle.cache_shelf.specs.Entries.{Keeps, AllKept, AllUnexpiredKept}
 use Rattle.cache_shelf.specs.Shelves.{IsLawful, Obeys}
 
 -- keys and values of both parts have as many words
@@ -25,6 +28,36 @@ alike_then before between after one other = record {
   key_words = other.key_words ∙ one.key_words;
   value_words = other.value_words ∙ one.value_words;
 }
+
+-- they have behind a put
+pub alike_put : (before after : PartView) → after ≡ record before {
+  book = after.book;
+  flow = after.flow;
+  evictions = after.evictions;
+  index = after.index;
+} → IsAlike before after
+alike_put before after rest =
+    record { key_words = ap (λ p. p.key_words) rest; value_words = ap (λ p. p.value_words) rest }
+
+-- behind a removal
+pub alike_removed : (before after : PartView) → after ≡ record before {
+  book = after.book;
+  flow = after.flow;
+  index = after.index;
+} → IsAlike before after
+alike_removed before after rest =
+    record { key_words = ap (λ p. p.key_words) rest; value_words = ap (λ p. p.value_words) rest }
+
+-- and behind a tend
+pub alike_tended : (before after : PartView) → after ≡ record before {
+  book = after.book;
+  flow = after.flow;
+  evictions = after.evictions;
+  index = after.index;
+  cursor = after.cursor;
+} → IsAlike before after
+alike_tended before after rest =
+    record { key_words = ap (λ p. p.key_words) rest; value_words = ap (λ p. p.value_words) rest }
 
 -- this chunk has the words that it had
 abbrev pub SameWords : ℕ → PartView → PartView → Type 0
@@ -44,6 +77,20 @@ value_stays before after chunk alike words =
     ap₂ (λ m n. value_at m n after.book.part chunk) alike.key_words alike.value_words
     ∙ words_same before.book.part after.book.part chunk before.key_words before.value_words words
 
+-- and the time at which it expires, and then the value
+pub old_stays : (before after : PartView) (chunk : ℕ) → IsAlike before after → SameWords chunk before after
+    → last_label after.book.part chunk ∷ value_at after.key_words after.value_words after.book.part chunk
+    ≡ last_label before.book.part chunk ∷ value_at before.key_words before.value_words before.book.part chunk
+old_stays before after chunk alike words =
+    ap₂ (λ label value. label ∷ value) (words 0) (value_stays before after chunk alike words)
+
+-- and the whole row
+pub row_stays : (before after : PartView) (chunk : ℕ) → IsAlike before after → SameWords chunk before after
+    → row_at after chunk ≡ row_at before chunk
+row_stays before after chunk alike words = ap₂ (λ label row. label ∷ row) (words 0)
+    (ap₂ (λ m n. words_from 0 (m + n) after.book.part chunk) alike.key_words alike.value_words
+    ∙ words_same before.book.part after.book.part chunk 0 (before.key_words + before.value_words) words)
+
 -- and obeys the law as it did
 pub obeys_stays : (law : RowPredicate) (before after : PartView) (chunk : ℕ) → SameWords chunk before after
     → Obeys law before chunk → Obeys law after chunk
@@ -59,13 +106,15 @@ under_stays key before after chunk alike linked words under = record {
 }
 
 -- and what it keeps stays
-pub keeps_stays : (key value : List ℕ) (before after : PartView) → IsAlike before after → (kept : Keeps key value before)
+pub keeps_stays : (key value : List ℕ) (expires : ℕ) (before after : PartView) → IsAlike before after
+    → (kept : Keeps key value expires before)
     → linked_at after.book.part kept.chunk ≡ linked_at before.book.part kept.chunk
-    → SameWords kept.chunk before after → Keeps key value after
-keeps_stays key value before after alike kept linked words = record {
+    → SameWords kept.chunk before after → Keeps key value expires after
+keeps_stays key value expires before after alike kept linked words = record {
   chunk = kept.chunk;
   under = under_stays key before after kept.chunk alike linked words kept.under;
   value = value_stays before after kept.chunk alike words ∙ kept.value;
+  label = words 0 ∙ kept.label;
 }
 
 -- where the same items are linked with the same words
@@ -76,16 +125,16 @@ module _ (before after : PartView) (alike : IsAlike before after) (items : Keeps
   words_back : (chunk : ℕ) → SameWords chunk after before
   words_back chunk i = sym (items.words i chunk)
 
-  pub moved_keeps : (key value : List ℕ) → Keeps key value before → Keeps key value after
-  moved_keeps key value kept =
-      keeps_stays key value before after alike kept (items.linked kept.chunk) (same_words kept.chunk)
+  pub moved_keeps : (key value : List ℕ) (expires : ℕ) → Keeps key value expires before → Keeps key value expires after
+  moved_keeps key value expires kept =
+      keeps_stays key value expires before after alike kept (items.linked kept.chunk) (same_words kept.chunk)
 
-  pub moved_kept : (key value : List ℕ) → Keeps key value after → Keeps key value before
-  moved_kept key value kept = keeps_stays key value after before (alike_back before after alike) kept
+  pub moved_kept : (key value : List ℕ) (expires : ℕ) → Keeps key value expires after → Keeps key value expires before
+  moved_kept key value expires kept = keeps_stays key value expires after before (alike_back before after alike) kept
       (sym (items.linked kept.chunk)) (words_back kept.chunk)
 
   pub moved_all : AllKept None before after
-  moved_all key value other = (moved_keeps key value, moved_kept key value)
+  moved_all key value expires other = (moved_keeps key value expires, moved_kept key value expires)
 
   pub moved_under : (key : List ℕ) (chunk : ℕ) → IsUnder key chunk before → IsUnder key chunk after
   moved_under key chunk under =
@@ -101,6 +150,51 @@ module _ (before after : PartView) (alike : IsAlike before after) (items : Keeps
   pub moved_lawful : (law : RowPredicate) → IsLawful law before → IsLawful law after
   moved_lawful law lawful chunk some = obeys_stays law before after chunk (same_words chunk)
       (lawful chunk (subst IsSome (items.linked chunk) some))
+
+-- what isn't linked isn't something
+pub not_linked : (linked : Option ℕ) → linked ≡ None → IsSome linked → ⊥
+not_linked linked none some = absurd (cc (subst IsSome none some))
+
+-- where what hasn't expired stays linked, and each chunk has its words
+module _ (now : ℕ) (before after : PartView) (alike : IsAlike before after)
+    (items : KeepsUnexpired now before.book after.book) where
+  unexpired_words : (chunk : ℕ) → SameWords chunk before after
+  unexpired_words chunk i = items.words i chunk
+
+  -- what is linked behind it was linked
+  pub was_unexpired : (chunk : ℕ) → IsSome (linked_at after.book.part chunk)
+      → linked_at after.book.part chunk ≡ linked_at before.book.part chunk
+  was_unexpired chunk some = by (items.linked chunk)
+    where
+      by : (linked_at after.book.part chunk ≡ linked_at before.book.part chunk)
+          ⊎ EndedExpired now chunk before.book after.book
+          → linked_at after.book.part chunk ≡ linked_at before.book.part chunk
+      by (inl same) = same
+      by (inr ended) = absurd (not_linked (linked_at after.book.part chunk) ended.gone some)
+
+  -- and so is what was kept, where it hasn't expired
+  unexpired_stays : (key value : List ℕ) (expires : ℕ) → has_expired expires now ≡ false
+      → (kept : Keeps key value expires before)
+      → linked_at after.book.part kept.chunk ≡ linked_at before.book.part kept.chunk
+  unexpired_stays key value expires fresh kept = by (items.linked kept.chunk)
+    where
+      by : (linked_at after.book.part kept.chunk ≡ linked_at before.book.part kept.chunk)
+          ⊎ EndedExpired now kept.chunk before.book after.book
+          → linked_at after.book.part kept.chunk ≡ linked_at before.book.part kept.chunk
+      by (inl same) = same
+      by (inr ended) = absurd (cc (sym fresh ∙ (ap (λ at. has_expired at now) (sym kept.label) ∙ ended.expired)))
+
+  pub unexpired_all : AllUnexpiredKept now before after
+  unexpired_all = record {
+    stay = λ key value expires fresh kept. keeps_stays key value expires before after alike kept
+        (unexpired_stays key value expires fresh kept) (unexpired_words kept.chunk);
+    kept = λ key value expires kept. keeps_stays key value expires after before (alike_back before after alike) kept
+        (sym (was_unexpired kept.chunk kept.under.linked)) (λ i. sym (unexpired_words kept.chunk i));
+  }
+
+  pub unexpired_lawful : (law : RowPredicate) → IsLawful law before → IsLawful law after
+  unexpired_lawful law lawful chunk some = obeys_stays law before after chunk (unexpired_words chunk)
+      (lawful chunk (subst IsSome (was_unexpired chunk some) some))
 
 -- what holds where a call succeeded
 pub where_ok : {A B : Type 0} (r : Result A B) (P Q : A → Type 0) → ((a : A) → P a → Q a) → IfOk r P → IfOk r Q

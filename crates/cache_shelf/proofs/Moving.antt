@@ -1,21 +1,20 @@
 -- What is said of a change of a part, where its items move from list to list before or behind it.
-use Rattle.std.proofs.Common.{◌≡◌, ℕ, ◌+◌, List, ◌++◌, length, take, drop, Option, Some, None, IsSome, IfNone, refl, sym, ap, ap₂, ◌∙◌, subst}
+use Rattle.std.proofs.Common.{◌≡◌, ℕ, List, ◌∷◌, ◌++◌, length, take, drop, Option, Some, None, IsSome, IfNone, refl, sym, ap, ◌∙◌, subst}
 use Rattle.std.proofs.Math.Seq.{take-append_seam}
 use Rattle.bump_class.specs.Books.{BookView}
 use Rattle.bump_class.specs.Lanes.{LaneView}
 use Rattle.bump_steps.specs.Rule.{RowPredicate}
-use Rattle.bump_steps.specs.Views.{last_word}
+use Rattle.bump_steps.specs.Views.{last_label, last_word}
 use Rattle.cache_lists.specs.Items.{KeepsItems}
-use Rattle.cache_part.specs.Keys.{key_at, value_at, words_from}
+use Rattle.cache_part.specs.Keys.{key_at, value_at}
 use Rattle.cache_part.specs.Parts.{PartView, IsItem, IsUnknown}
-use Rattle.cache_part.proofs.KeyLemmas.{words_same}
 use Rattle.cache_part.proofs.LookLemmas.{looks_keep}
 use Rattle.cache_part.specs.Tending.{DrainsEach}
 use Rattle.cache_shelf.specs.Entries.{Keeps, AllKept, Evicted, Had, OnlyReads, OthersKept, key_of_evicted}
 use Rattle.cache_shelf.specs.Limits.{put_bumps}
 use Rattle.cache_shelf.specs.Shelves.{IsLawful, ShelfView}
 use Rattle.cache_shelf.specs.Turns.{OnlyMoves, PutsInTurn, TakesTurn}
-use Rattle.cache_shelf.proofs.Keeping.{IsAlike, alike_back, key_stays, moved_all, moved_keeps, moved_unknown, moved_under, obeys_stays, unknown_before, value_stays}
+use Rattle.cache_shelf.proofs.Keeping.{IsAlike, alike_back, key_stays, moved_all, moved_keeps, moved_unknown, moved_under, obeys_stays, old_stays, row_stays, unknown_before}
 
 -- items stay linked with their words, and keys and values have as many words
 pub record Moves (before after : PartView) : Type 0 where
@@ -46,15 +45,15 @@ only_move before after moves = record {
 module _ (before between after : PartView) (moves : Moves between after) where
   pub others_then : (key : List ℕ) (out : Option (List ℕ)) → OthersKept key out before between
       → OthersKept key out before after
-  others_then key out others other value differs not_out =
-      let one = others other value differs not_out in
-      let two = moved_all between after moves.alike moves.items other value (λ e. absurd (cc e)) in
+  others_then key out others other value expires differs not_out =
+      let one = others other value expires differs not_out in
+      let two = moved_all between after moves.alike moves.items other value expires (λ e. absurd (cc e)) in
       (λ kept. two.0 (one.0 kept), λ kept. one.1 (two.1 kept))
 
   pub all_then : (out : Option (List ℕ)) → AllKept out before between → AllKept out before after
-  all_then out all other value not_out =
-      let one = all other value not_out in
-      let two = moved_all between after moves.alike moves.items other value (λ e. absurd (cc e)) in
+  all_then out all other value expires not_out =
+      let one = all other value expires not_out in
+      let two = moved_all between after moves.alike moves.items other value expires (λ e. absurd (cc e)) in
       (λ kept. two.0 (one.0 kept), λ kept. one.1 (two.1 kept))
 
   pub evicted_then : (law : RowPredicate) (evicted : Option ℕ) (from to : List ℕ)
@@ -82,15 +81,15 @@ module _ (before between after : PartView) (moves : Moves before between) where
 
   pub others_before : (key : List ℕ) (out : Option (List ℕ)) → OthersKept key out between after
       → OthersKept key out before after
-  others_before key out others other value differs not_out =
-      let one = moved_all before between moves.alike moves.items other value (λ e. absurd (cc e)) in
-      let two = others other value differs not_out in
+  others_before key out others other value expires differs not_out =
+      let one = moved_all before between moves.alike moves.items other value expires (λ e. absurd (cc e)) in
+      let two = others other value expires differs not_out in
       (λ kept. two.0 (one.0 kept), λ kept. one.1 (two.1 kept))
 
   pub all_before : (out : Option (List ℕ)) → AllKept out between after → AllKept out before after
-  all_before out all other value not_out =
-      let one = moved_all before between moves.alike moves.items other value (λ e. absurd (cc e)) in
-      let two = all other value not_out in
+  all_before out all other value expires not_out =
+      let one = moved_all before between moves.alike moves.items other value expires (λ e. absurd (cc e)) in
+      let two = all other value expires not_out in
       (λ kept. two.0 (one.0 kept), λ kept. one.1 (two.1 kept))
 
   pub had_before : (law : RowPredicate) (key : List ℕ) (told : Option ℕ) (from to : List ℕ)
@@ -100,7 +99,7 @@ module _ (before between after : PartView) (moves : Moves before between) where
   had_before law key (Some c) from to had = record {
     under = moved_under between before (alike_back before between moves.alike) items_back key c had.under;
     obeys = obeys_stays law between before c (back c) had.obeys;
-    told = had.told ∙ value_stays before between c moves.alike (λ i. moves.items.words i c);
+    told = had.told ∙ old_stays before between c moves.alike (λ i. moves.items.words i c);
   }
     where
       items_back : KeepsItems between.book before.book
@@ -116,27 +115,23 @@ module _ (before between after : PartView) (moves : Moves before between) where
   evicted_before law (Some c) from to did = record {
     linked = subst IsSome (moves.items.linked c) did.linked;
     obeys = obeys_stays law between before c (back c) did.obeys;
-    told = did.told ∙ (ap₂ (λ m n. row_of (m + n)) moves.alike.key_words moves.alike.value_words
-        ∙ words_same before.book.part between.book.part c 0 (before.key_words + before.value_words)
-        (λ i. moves.items.words i c));
+    told = did.told ∙ row_stays before between c moves.alike (λ i. moves.items.words i c);
     unknown = subst (λ key. IsUnknown key after) (key_of c) did.unknown;
   }
-    where
-      row_of : ℕ → List ℕ
-      row_of n = words_from 0 n between.book.part c
 
--- what the key had, by what was read behind a change that keeps its words
+-- what the key had, by what was read behind a change that keeps its row
 pub had_read : (law : RowPredicate) (key : List ℕ) (told : Option ℕ) (from to : List ℕ) (before seen : PartView)
     → IsLawful law before → IsItem key told before → IsAlike before seen
     → ((c : ℕ) → told ≡ Some c → (i : ℕ) → last_word i seen.book.part c ≡ last_word i before.book.part c)
     → IfNone told (to ≡ from)
-    → ((c : ℕ) → told ≡ Some c → to ≡ value_at seen.key_words seen.value_words seen.book.part c)
+    → ((c : ℕ) → told ≡ Some c → to ≡ last_label seen.book.part c
+    ∷ value_at seen.key_words seen.value_words seen.book.part c)
     → Had law key told from to before
 had_read law key None from to before seen lawful item alike words none some = (item, none)
 had_read law key (Some c) from to before seen lawful item alike words none some = record {
   under = item;
   obeys = lawful c item.linked;
-  told = some c refl ∙ value_stays before seen c alike (words c refl);
+  told = some c refl ∙ old_stays before seen c alike (words c refl);
 }
 
 -- lanes that had their turns, as a slice of the vector that they lie in
@@ -166,10 +161,11 @@ module _ {before drained mid after : PartView} (moves : OnlyMoves before drained
   late : Moves mid after
   late = only_move mid after turn
 
-  pub kept_in_turn : (row : List ℕ) → Keeps (take drained.key_words row) (drop drained.key_words row) mid
-      → Keeps (take before.key_words row) (drop before.key_words row) after
-  kept_in_turn row kept = subst (λ n. Keeps (take n row) (drop n row) after) early.alike.key_words
-      (moved_keeps mid after late.alike late.items _ _ kept)
+  pub kept_in_turn : (row : List ℕ) (expires : ℕ)
+      → Keeps (take drained.key_words row) (drop drained.key_words row) expires mid
+      → Keeps (take before.key_words row) (drop before.key_words row) expires after
+  kept_in_turn row expires kept = subst (λ n. Keeps (take n row) (drop n row) expires after) early.alike.key_words
+      (moved_keeps mid after late.alike late.items _ _ expires kept)
 
   pub had_in_turn : (law : RowPredicate) (row : List ℕ) (told : Option ℕ) (from to : List ℕ)
       → Had law (take drained.key_words row) told from to drained → Had law (take before.key_words row) told from to before

@@ -10,7 +10,7 @@ use Rattle.cache_part.specs.Parts.{PartView, IsItem, IsPart, IsUnder, IsUnknown}
 use Rattle.cache_part.specs.Putting.{IsFresh, OthersStay, TellsRow, WasAnother}
 use Rattle.cache_shelf.specs.Entries.{Keeps, AllKept, Evicted, OthersKept, key_of_evicted}
 use Rattle.cache_shelf.specs.Shelves.{IsLawful, Obeys}
-use Rattle.cache_shelf.proofs.Keeping.{IsAlike, alike_back, key_stays, keeps_stays, obeys_stays}
+use Rattle.cache_shelf.proofs.Keeping.{IsAlike, alike_back, key_stays, keeps_stays, not_linked, obeys_stays}
 
 -- whether it is this chunk
 is_this : (told : Option ℕ) (c : ℕ) → (told ≡ Some c) ⊎ (told ≢ Some c)
@@ -20,10 +20,6 @@ is_this (Some chunk) c = by (chunk == c) refl
     by : (b : Bool) → (chunk == c) ≡ b → (Some chunk ≡ Some c) ⊎ (Some chunk ≢ Some c)
     by true e = inl (ap Some (eqb-true chunk c e))
     by false e = inr (λ same. let one : chunk ≡ c = cc in absurd (cc (sym e ∙ eq-eqb chunk c one)))
-
--- what isn't linked isn't something
-not_linked : (linked : Option ℕ) → linked ≡ None → IsSome linked → ⊥
-not_linked linked none some = absurd (cc (subst IsSome none some))
 
 -- an item is put at this chunk under its key, in place of that of `old`, behind which that of `evicted` is gone
 module _ (key : List ℕ) (before after : PartView) (chunk : ℕ) (old evicted : Option ℕ) (alike : IsAlike before after)
@@ -48,10 +44,10 @@ module _ (key : List ℕ) (before after : PartView) (chunk : ℕ) (old evicted :
 
   -- under each other key stays what was there
   pub put_others : OthersKept key (key_of_evicted evicted before) before after
-  put_others other value differs not_out = (forth, back)
+  put_others other value expires differs not_out = (forth, back)
     where
-      forth : Keeps other value before → Keeps other value after
-      forth kept = keeps_stays other value before after alike kept (others.linked kept.chunk new old_one out)
+      forth : Keeps other value expires before → Keeps other value expires after
+      forth kept = keeps_stays other value expires before after alike kept (others.linked kept.chunk new old_one out)
           (λ i. others.words i kept.chunk new)
         where
           out : evicted ≢ Some kept.chunk
@@ -65,8 +61,8 @@ module _ (key : List ℕ) (before after : PartView) (chunk : ℕ) (old evicted :
               (subst (λ o. IfSome o (λ c. linked_at before.book.part c ≡ None)) same (fresh (λ e. out (e ∙ same))))
               kept.under.linked
 
-      back : Keeps other value after → Keeps other value before
-      back kept = keeps_stays other value after before (alike_back before after alike) kept
+      back : Keeps other value expires after → Keeps other value expires before
+      back kept = keeps_stays other value expires after before (alike_back before after alike) kept
           (sym (was_linked kept.chunk new kept.under.linked)) (λ i. sym (others.words i kept.chunk new))
         where
           new : Some chunk ≢ Some kept.chunk
@@ -112,9 +108,9 @@ module _ (key : List ℕ) (before after : PartView) (chunk : ℕ) (old evicted :
           }
 
   -- the law holds of each item
-  pub put_lawful : (law : RowPredicate) (row : List ℕ) → IsLawful law before → MayHave law 0 row
-      → HasRow chunk 0 row after.book → IsLawful law after
-  put_lawful law row lawful may has c some = by (is_this (Some chunk) c)
+  pub put_lawful : (law : RowPredicate) (row : List ℕ) (expires : ℕ) → IsLawful law before → MayHave law expires row
+      → HasRow chunk expires row after.book → IsLawful law after
+  put_lawful law row expires lawful may has c some = by (is_this (Some chunk) c)
     where
       by : (Some chunk ≡ Some c) ⊎ (Some chunk ≢ Some c) → Obeys law after c
       by (inl same) = subst (λ o. IfSome o (Obeys law after)) same (may (last_words after.book.part chunk) has)
@@ -141,16 +137,17 @@ module _ (before after : PartView) (evicted : Option ℕ) (alike : IsAlike befor
 
   -- under each other key stays what was there
   pub refused_others : AllKept (key_of_evicted evicted before) before after
-  refused_others other value not_out = (forth, back)
+  refused_others other value expires not_out = (forth, back)
     where
-      forth : Keeps other value before → Keeps other value after
-      forth kept = keeps_stays other value before after alike kept (still kept.chunk (stays kept)) (words kept.chunk)
+      forth : Keeps other value expires before → Keeps other value expires after
+      forth kept = keeps_stays other value expires before after alike kept (still kept.chunk (stays kept))
+          (words kept.chunk)
         where
-          stays : (kept : Keeps other value before) → evicted ≢ Some kept.chunk
+          stays : (kept : Keeps other value expires before) → evicted ≢ Some kept.chunk
           stays kept same = not_out (ap (λ e. key_of_evicted e before) same ∙ ap Some kept.under.key)
 
-      back : Keeps other value after → Keeps other value before
-      back kept = keeps_stays other value after before (alike_back before after alike) kept
+      back : Keeps other value expires after → Keeps other value expires before
+      back kept = keeps_stays other value expires after before (alike_back before after alike) kept
           (sym (still kept.chunk (out_of kept.chunk kept.under.linked))) (λ i. sym (words kept.chunk i))
 
   -- what is told of the evicted one

@@ -61,8 +61,8 @@ module _ (key : List ℕ) (before after : PartView) (alike : IsAlike before afte
   pub removed_others : (told : Option ℕ) → IfSome told (λ c. IsUnder key c before)
       → IfSome told (λ c. EndsAt c before.book after.book) → IfNone told (LooksOnly before.book after.book)
       → OthersKept key None before after
-  removed_others told found ends looks other value differs not_out =
-      refused_others before after told alike (stay told ends looks) (was told found) (gone told ends) other value
+  removed_others told found ends looks other value expires differs not_out =
+      refused_others before after told alike (stay told ends looks) (was told found) (gone told ends) other value expires
       (is_other told found)
     where
       is_other : (it : Option ℕ) → IfSome it (λ c. IsUnder key c before) → key_of_evicted it before ≢ Some other

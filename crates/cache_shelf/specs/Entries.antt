@@ -1,43 +1,54 @@
--- What a part keeps, as a table of keys and values: each is a list of words.
-use Rattle.std.specs.Prelude.{◌≡◌, ◌≢◌, ◌↔◌, ℕ, List, Option, None, Some, IsSome, option_map}
+-- What a part keeps, as a table of keys and values, each of which is a list of words, and of times at which they
+-- expire.
+use Rattle.std.specs.Prelude.{◌≡◌, ◌≢◌, ◌↔◌, ℕ, false, List, ◌∷◌, Option, None, Some, IsSome, option_map}
 use Rattle.bump_links.specs.Lists.{first_of}
 use Rattle.bump_steps.specs.Rule.{RowPredicate}
+use Rattle.bump_steps.specs.Views.{last_label}
 use Rattle.cache_lists.specs.Linked.{linked_at}
 use Rattle.cache_part.specs.Keys.{key_at, value_at}
 use Rattle.cache_part.specs.Looks.{LooksOnly}
 use Rattle.cache_part.specs.Parts.{PartView, IsItem, IsUnder, IsUnknown, counted}
 use Rattle.cache_part.specs.Putting.{MakesRoom, Puts, row_at}
+use Rattle.entry_times.specs.Times.{has_expired}
 use Rattle.cache_shelf.specs.Shelves.{Obeys}
 
--- An item with this key is linked, and this is its value.
-pub record Keeps (key words : List ℕ) (part : PartView) : Type 0 where
+-- An item with this key is linked, this is its value, and it expires at this time.
+pub record Keeps (key words : List ℕ) (expires : ℕ) (part : PartView) : Type 0 where
   pub chunk : ℕ
   pub under : IsUnder key chunk part
   pub value : value_at part.key_words part.value_words part.book.part chunk ≡ words
+  pub label : last_label part.book.part chunk ≡ expires
 
 -- Under each key but these two it keeps what it kept.
 abbrev pub OthersKept : List ℕ → Option (List ℕ) → PartView → PartView → Type 0
-OthersKept key evicted before after = (other value : List ℕ) → other ≢ key → evicted ≢ Some other
-    → Keeps other value before ↔ Keeps other value after
+OthersKept key evicted before after = (other value : List ℕ) (expires : ℕ) → other ≢ key → evicted ≢ Some other
+    → Keeps other value expires before ↔ Keeps other value expires after
 
 -- Under each key but this one it keeps what it kept.
 abbrev pub AllKept : Option (List ℕ) → PartView → PartView → Type 0
-AllKept evicted before after = (other value : List ℕ) → evicted ≢ Some other
-    → Keeps other value before ↔ Keeps other value after
+AllKept evicted before after = (other value : List ℕ) (expires : ℕ) → evicted ≢ Some other
+    → Keeps other value expires before ↔ Keeps other value expires after
 
--- The item of this chunk has the key, the table's law holds of it, and these are the words of its value.
+-- Under each key what hasn't expired stays kept, and what it keeps it kept.
+pub record AllUnexpiredKept (now : ℕ) (before after : PartView) : Type 0 where
+  pub stay : (key value : List ℕ) (expires : ℕ) → has_expired expires now ≡ false → Keeps key value expires before
+      → Keeps key value expires after
+  pub kept : (key value : List ℕ) (expires : ℕ) → Keeps key value expires after → Keeps key value expires before
+
+-- The item of this chunk has the key, the table's law holds of it, and these words are the time at which it expires and
+-- then its value.
 pub record HadAt (law : RowPredicate) (key : List ℕ) (chunk : ℕ) (words : List ℕ) (part : PartView) : Type 0 where
   pub under : IsUnder key chunk part
   pub obeys : Obeys law part chunk
-  pub told : words ≡ value_at part.key_words part.value_words part.book.part chunk
+  pub told : words ≡ last_label part.book.part chunk ∷ value_at part.key_words part.value_words part.book.part chunk
 
--- What the key had: this chunk's item, whose value is told; or none, and the words that would tell it stay.
+-- What the key had: this chunk's item, whose time and value are told; or none, and the words that would tell them stay.
 abbrev pub Had : RowPredicate → List ℕ → Option ℕ → List ℕ → List ℕ → PartView → Type 0
 Had law key None old words part = IsUnknown key part × (words ≡ old)
 Had law key (Some chunk) old words part = HadAt law key chunk words part
 
--- The item of this chunk was evicted, and this is its row: it was linked, the table's law holds of it, and nothing is kept
--- under its key now.
+-- The item of this chunk was evicted, and this is its row, which begins with the time at which it expires: it was
+-- linked, the table's law holds of it, and nothing is kept under its key now.
 pub record IsEvicted (law : RowPredicate) (chunk : ℕ) (row : List ℕ) (before after : PartView) : Type 0 where
   pub linked : IsSome (linked_at before.book.part chunk)
   pub obeys : Obeys law before chunk
@@ -58,15 +69,16 @@ pub record OnlyReads (before after : PartView) : Type 0 where
   pub looks : LooksOnly before.book after.book
   pub rest : after ≡ record before { book = after.book }
 
--- the part put an item, and then the value of the key's old one was read
-pub record PutsEntry (old evicted : Option ℕ) (row : List ℕ) (now chunk : ℕ) (before after : PartView) : Type 0 where
-  pub put : PartView
-  pub puts : Puts before.items old evicted row now chunk (counted before) (counted put)
-  pub reads : OnlyReads put after
+-- the part put an item, and then the time and the value of the key's old one were read
+pub record PutsEntry (old evicted : Option ℕ) (row : List ℕ) (expires now chunk : ℕ) (before after : PartView) : Type 0
+  where
+    pub put : PartView
+    pub puts : Puts before.items before.temporary old evicted row expires now chunk (counted before) (counted put)
+    pub reads : OnlyReads put after
 
 -- Room was made for an item with this key, for which this one was evicted, and no chunk is free.
-pub record FindsNoRoom (key : List ℕ) (evicted : Option ℕ) (before after : PartView) : Type 0 where
+pub record FindsNoRoom (key : List ℕ) (evicted : Option ℕ) (now : ℕ) (before after : PartView) : Type 0 where
   pub old : Option ℕ
   pub item : IsItem key old before
-  pub room : MakesRoom before.items old evicted (counted before) (counted after)
+  pub room : MakesRoom before.items now old evicted (counted before) (counted after)
   pub full : first_of after.book.lists.unused ≡ None

@@ -13,9 +13,11 @@ pub use Rattle.cache_lists.specs.Counts
 pub use Rattle.cache_lists.specs.Items
 pub use Rattle.cache_lists.specs.Linked
 pub use Rattle.cache_lists.specs.Segments
+pub use Rattle.cache_part.specs.Expiring
 pub use Rattle.cache_part.specs.Keys
 pub use Rattle.cache_part.specs.Looks
 pub use Rattle.cache_part.specs.Parts
 pub use Rattle.cache_part.specs.Putting
 pub use Rattle.cache_part.specs.Stats
 pub use Rattle.cache_part.specs.Tending
+pub use Rattle.entry_times.specs.Times

@@ -6,5 +6,5 @@ abbrev pub put_bumps : ℕ
 put_bumps = 16
 
 -- each so manieth put balances HOT and WARM, in so many rounds at most
-abbrev pub put_looks : ℕ
-put_looks = 8
+abbrev pub put_rounds : ℕ
+put_rounds = 8

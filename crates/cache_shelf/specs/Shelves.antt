@@ -14,6 +14,20 @@ pub record ShelfView : Type 0 where
   pub limits : Limits
   pub puts : ℕ
 
+-- the part may have looked for expired items: its cursor, and the counts of what was evicted, may be others, the lanes,
+-- and what may where items ended; all else stays
+abbrev pub with_tended : ShelfView → ShelfView → ShelfView
+with_tended after before = record before {
+  part = record before.part {
+    book = after.part.book;
+    flow = after.part.flow;
+    evictions = after.part.evictions;
+    index = after.part.index;
+    cursor = after.part.cursor;
+  };
+  lanes = after.lanes;
+}
+
 -- items may have ended: the Book, the index, and the counts of how items went may be others; all else stays
 abbrev pub with_ended : ShelfView → ShelfView → ShelfView
 with_ended after before = record before {

@@ -1,10 +1,11 @@
--- What a put does to a shelf, one after the other.
+-- What a put and a tend do to a shelf, one after the other.
 use Rattle.std.specs.Prelude.{◌≡◌, ℕ, ◌+◌, ◌<◌, ◌⊎◌}
 use Rattle.cache_lists.specs.Items.{KeepsItems}
-use Rattle.cache_part.specs.Parts.{PartView}
+use Rattle.cache_part.specs.Expiring.{HasNoneExpired, IsInTurn, chunk_behind, looks_of}
+use Rattle.cache_part.specs.Parts.{PartView, counted}
 use Rattle.cache_part.specs.Tending.{BalancesByAge, DrainsEach, Tends}
 use Rattle.cache_shelf.specs.declared.limits.Limits.{Limits}
-use Rattle.cache_shelf.specs.Limits.{put_bumps, put_looks}
+use Rattle.cache_shelf.specs.Limits.{put_bumps, put_rounds}
 use Rattle.cache_shelf.specs.Shelves.{ShelfView}
 
 -- the same items are linked, and the index stays: nothing changed but lists and what is counted of them
@@ -14,15 +15,15 @@ pub record OnlyMoves (before after : PartView) : Type 0 where
 
 -- One more put is counted, and it isn't yet the one whose turn it is to balance: nothing changed.
 pub record CountsPut (puts : ℕ) (before after : PartView) (left : ℕ) : Type 0 where
-  pub early : puts + 1 < put_looks
+  pub early : puts + 1 < put_rounds
   pub same : after ≡ before
   pub one_more : left ≡ puts + 1
 
 -- It is the eighth since the last that balanced: it balances HOT and WARM, in as many rounds as there were puts since
 -- then, at most; and puts are counted anew.
 pub record BalancesInTurn (limits : Limits) (puts now : ℕ) (before after : PartView) (left : ℕ) : Type 0 where
-  pub eighth : puts + 1 ≡ put_looks
-  pub balances : BalancesByAge put_looks limits.bounds now before.book after.book
+  pub eighth : puts + 1 ≡ put_rounds
+  pub balances : BalancesByAge put_rounds limits.bounds now before.book after.book
   pub moves : OnlyMoves before after
   pub anew : left ≡ 0
 
@@ -31,8 +32,8 @@ abbrev pub TakesTurn : Limits → ℕ → ℕ → PartView → PartView → ℕ 
 TakesTurn limits puts now before after left =
     CountsPut puts before after left ⊎ BalancesInTurn limits puts now before after left
 
--- First the bumps that wait are applied, at most `put_bumps` of each lane; then the part does this; and then the put has
--- its turn to balance. Before and behind what the part does items only move.
+-- First the bumps that wait are applied, at most `put_bumps` of each lane; then the part does this; and then the put
+-- has its turn to balance. Before and behind what the part does items only move.
 pub record PutsInTurn (Does : PartView → PartView → Type 0) (now : ℕ) (before after : ShelfView) : Type 0 where
   pub drained : PartView
   pub drains : DrainsEach put_bumps now before.part.book before.lanes drained.book after.lanes
@@ -43,5 +44,12 @@ pub record PutsInTurn (Does : PartView → PartView → Type 0) (now : ℕ) (bef
 
 -- a shelf is tended: its part is, by the shelf's lanes and limits
 abbrev pub TendsShelf : ℕ → ShelfView → ShelfView → Type 0
-TendsShelf now before after = Tends before.limits.most now before.limits.bounds before.part.book before.lanes
-    after.part.book after.lanes
+TendsShelf now before after = Tends before.limits.most now before.limits.bounds before.limits.looks before.part.cursor
+    (counted before.part) before.lanes (counted after.part) after.lanes
+
+-- Of so many chunks whose turn it was, none has an item any more that has expired at this time, and the next turn
+-- begins behind them.
+pub record LooksInTurn (looks now : ℕ) (before after : PartView) : Type 0 where
+  pub ended : (chunk : ℕ) → IsInTurn before.cursor (looks_of looks before.book) before.book.part.count chunk
+      → HasNoneExpired now chunk after.book
+  pub cursor : after.cursor ≡ chunk_behind before.cursor (looks_of looks before.book) before.book.part.count

@@ -1,8 +1,8 @@
 //! Items as entries of a table of keys and values.
-ghost use Rattle.std.specs.Prelude.{◌≡◌, ◌+◌, IfSome, IfNone, IfOk, IfErr, Option, None, true, length, take, drop};
+ghost use Rattle.std.specs.Prelude.{◌≡◌, ◌+◌, ◌∷◌, IfSome, IfNone, IfOk, IfErr, Option, None, true, suc, length, take, drop};
 ghost use Rattle.bump_class.specs.Links.{MayHave};
 ghost use Rattle.bump_rules.specs.Lists.{all_without};
-ghost use Rattle.bump_steps.specs.Views.{owns};
+ghost use Rattle.bump_steps.specs.Views.{last_label, owns};
 ghost use Rattle.cache_lists.specs.Items.{EndsAt};
 ghost use Rattle.cache_lists.specs.Segments.{SameSegments};
 ghost use Rattle.cache_part.specs.Keys.{value_at};
@@ -15,47 +15,64 @@ use bump_heads::Name;
 use bump_steps::RowLaw;
 use cache_part::{NoChunk, Part, PutItem};
 
-// Reads the value of a chunk of the class, where there is one.
-fn read_value<N: Name, L: RowLaw>(part: &mut Part<N, L>, chunk: Option<u32>, value: &mut [u64])
-    requires own { IfSome chunk (λ c. owns c part.old.book.part ≡ true) }
-    requires value { length value.old ≡ part.old.value_words }
-    ensures none { IfNone chunk (value.new ≡ value.old) }
-    ensures some { IfSome chunk (λ c. value.new
-        ≡ value_at part.old.key_words part.old.value_words part.old.book.part c) }
+// Reads the time at which the item of a chunk of the class expires, and then its value.
+fn read_item<N: Name, L: RowLaw>(part: &mut Part<N, L>, chunk: u32, told: &mut [u64])
+    requires own { owns chunk part.old.book.part ≡ true }
+    requires told { length told.old ≡ suc part.old.value_words }
+    ensures read { told.new ≡ last_label part.old.book.part chunk
+        ∷ value_at part.old.key_words part.old.value_words part.old.book.part chunk }
     ensures reads { OnlyReads part.old part.new }
-    ensures length { length value.new ≡ length value.old }
+    ensures length { length told.new ≡ length told.old }
 {
     part.promise();
+    let key_words = part.key_words();
+    told[0] = part.expires(chunk);
+    part.read(chunk, key_words, &mut told[1..]);
+}
+
+// So it is read where there is a chunk.
+fn read_old<N: Name, L: RowLaw>(part: &mut Part<N, L>, chunk: Option<u32>, old: &mut [u64])
+    requires own { IfSome chunk (λ c. owns c part.old.book.part ≡ true) }
+    requires old { length old.old ≡ suc part.old.value_words }
+    ensures none { IfNone chunk (old.new ≡ old.old) }
+    ensures some { IfSome chunk (λ c. old.new ≡ last_label part.old.book.part c
+        ∷ value_at part.old.key_words part.old.value_words part.old.book.part c) }
+    ensures reads { OnlyReads part.old part.new }
+    ensures length { length old.new ≡ length old.old }
+{
     if let Some(chunk) = chunk {
-        let key_words = part.key_words();
-        part.read(chunk, key_words, value);
+        read_item(part, chunk, old);
     }
 }
 
-// Puts an item, and reads the value that its key had. The table's law holds of each item, before and behind that.
+// Puts an item, and reads the time and the value that its key had. The table's law holds of each item, before and
+// behind that.
 pub(crate) fn put_entry<N: Name, L: RowLaw>(
     part: &mut Part<N, L>,
     row: &[u64],
+    expires: u64,
     old: &mut [u64],
     evicted: &mut [u64],
     now: u64,
 ) -> Result<PutItem, NoChunk>
     requires lawful { IsLawful L.law part.old }
     requires words { length row.now ≡ part.old.key_words + part.old.value_words }
-    requires old { length old.old ≡ part.old.value_words }
-    requires evicted { length evicted.old ≡ part.old.key_words + part.old.value_words }
-    requires law { MayHave L.law 0 row.now }
+    requires old { length old.old ≡ suc part.old.value_words }
+    requires evicted { length evicted.old ≡ suc (part.old.key_words + part.old.value_words) }
+    requires law { MayHave L.law expires row.now }
     ensures lawful { IsLawful L.law part.new }
     ensures kept { IfOk result (λ did. Keeps (take part.old.key_words row.now) (drop part.old.key_words row.now)
-        part.new) }
+        expires part.new) }
     ensures had { IfOk result (λ did. Had L.law (take part.old.key_words row.now) did.old old.old old.new part.old) }
     ensures evicted { IfOk result (λ did. Evicted L.law did.evicted evicted.old evicted.new part.old part.new) }
     ensures others { IfOk result (λ did. OthersKept (take part.old.key_words row.now)
         (key_of_evicted did.evicted part.old) part.old part.new) }
-    ensures puts { IfOk result (λ did. PutsEntry did.old did.evicted row.now now did.chunk part.old part.new) }
-    ensures evicted_refused { IfErr result (λ why. Evicted L.law why.evicted evicted.old evicted.new part.old part.new) }
+    ensures puts { IfOk result (λ did. PutsEntry did.old did.evicted row.now expires now did.chunk part.old part.new) }
+    ensures evicted_refused { IfErr result (λ why. Evicted L.law why.evicted evicted.old evicted.new part.old
+        part.new) }
     ensures stay { IfErr result (λ why. AllKept (key_of_evicted why.evicted part.old) part.old part.new) }
-    ensures refuses { IfErr result (λ why. FindsNoRoom (take part.old.key_words row.now) why.evicted part.old part.new) }
+    ensures refuses { IfErr result (λ why. FindsNoRoom (take part.old.key_words row.now) why.evicted now part.old
+        part.new) }
     ensures old_stays { IfErr result (λ why. old.new ≡ old.old) }
     ensures lengths { (length old.new ≡ length old.old) × (length evicted.new ≡ length evicted.old) }
     ensures rest { part.new ≡ record part.old {
@@ -66,16 +83,16 @@ pub(crate) fn put_entry<N: Name, L: RowLaw>(
     } }
 {
     part.promise();
-    match part.put(row, evicted, now) {
+    match part.put(row, expires, evicted, now) {
         Ok(did) => {
-            read_value(part, did.old, old);
+            read_old(part, did.old, old);
             Ok(did)
         }
         Err(why) => Err(why),
     }
 }
 
-// Ends the item of a key, and reads the value that it had.
+// Ends the item of a key, and reads the time and the value that it had.
 pub(crate) fn remove_entry<N: Name, L: RowLaw>(
     part: &mut Part<N, L>,
     key: &[u64],
@@ -83,7 +100,7 @@ pub(crate) fn remove_entry<N: Name, L: RowLaw>(
 ) -> Option<u32>
     requires lawful { IsLawful L.law part.old }
     requires key { length key.now ≡ part.old.key_words }
-    requires old { length old.old ≡ part.old.value_words }
+    requires old { length old.old ≡ suc part.old.value_words }
     ensures lawful { IsLawful L.law part.new }
     ensures had { Had L.law key.now result old.old old.new part.old }
     ensures gone { IsUnknown key.now part.new }
@@ -101,6 +118,6 @@ pub(crate) fn remove_entry<N: Name, L: RowLaw>(
 {
     part.promise();
     let chunk = part.remove(key);
-    read_value(part, chunk, old);
+    read_old(part, chunk, old);
     chunk
 }

@@ -6,7 +6,7 @@ use cache_part::Bounds;
 pub const PUT_BUMPS: u32 = 16;
 
 /// Each so manieth put balances HOT and WARM, in so many rounds at most: as many as there were puts.
-pub const PUT_LOOKS: u32 = 8;
+pub const PUT_ROUNDS: u32 = 8;
 
 /// The limits of a shelf.
 #[derive(Clone, Copy, Debug, PartialEq, Eq)]
@@ -16,4 +16,7 @@ pub struct Limits {
 
     /// A tend applies at most so many bumps of each lane.
     pub most: u32,
+
+    /// A tend looks at so many chunks, of those whose turn it is, for items that have expired.
+    pub looks: u32,
 }

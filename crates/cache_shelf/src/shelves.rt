@@ -1,5 +1,5 @@
 //! A shelf: a part, the lanes of its readers' rings, and when its lists are balanced.
-ghost use Rattle.std.specs.Prelude.{◌≡◌, ℕ, List, ◌+◌, ◌<◌, ◌≤◌, IfSome, IfNone, IfOk, IfErr, None, [], length, take, drop};
+ghost use Rattle.std.specs.Prelude.{◌≡◌, ℕ, List, ◌+◌, ◌<◌, ◌≤◌, IfSome, IfNone, IfOk, IfErr, None, [], suc, length, take, drop};
 ghost use Rattle.bump_class.specs.Books.{IsBook};
 ghost use Rattle.bump_class.specs.Links.{MayHave};
 ghost use Rattle.bump_rules.specs.Lists.{all_without};
@@ -9,11 +9,12 @@ ghost use Rattle.cache_lists.specs.Items.{EndsAt};
 ghost use Rattle.cache_lists.specs.Segments.{SameSegments};
 ghost use Rattle.cache_part.specs.Parts.{IsPart, IsUnknown};
 ghost use Rattle.cache_part.specs.Stats.{stats_of};
+ghost use Rattle.cache_part.specs.Expiring.{KeepsUnexpired};
 ghost use Rattle.cache_part.specs.Looks.{LooksOnly};
-ghost use Rattle.cache_shelf.specs.Limits.{put_looks};
-ghost use Rattle.cache_shelf.specs.Shelves.{ShelfView as TheShelfView, IsLawful, with_ended, with_put};
-ghost use Rattle.cache_shelf.specs.Entries.{AllKept, Evicted, FindsNoRoom, Had, Keeps, OthersKept, PutsEntry, key_of_evicted};
-ghost use Rattle.cache_shelf.specs.Turns.{OnlyMoves, PutsInTurn, TendsShelf};
+ghost use Rattle.cache_shelf.specs.Limits.{put_rounds};
+ghost use Rattle.cache_shelf.specs.Shelves.{ShelfView as TheShelfView, IsLawful, with_ended, with_put, with_tended};
+ghost use Rattle.cache_shelf.specs.Entries.{AllKept, AllUnexpiredKept, Evicted, FindsNoRoom, Had, Keeps, OthersKept, PutsEntry, key_of_evicted};
+ghost use Rattle.cache_shelf.specs.Turns.{LooksInTurn, PutsInTurn, TendsShelf};
 
 use crate::entries::{put_entry, remove_entry};
 use crate::limits::{Limits, PUT_BUMPS};
@@ -39,7 +40,7 @@ impl<N: Name, L: RowLaw> Model for Shelf<N, L> {
 
     ghost view = { λ s. record { part = s.part; lanes = s.lanes.items; limits = s.limits; puts = s.puts } };
 
-    ghost invariant = { λ s. IsLawful L.law s.part × (s.puts < put_looks) };
+    ghost invariant = { λ s. IsLawful L.law s.part × (s.puts < put_rounds) };
 }
 
 impl<N: Name, L: RowLaw> Shelf<N, L> {
@@ -64,65 +65,67 @@ impl<N: Name, L: RowLaw> Shelf<N, L> {
         ensures book { IsBook self.now.part.book }
         ensures flow { IsFlow self.now.part.flow self.now.part.book.part }
         ensures sums { SegmentsAddUp (length self.now.part.book.lists.hot) (length self.now.part.book.lists.warm)
-            (length self.now.part.book.lists.cold) self.now.part.book.part }
-        ensures puts { self.now.puts < put_looks }
+            (length self.now.part.book.lists.cold) (length self.now.part.book.lists.temp) self.now.part.book.part }
+        ensures puts { self.now.puts < put_rounds }
     {
         self.part.promise();
     }
 
-    /// Puts an item under its key: its row is the key's words and then the value's. `now` is the time of the item, and of
-    /// the bumps that it applies, in the caller's ticks.
+    /// Puts an item under its key: its row is the key's words and then the value's. It expires at `expires`, and 0 is
+    /// never; `now` is the time of the item, and of the bumps that it applies. Times are in the caller's ticks.
     ///
-    /// First the bumps that wait are applied, at most `PUT_BUMPS` of each lane. Then the part puts, as `Part::put` does:
-    /// the key's old item ends, and at most one other is evicted. The old item's value is told in `old`, which has as
-    /// many words as a value, and the row of the evicted one in `evicted`, which has as many as a row; where there is none
-    /// these stay. It is refused exactly where no chunk is free then, also of those of ended items that nobody holds any
-    /// more; the key keeps what it had. In the end each eighth put balances HOT and WARM, in `PUT_LOOKS` rounds at
-    /// most. Under each other key but the evicted one's stays what was there.
+    /// First the bumps that wait are applied, at most `PUT_BUMPS` of each lane. Then the part puts, as `Part::put`
+    /// does: the key's old item ends, and at most one other is evicted. When the old item expires, and its value, are
+    /// told in `old`, which has one word more than a value; and when the evicted one does, and its row, in `evicted`,
+    /// which has one word more than a row. Both may have expired; where there is none the words stay. It is refused
+    /// exactly where no chunk is free then, also of those of ended items that nobody holds any more; the key keeps what
+    /// it had. In the end each eighth put balances HOT and WARM, in `PUT_ROUNDS` rounds at most. Under each other key
+    /// but the evicted one's stays what was there.
     pub fn put(
         &mut self,
         row: &[u64],
+        expires: u64,
         old: &mut [u64],
         evicted: &mut [u64],
         now: u64,
     ) -> Result<PutItem, NoChunk>
         requires words { length row.now ≡ self.old.part.key_words + self.old.part.value_words }
-        requires old { length old.old ≡ self.old.part.value_words }
-        requires evicted { length evicted.old ≡ self.old.part.key_words + self.old.part.value_words }
-        requires law { MayHave L.law 0 row.now }
+        requires old { length old.old ≡ suc self.old.part.value_words }
+        requires evicted { length evicted.old ≡ suc (self.old.part.key_words + self.old.part.value_words) }
+        requires law { MayHave L.law expires row.now }
         ensures kept { IfOk result (λ did. Keeps (take self.old.part.key_words row.now)
-            (drop self.old.part.key_words row.now) self.new.part) }
+            (drop self.old.part.key_words row.now) expires self.new.part) }
         ensures had { IfOk result (λ did. Had L.law (take self.old.part.key_words row.now) did.old old.old old.new
             self.old.part) }
         ensures evicted { IfOk result (λ did. Evicted L.law did.evicted evicted.old evicted.new self.old.part
             self.new.part) }
         ensures others { IfOk result (λ did. OthersKept (take self.old.part.key_words row.now)
             (key_of_evicted did.evicted self.old.part) self.old.part self.new.part) }
-        ensures puts { IfOk result (λ did. PutsInTurn (PutsEntry did.old did.evicted row.now now did.chunk) now self.old
-            self.new) }
+        ensures puts { IfOk result (λ did. PutsInTurn (PutsEntry did.old did.evicted row.now expires now did.chunk) now
+            self.old self.new) }
         ensures evicted_refused { IfErr result (λ why. Evicted L.law why.evicted evicted.old evicted.new self.old.part
             self.new.part) }
         ensures stay { IfErr result (λ why. AllKept (key_of_evicted why.evicted self.old.part) self.old.part
             self.new.part) }
         ensures refuses { IfErr result (λ why. PutsInTurn (FindsNoRoom (take self.old.part.key_words row.now)
-            why.evicted) now self.old self.new) }
+            why.evicted now) now self.old self.new) }
         ensures old_stays { IfErr result (λ why. old.new ≡ old.old) }
         ensures lengths { (length old.new ≡ length old.old) × (length evicted.new ≡ length evicted.old) }
         ensures same { self.new ≡ with_put self.new self.old }
     {
         self.part.drain(&mut self.lanes, PUT_BUMPS, now);
-        let put = put_entry(&mut self.part, row, old, evicted, now);
+        let put = put_entry(&mut self.part, row, expires, old, evicted, now);
         self.puts = take_turn(&mut self.part, self.limits, self.puts, now);
         put
     }
 
-    /// Ends the item of this key, and tells its chunk, and its value in `old`, which has as many words as a value; or None
-    /// exactly where no item has the key, and then nothing changes but what the class's seat notes of its loads. Under
-    /// each other key stays what was there, and the other items stay in their lists, in their order. An item that ends so
-    /// doesn't count as evicted.
+    /// Ends the item of this key, and tells its chunk, and when it expires and its value in `old`, which has one word
+    /// more than a value; or None exactly where no item has the key, and then nothing changes but what the class's seat
+    /// notes of its loads. It ends also where it has expired. Under each other key stays what was there, and the other
+    /// items stay in their lists, in their order. An item that ends so doesn't count as evicted.
     pub fn remove(&mut self, key: &[u64], old: &mut [u64]) -> Option<u32>
         requires key { length key.now ≡ self.old.part.key_words }
-        requires old { length old.old ≡ self.old.part.value_words }
+        requires old { length old.old ≡ suc self.old.part.value_words }
         ensures had { Had L.law key.now result old.old old.new self.old.part }
         ensures gone { IsUnknown key.now self.new.part }
         ensures others { OthersKept key.now None self.old.part self.new.part }
@@ -137,18 +140,25 @@ impl<N: Name, L: RowLaw> Shelf<N, L> {
         remove_entry(&mut self.part, key, old)
     }
 
-    /// Tends the part, as `Part::tend` does: the bumps that wait are applied, at most as many of each lane as the limits
-    /// say; ended items are swept; and HOT and WARM are balanced. The same items are linked. `now` is the
-    /// time of the bumped items, in the caller's ticks.
+    /// Tends the part, as `Part::tend` does: the bumps that wait are applied, at most as many of each lane as the
+    /// limits say; so many chunks as they say are looked at, where the last tend ended its looks, and each item there
+    /// that has expired ends; ended items are swept; and HOT and WARM are balanced. Each other item stays linked. `now`
+    /// is the time of the bumped items, and that by which items have expired, in the caller's ticks.
     pub fn tend(&mut self, now: u64)
         ensures tends { TendsShelf now self.old self.new }
-        ensures moves { OnlyMoves self.old.part self.new.part }
-        ensures kept { AllKept None self.old.part self.new.part }
-        ensures same { self.new ≡ record self.old { part = self.new.part; lanes = self.new.lanes } }
+        ensures looked { LooksInTurn self.old.limits.looks now self.old.part self.new.part }
+        ensures unexpired { KeepsUnexpired now self.old.part.book self.new.part.book }
+        ensures kept { AllUnexpiredKept now self.old.part self.new.part }
+        ensures same { self.new ≡ with_tended self.new self.old }
     {
         let limits = self.limits;
-        self.part
-            .tend(&mut self.lanes, limits.most, now, limits.bounds);
+        self.part.tend(
+            &mut self.lanes,
+            limits.most,
+            now,
+            limits.bounds,
+            limits.looks,
+        );
     }
 
     /// Ends each item, and none counts as evicted. It looks at each chunk of the class once.

@@ -1,9 +1,9 @@
 //! The turn of a put that balances.
 ghost use Rattle.std.specs.Prelude.{◌<◌};
-ghost use Rattle.cache_shelf.specs.Limits.{put_looks};
+ghost use Rattle.cache_shelf.specs.Limits.{put_rounds};
 ghost use Rattle.cache_shelf.specs.Turns.{TakesTurn, OnlyMoves};
 
-use crate::limits::{Limits, PUT_LOOKS};
+use crate::limits::{Limits, PUT_ROUNDS};
 use bump_heads::Name;
 use bump_steps::RowLaw;
 use cache_part::Part;
@@ -15,14 +15,14 @@ pub(crate) fn take_turn<N: Name, L: RowLaw>(
     puts: u32,
     now: u64,
 ) -> u32
-    requires { puts < put_looks }
+    requires { puts < put_rounds }
     ensures turn { TakesTurn limits puts now part.old part.new result }
     ensures moves { OnlyMoves part.old part.new }
-    ensures below { result < put_looks }
+    ensures below { result < put_rounds }
 {
-    if puts + 1 < PUT_LOOKS {
+    if puts + 1 < PUT_ROUNDS {
         return puts + 1;
     }
-    part.balance(PUT_LOOKS, limits.bounds, now);
+    part.balance(PUT_ROUNDS, limits.bounds, now);
     0
 }

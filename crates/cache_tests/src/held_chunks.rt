@@ -35,7 +35,7 @@ enum Case {
 fn refused_with(put: &Result<Put<u64, u64>, NoRoom<u64, u64>>) -> Result<Option<u64>, ()> {
     match put {
         Ok(_) => Err(()),
-        Err(why) => Ok(why.evicted.map(|entry| entry.key)),
+        Err(why) => Ok(why.evicted.map(|lost| lost.key)),
     }
 }
 
@@ -57,7 +57,7 @@ impl<N: Name + LogName> Busy<N> {
     }
 
     fn get(&mut self, key: u64) -> Option<u64> {
-        self.stand.peek(0, &key)
+        self.stand.peek(0, &key, 2)
     }
 
     // Puts all items, and reads them.
@@ -77,7 +77,7 @@ impl<N: Name + LogName> Busy<N> {
     // Ten chunks are held, whose bumps wait behind 90 others: five puts find no room, and the sixth does.
     fn check_removed<R: Wait + Abort>(&mut self, rt: &R) {
         for key in 90..ITEMS {
-            assert_eq!(rt; self.stand.remove(rt, &key), Some(key));
+            assert_eq!(rt; self.stand.remove(rt, &key, 2), Some(key));
         }
         for count in 0..90 / APPLIED {
             let key = if count == 0 {
@@ -109,7 +109,7 @@ impl<N: Name + LogName> Busy<N> {
     // The same, where a tend applies all that wait.
     fn check_tended<R: Wait + Abort>(&mut self, rt: &R) {
         for key in 90..ITEMS {
-            assert_eq!(rt; self.stand.remove(rt, &key), Some(key));
+            assert_eq!(rt; self.stand.remove(rt, &key, 2), Some(key));
         }
         assert_eq!(rt; refused_with(&self.put(rt, 5, 7)), Ok(None));
         self.stand.tend(rt, 2);
@@ -175,7 +175,7 @@ impl<N: Name + LogName> Busy<N> {
                 })
             )
         );
-        assert_eq!(rt; self.stand.remove(rt, &5), Some(5));
+        assert_eq!(rt; self.stand.remove(rt, &5, 2), Some(5));
         assert!(rt;
             matches!(
                 self.put(rt, 1_000, 8),

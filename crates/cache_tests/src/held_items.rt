@@ -1,8 +1,8 @@
 //! An item that a reader holds keeps its words, and its chunk, whatever is put meanwhile.
 ghost use Rattle.std.specs.Prelude.{◌≡◌};
 
-use crate::stands::Changer;
-use bump_cache::{CacheBlank, CacheConfig, Entry, LogName, Name, Opened, Seed, open};
+use crate::stands::{Changer, Entry};
+use bump_cache::{CacheBlank, CacheConfig, LogName, Name, Opened, Seed, open};
 use std::alloc::Global;
 use std::marker::Brand;
 use std::process::Abort;

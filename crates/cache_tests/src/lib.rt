@@ -1,13 +1,18 @@
 //! Tests of a cache: random calls beside a plain map, the order in which items are evicted beside a model of its lists,
-//! puts that find no room, keys of one hash, refused memory, and readers on threads.
+//! puts that find no room, items that expire, gets of many keys, keys of one hash, refused memory, and readers on
+//! threads.
 #![tactic(auto)]
 
+#[cfg(test)]
+mod expiry;
 #[cfg(test)]
 mod held_chunks;
 #[cfg(test)]
 mod held_items;
 #[cfg(test)]
 mod lists;
+#[cfg(test)]
+mod many;
 #[cfg(test)]
 mod model;
 #[cfg(test)]

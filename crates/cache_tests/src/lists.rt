@@ -23,8 +23,17 @@ struct Item {
     key: u64,
     // when it was used last
     time: u64,
+    // when it expires, or 0
+    expires: u64,
     fetched: bool,
     active: bool,
+}
+
+impl Item {
+    // Whether it has expired.
+    fn is_over(self, now: u64) -> bool {
+        self.expires != 0 && self.expires <= now
+    }
 }
 
 // A list of items. Its front is the front of the deque.
@@ -40,9 +49,12 @@ pub struct Lists {
     // the last one of HOT, and of WARM, may be so many percent as old as COLD's
     hot_age: Option<u32>,
     warm_age: Option<u32>,
+    // what expires within so many ticks is put into TEMP
+    temporary: Option<u64>,
     hot: Items,
     warm: Items,
     cold: Items,
+    temp: Items,
     // the numbers of the items that are to be bumped
     bumps: VecDeque<u64>,
     // how many items were put
@@ -84,9 +96,16 @@ fn use_at(items: &mut Items, at: usize, now: u64) {
     }
 }
 
+// The place of the item of a key that hasn't expired.
+fn live_place_of(items: &Items, key: u64, now: u64) -> Option<usize> {
+    items
+        .iter()
+        .position(|item| item.key == key && !item.is_over(now))
+}
+
 // Marks the item of a key, which isn't in COLD. It tells whether there is one.
 fn touch_key(items: &mut Items, key: u64, now: u64) -> bool {
-    let Some(at) = place_of(items, key) else {
+    let Some(at) = live_place_of(items, key, now) else {
         return false;
     };
     if touch(items, at) {
@@ -145,9 +164,11 @@ impl Lists {
             warm_most: config.warm_items() as usize,
             hot_age: config.hot_age,
             warm_age: config.warm_age,
+            temporary: config.temporary,
             hot: VecDeque::new(alloc),
             warm: VecDeque::new(alloc),
             cold: VecDeque::new(alloc),
+            temp: VecDeque::new(alloc),
             bumps: VecDeque::new(alloc),
             placed: 0,
             puts: 0,
@@ -160,16 +181,52 @@ impl Lists {
         self.evicted_active
     }
 
-    /// How many items are in HOT, in WARM and in COLD.
-    pub fn sizes(&self) -> (usize, usize, usize) {
-        (self.hot.len(), self.warm.len(), self.cold.len())
+    /// How many items are in HOT, WARM, COLD and TEMP.
+    pub fn sizes(&self) -> [usize; 4] {
+        [
+            self.hot.len(),
+            self.warm.len(),
+            self.cold.len(),
+            self.temp.len(),
+        ]
     }
 
-    /// Ends the item of a key. It tells whether there was one.
-    pub fn take(&mut self, key: u64) -> bool {
+    // Whether a key has an item, one that has expired, too.
+    fn is_known(&self, key: u64) -> bool {
+        place_of(&self.hot, key).is_some()
+            || place_of(&self.warm, key).is_some()
+            || place_of(&self.cold, key).is_some()
+            || place_of(&self.temp, key).is_some()
+    }
+
+    // Whether a key has an item that hasn't expired.
+    fn is_live(&self, key: u64, now: u64) -> bool {
+        live_place_of(&self.hot, key, now).is_some()
+            || live_place_of(&self.warm, key, now).is_some()
+            || live_place_of(&self.cold, key, now).is_some()
+            || live_place_of(&self.temp, key, now).is_some()
+    }
+
+    fn take(&mut self, key: u64) -> bool {
         take_from(&mut self.hot, key)
             || take_from(&mut self.warm, key)
             || take_from(&mut self.cold, key)
+            || take_from(&mut self.temp, key)
+    }
+
+    /// Ends the item of a key. It tells whether there was one that hadn't expired.
+    pub fn remove(&mut self, key: u64, now: u64) -> bool {
+        let is_live = self.is_live(key, now);
+        self.take(key);
+        is_live
+    }
+
+    // Ends what has expired.
+    fn end_expired(&mut self, now: u64) {
+        self.hot.retain(|item| !item.is_over(now));
+        self.warm.retain(|item| !item.is_over(now));
+        self.cold.retain(|item| !item.is_over(now));
+        self.temp.retain(|item| !item.is_over(now));
     }
 
     /// Ends each item.
@@ -177,14 +234,18 @@ impl Lists {
         self.hot.clear();
         self.warm.clear();
         self.cold.clear();
+        self.temp.clear();
     }
 
     /// Gets a key, and tells whether it has an item. Where that becomes ACTIVE in COLD its bump waits, if the ring has room.
     pub fn get(&mut self, key: u64, now: u64) -> Result<bool, AllocError> {
-        if touch_key(&mut self.hot, key, now) || touch_key(&mut self.warm, key, now) {
+        if touch_key(&mut self.hot, key, now)
+            || touch_key(&mut self.warm, key, now)
+            || touch_key(&mut self.temp, key, now)
+        {
             return Ok(true);
         }
-        let Some(at) = place_of(&self.cold, key) else {
+        let Some(at) = live_place_of(&self.cold, key, now) else {
             return Ok(false);
         };
         if !touch(&mut self.cold, at) {
@@ -275,53 +336,90 @@ impl Lists {
     /// Tends the lists.
     pub fn tend(&mut self, now: u64) -> Result<(), AllocError> {
         self.drain(self.ring, now)?;
+        self.end_expired(now);
         self.balance(TEND_LOOKS, now)
     }
 
-    // Evicts an item, and tells its key.
-    fn evict(&mut self) -> Result<Option<u64>, AllocError> {
+    // Takes the item whose turn it is.
+    fn take_next(&mut self) -> Option<Item> {
+        if let Some(item) = self.cold.pop_back() {
+            return Some(item);
+        }
+        if let Some(item) = self.warm.pop_back() {
+            return Some(Item {
+                active: false,
+                ..item
+            });
+        }
+        if let Some(item) = self.hot.pop_back() {
+            return Some(Item {
+                active: false,
+                ..item
+            });
+        }
+        self.temp.pop_back()
+    }
+
+    // Rescues items of COLD.
+    fn rescue(&mut self, now: u64) -> Result<(), AllocError> {
         for _ in 0..RESCUES {
             match self.cold.back().copied() {
-                Some(item) if item.active => {
+                Some(item) if item.active && !item.is_over(now) => {
                     self.cold.pop_back();
                     to_front(&mut self.warm, item)?;
                 }
-                _ => break,
+                _ => return Ok(()),
             }
         }
-        if let Some(item) = self.cold.pop_back() {
-            if item.active {
-                self.evicted_active = self.evicted_active.saturating_add(1);
-            }
-            return Ok(Some(item.key));
-        }
-        let Some(item) = self.warm.pop_back() else {
-            return Ok(self.hot.pop_back().map(|item| item.key));
+        Ok(())
+    }
+
+    // Evicts an item, and tells its key.
+    fn evict(&mut self, now: u64) -> Result<Option<u64>, AllocError> {
+        self.rescue(now)?;
+        let Some(item) = self.take_next() else {
+            return Ok(None);
         };
+        if item.active && !item.is_over(now) {
+            self.evicted_active = self.evicted_active.saturating_add(1);
+        }
         Ok(Some(item.key))
     }
 
-    /// Puts a key for which there is a chunk, and tells which key is evicted.
-    pub fn put(&mut self, key: u64, now: u64) -> Result<Option<u64>, AllocError> {
+    // Whether what expires then is put into TEMP.
+    fn is_temporary(&self, expires: u64, now: u64) -> bool {
+        match self.temporary {
+            Some(ticks) => expires != 0 && expires <= now.saturating_add(ticks),
+            None => false,
+        }
+    }
+
+    /// Puts a key for which there is a chunk, and which expires then or never (0). It tells which key is evicted.
+    pub fn put(&mut self, key: u64, expires: u64, now: u64) -> Result<Option<u64>, AllocError> {
         self.drain(PUT_BUMPS, now)?;
-        let (hot, warm, cold) = self.sizes();
-        let is_known = place_of(&self.hot, key).is_some()
-            || place_of(&self.warm, key).is_some()
-            || place_of(&self.cold, key).is_some();
-        let is_full = hot.saturating_add(warm).saturating_add(cold) >= self.room;
-        let evicted = if is_full && !is_known {
-            self.evict()?
+        let count = self
+            .sizes()
+            .iter()
+            .fold(0usize, |sum, size| sum.saturating_add(*size));
+        let evicted = if count >= self.room && !self.is_known(key) {
+            self.evict(now)?
         } else {
             None
         };
         self.take(key);
-        self.hot.push_front(Item {
+        let item = Item {
             number: self.placed,
             key,
             time: now,
+            expires,
             fetched: false,
             active: false,
-        })?;
+        };
+        if self.is_temporary(expires, now) {
+            self.temp.push_front(item)?;
+        } else {
+            self.hot.push_front(item)?;
+        }
         self.placed = self.placed.saturating_add(1);
         self.puts = self.puts.saturating_add(1);
         if self.puts == LOOKS {

@@ -83,7 +83,7 @@ fn count_wrong<N: Name + LogName, W: Wait>(
     }
     for (at, key) in keys.iter().take(put_ones).enumerate() {
         if at % 2 == 0 {
-            count(&mut wrong, stand.remove(rt, key) == Some(*key ^ 1));
+            count(&mut wrong, stand.remove(rt, key, 1) == Some(*key ^ 1));
             count(&mut wrong, stand.get(0, key, 1).is_none());
         } else {
             let put = stand.put(rt, *key, *key, 0);

@@ -3,7 +3,7 @@ ghost use Rattle.std.specs.Prelude.{◌≡◌};
 
 use crate::lists::Lists;
 use crate::model::items_in;
-use crate::stands::{Stand, config_of, next};
+use crate::stands::{Entry, Stand, config_of, next};
 use bump_cache::{CacheBlank, CacheConfig, LogName, Name, Put};
 use std::alloc::{AllocError, Global};
 use std::marker::Brand;
@@ -22,7 +22,7 @@ struct Pair<N: Name + LogName> {
 
 // The keys that a put told of: whether the key had something, and which one was evicted.
 fn told(put: &Put<u64, u64>) -> (bool, Option<u64>) {
-    (put.old.is_some(), put.evicted.map(|entry| entry.key))
+    (put.old.is_some(), put.evicted.map(|lost| lost.key))
 }
 
 // Each of these notes where the cache did something else than the model.
@@ -34,8 +34,19 @@ impl<N: Name + LogName> Pair<N> {
     }
 
     fn put<W: Wait>(&mut self, rt: &W, key: u64) -> Result<Option<u64>, AllocError> {
-        let put = self.stand.put(rt, key, key, self.now);
-        let evicted = self.lists.put(key, self.now)?;
+        self.put_until(rt, key, 0)
+    }
+
+    // An item that expires then, or never (0).
+    fn put_until<W: Wait>(
+        &mut self,
+        rt: &W,
+        key: u64,
+        expires: u64,
+    ) -> Result<Option<u64>, AllocError> {
+        let entry = Entry { key, value: key };
+        let put = self.stand.put_until(rt, &entry, expires, self.now);
+        let evicted = self.lists.put(key, expires, self.now)?;
         match &put {
             Ok(did) => self.note(told(did).1 == evicted),
             Err(_) => self.note(false),
@@ -51,8 +62,8 @@ impl<N: Name + LogName> Pair<N> {
     }
 
     fn remove<W: Wait>(&mut self, rt: &W, key: u64) {
-        let old = self.stand.remove(rt, &key).is_some();
-        let had = self.lists.take(key);
+        let old = self.stand.remove(rt, &key, self.now).is_some();
+        let had = self.lists.remove(key, self.now);
         self.note(old == had);
     }
 
@@ -69,11 +80,12 @@ impl<N: Name + LogName> Pair<N> {
     // The lists have the model's sizes.
     fn look<W: Wait>(&mut self, rt: &W) {
         let stats = self.stand.stats(rt);
-        let sizes = (
+        let sizes = [
             stats.number_hot as usize,
             stats.number_warm as usize,
             stats.number_cold as usize,
-        );
+            stats.number_temp as usize,
+        ];
         let lists = &mut self.lists;
         let same_sizes = sizes == lists.sizes();
         let same_active = stats.evicted_active == lists.evicted_active();
@@ -88,6 +100,9 @@ enum Case {
     // so many random calls, of which gets are so many of 64, with keys below a number
     Random { calls: u64, gets: u64, keys: u64 },
 
+    // the same, of items of which most expire
+    Expiring { calls: u64, gets: u64, keys: u64 },
+
     // so many accesses of keys below a number, the smaller ones most, which drift: each is got, and put where it isn't
     // there; the time is the access's place
     Drift { accesses: u64, keys: u64 },
@@ -97,6 +112,16 @@ enum Case {
 
     // more than eight of COLD are ACTIVE, and their bumps wait behind 16 others
     Rescue,
+}
+
+// A time at which an item expires, some ticks behind `now`, or a few before it; or 0, where there are no ticks always.
+fn expiry_of(seed: &mut u64, ticks: u64, now: u64) -> u64 {
+    let some = next(seed);
+    if ticks == 0 || some % 4 == 0 {
+        0
+    } else {
+        now.saturating_add(some % ticks).saturating_sub(4)
+    }
 }
 
 impl<N: Name + LogName> Pair<N> {
@@ -117,6 +142,7 @@ impl<N: Name + LogName> Pair<N> {
         calls: u64,
         gets: u64,
         keys: u64,
+        ticks: u64,
     ) -> Result<(), AllocError> {
         let mut seed = 1u64;
         for _ in 0..calls {
@@ -126,23 +152,36 @@ impl<N: Name + LogName> Pair<N> {
             if kind < gets {
                 self.get(key)?;
             } else {
-                match next(&mut seed) % 64 {
-                    0..=3 => self.remove(rt, key),
-                    4 => self.tend(rt)?,
-                    5 if kind == 63 => self.clear(rt),
-                    _ => {
-                        self.put(rt, key)?;
-                    }
-                }
+                let expires = expiry_of(&mut seed, ticks, self.now);
+                self.change(rt, key, next(&mut seed), expires)?;
             }
             self.look(rt);
         }
         Ok(())
     }
 
+    // Makes a call that changes something.
+    fn change<W: Wait>(
+        &mut self,
+        rt: &W,
+        key: u64,
+        kind: u64,
+        expires: u64,
+    ) -> Result<(), AllocError> {
+        match kind % 64 {
+            0..=3 => self.remove(rt, key),
+            4 => self.tend(rt)?,
+            5 if kind % 1_024 == 5 => self.clear(rt),
+            _ => {
+                self.put_until(rt, key, expires)?;
+            }
+        }
+        Ok(())
+    }
+
     // A key is got, and put where it isn't there.
     fn get_or_put<W: Wait>(&mut self, rt: &W, key: u64) -> Result<(), AllocError> {
-        let seen = self.stand.peek(0, &key);
+        let seen = self.stand.peek(0, &key, self.now);
         self.get(key)?;
         if seen.is_none() {
             self.put(rt, key)?;
@@ -215,7 +254,7 @@ impl<N: Name + LogName> Pair<N> {
         let stats = self.stand.stats(rt);
         self.note(stats.number_warm == 24 && stats.evicted_active == 1);
         for key in 0..8 {
-            let seen = self.stand.peek(0, &key);
+            let seen = self.stand.peek(0, &key, self.now);
             self.note(seen == Some(key));
         }
         self.put_all(rt, 41, 80)?;
@@ -226,7 +265,8 @@ impl<N: Name + LogName> Pair<N> {
     // Runs the case.
     fn run<W: Wait>(&mut self, rt: &W, case: Case) -> Result<(), AllocError> {
         match case {
-            Case::Random { calls, gets, keys } => self.call_at_random(rt, calls, gets, keys),
+            Case::Random { calls, gets, keys } => self.call_at_random(rt, calls, gets, keys, 0),
+            Case::Expiring { calls, gets, keys } => self.call_at_random(rt, calls, gets, keys, 48),
             Case::Drift { accesses, keys } => self.drift(rt, accesses, keys),
             Case::Read => self.read_twice(rt),
             Case::Rescue => self.rescue(rt),
@@ -295,6 +335,30 @@ fn items_are_evicted_in_the_models_order(rt: HostRuntime) -> Result<(), Fail> {
             0,
             "of {items} items, {hot} and {warm} percent, {hot_age:?} and {warm_age:?}, {ring} bumps"
         );
+    }
+    Ok(())
+}
+
+#[test]
+fn items_expire_as_in_the_model(rt: HostRuntime) -> Result<(), Fail> {
+    for (items, temporary, ring, gets) in [
+        (10, None, 8u32, 0),
+        (10, Some(8), 8, 32),
+        (10, Some(u64::MAX), 1, 48),
+        (24, Some(16), 64, 56),
+        (24, Some(0), 32, 60),
+    ] {
+        let config = CacheConfig {
+            temporary,
+            ..config_of(items, ring.saturating_add(1), 20, 40, ring)
+        };
+        let case = Case::Expiring {
+            calls: 2_000,
+            gets,
+            keys: u64::from(items) * 3 / 2 + 2,
+        };
+        let wrong = wrong_in(&rt, rt.alloc(), &config, case)?;
+        assert_eq!(rt; wrong, 0, "of {items} items, {temporary:?}, {ring} bumps");
     }
     Ok(())
 }

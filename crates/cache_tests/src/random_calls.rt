@@ -3,7 +3,7 @@ ghost use Rattle.std.specs.Prelude.{◌≡◌, ◌+◌, ◌≤◌};
 
 use crate::model::{Model, answer_of};
 use crate::numbered::{Numbered, number_of};
-use crate::stands::{SEED, Stand, config_of, next};
+use crate::stands::{Entry, SEED, Stand, config_of, next};
 use bump_cache::{Bytes, CacheBlank, CacheConfig, LogName, Name, TooLong};
 use std::alloc::{AllocError, Global};
 use std::marker::Brand;
@@ -23,6 +23,8 @@ struct Calls {
     tends: bool,
     // one of so many calls ends all items
     clears: u64,
+    // whether some items expire
+    expires: bool,
 }
 
 // Why there was no answer.
@@ -56,31 +58,45 @@ struct Pair<N: Name + LogName, K: Numbered, V: Numbered> {
 impl<N: Name + LogName, K: Numbered, V: Numbered> Pair<N, K, V> {
     fn put<W: Wait>(&mut self, rt: &W, key: u64, now: u64) -> Result<bool, TooLong> {
         let put = self.stand.put(rt, K::of(key)?, V::of(now)?, now);
-        Ok(self.model.put(key, now, answer_of(&put)))
+        Ok(self.model.put(key, now, 0, now, answer_of(&put)))
     }
 
-    fn remove<W: Wait>(&mut self, rt: &W, key: u64) -> Result<bool, TooLong> {
-        let old = self.stand.remove(rt, &K::of(key)?);
-        Ok(self.model.remove(key, number_of(&old)))
+    // An item that expires soon, or has: a few ticks before the time, or after it.
+    fn put_until<W: Wait>(&mut self, rt: &W, key: u64, now: u64) -> Result<bool, TooLong> {
+        let expires = now
+            .saturating_add(next(&mut self.seed) % 64)
+            .saturating_sub(4);
+        let entry = Entry {
+            key: K::of(key)?,
+            value: V::of(now)?,
+        };
+        let put = self.stand.put_until(rt, &entry, expires, now);
+        Ok(self.model.put(key, now, expires, now, answer_of(&put)))
+    }
+
+    fn remove<W: Wait>(&mut self, rt: &W, key: u64, now: u64) -> Result<bool, TooLong> {
+        let old = self.stand.remove(rt, &K::of(key)?, now);
+        Ok(self.model.remove(key, now, number_of(&old)))
     }
 
     fn get(&mut self, key: u64, now: u64) -> Result<bool, TooLong> {
         let reader = self.reader();
         let got = self.stand.get(reader, &K::of(key)?, now);
-        Ok(self.model.get(key, number_of(&got)))
+        Ok(self.model.get(key, now, number_of(&got)))
     }
 
-    fn look(&mut self, key: u64) -> Result<bool, TooLong> {
+    fn look(&mut self, key: u64, now: u64) -> Result<bool, TooLong> {
         let reader = self.reader();
         let its_key = K::of(key)?;
-        let seen = self.stand.peek(reader, &its_key);
-        let is_there = self.stand.contains(reader, &its_key);
-        Ok(number_of(&seen) == self.model.value(key) && is_there == seen.is_some())
+        let seen = self.stand.peek(reader, &its_key, now);
+        let is_there = self.stand.contains(reader, &its_key, now);
+        Ok(number_of(&seen) == self.model.value(key, now) && is_there == seen.is_some())
     }
 
-    fn tend<W: Wait>(&mut self, rt: &W, tends: bool, now: u64) -> bool {
-        if tends {
+    fn tend<W: Wait>(&mut self, rt: &W, calls: Calls, now: u64) -> bool {
+        if calls.tends {
             self.stand.tend(rt, now);
+            self.model.sweep(calls.keys, now);
         }
         true
     }
@@ -103,10 +119,11 @@ impl<N: Name + LogName, K: Numbered, V: Numbered> Pair<N, K, V> {
             return Ok(self.clear(rt));
         }
         match next(&mut self.seed) % 16 {
+            0..=2 if calls.expires => self.put_until(rt, key, now),
             0..=5 => self.put(rt, key, now),
-            6 => self.remove(rt, key),
-            7 => Ok(self.tend(rt, calls.tends, now)),
-            8 | 9 => self.look(key),
+            6 => self.remove(rt, key, now),
+            7 => Ok(self.tend(rt, calls, now)),
+            8 | 9 => self.look(key, now),
             _ => self.get(key, now),
         }
     }
@@ -190,6 +207,7 @@ fn wrong_small_calls<K: Numbered, V: Numbered, W: Wait>(
         for tends in [true, false] {
             let config = CacheConfig {
                 readers,
+                temporary: if tends { Some(16) } else { None },
                 ..config_of(items, spare, hot, warm, ring)
             };
             let calls = Calls {
@@ -197,6 +215,7 @@ fn wrong_small_calls<K: Numbered, V: Numbered, W: Wait>(
                 count,
                 tends,
                 clears: 200,
+                expires: items > 1,
             };
             wrong = wrong.saturating_add(wrong_calls::<K, V, W>(rt, alloc, &config, calls)?);
         }
@@ -231,12 +250,17 @@ fn pairs_and_strings_are_keys_and_values(rt: HostRuntime) -> Result<(), Fail> {
 #[test]
 fn a_thousand_items(rt: HostRuntime) -> Result<(), Fail> {
     for (keys, tends) in [(1_500, true), (1_100, false)] {
-        let config = config_of(1_000, 20, 20, 40, 16);
+        let config = CacheConfig {
+            temporary: Some(16),
+            expiry_looks: 2_000,
+            ..config_of(1_000, 20, 20, 40, 16)
+        };
         let calls = Calls {
             keys,
             count: CALLS.saturating_mul(4),
             tends,
             clears: CALLS.saturating_mul(3),
+            expires: true,
         };
         let wrong = wrong_calls::<u64, u64, _>(&rt, rt.alloc(), &config, calls)?;
         assert_eq!(rt; wrong, 0, "of {keys} keys");
@@ -255,6 +279,7 @@ fn a_million_items(rt: HostRuntime) -> Result<(), Fail> {
         count: CALLS / 3,
         tends: true,
         clears: CALLS,
+        expires: false,
     };
     let wrong = wrong_calls::<u64, u64, _>(&rt, rt.alloc(), &config, calls)?;
     assert_eq!(rt; wrong, 0);

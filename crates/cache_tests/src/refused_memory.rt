@@ -28,7 +28,7 @@ fn check<N: Name + LogName, W: Wait>(
         let got = stand.get(0, &key, now);
         let again = stand.get(0, &<(u64, u32)>::of(now % 4)?, now);
         let removed = if now % 7 == 0 {
-            number_of(&stand.remove(rt, &key))
+            number_of(&stand.remove(rt, &key, now))
         } else {
             Some(now)
         };

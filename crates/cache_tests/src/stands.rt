@@ -1,13 +1,23 @@
 //! A cache that a test was given, with whoever changes it.
-ghost use Rattle.std.specs.Prelude.{◌≡◌, ◌<◌};
+ghost use Rattle.std.specs.Prelude.{◌≡◌, ◌<◌, length};
 
 use bump_cache::{
-    Cache, CacheBlank, CacheConfig, CacheReader, CacheState, Caller, Entry, LogName, Name, NoRoom,
-    Opened, Packed, Put, Seed, Stats, open,
+    Cache, CacheBlank, CacheConfig, CacheReader, CacheState, Caller, LogName, Name, NoRoom, Opened,
+    Packed, Put, Seed, Stats, open,
 };
 use std::alloc::{AllocError, Global};
 use std::sync::Wait;
 use std::sync::atomic::{AtomicBool, AtomicU64};
+
+/// A key and its value.
+#[derive(Clone, Copy, Drop)]
+pub struct Entry<K, V> {
+    /// The key.
+    pub key: K,
+
+    /// The value.
+    pub value: V,
+}
 
 /// Whoever changes a cache: a caller that has a part.
 #[derive(Drop)]
@@ -35,14 +45,27 @@ impl<N: Name + LogName> Changer<N> {
         cache.put(rt, &mut self.me, &entry.key, &entry.value, now)
     }
 
+    /// Puts a value under a key, which expires then.
+    pub fn put_until<K: Packed, V: Packed, W: Wait>(
+        &mut self,
+        rt: &W,
+        cache: &Cache<N, K, V>,
+        entry: &Entry<K, V>,
+        expires: u64,
+        now: u64,
+    ) -> Result<Put<K, V>, NoRoom<K, V>> {
+        cache.put_until(rt, &mut self.me, &entry.key, &entry.value, expires, now)
+    }
+
     /// Ends the item of a key.
     pub fn remove<K: Packed, V: Packed, W: Wait>(
         &mut self,
         rt: &W,
         cache: &Cache<N, K, V>,
         key: &K,
+        now: u64,
     ) -> Option<V> {
-        cache.remove(rt, &mut self.me, key)
+        cache.remove(rt, &mut self.me, key, now)
     }
 
     /// Tends the cache.
@@ -126,9 +149,20 @@ impl<N: Name + LogName, K: Packed, V: Packed> Stand<N, K, V> {
             .put(rt, &self.cache, &Entry { key, value }, now)
     }
 
+    /// Puts a value under a key, which expires then.
+    pub fn put_until<W: Wait>(
+        &mut self,
+        rt: &W,
+        entry: &Entry<K, V>,
+        expires: u64,
+        now: u64,
+    ) -> Result<Put<K, V>, NoRoom<K, V>> {
+        self.changer.put_until(rt, &self.cache, entry, expires, now)
+    }
+
     /// Ends the item of a key.
-    pub fn remove<W: Wait>(&mut self, rt: &W, key: &K) -> Option<V> {
-        self.changer.remove(rt, &self.cache, key)
+    pub fn remove<W: Wait>(&mut self, rt: &W, key: &K, now: u64) -> Option<V> {
+        self.changer.remove(rt, &self.cache, key, now)
     }
 
     /// Tends the cache.
@@ -151,15 +185,24 @@ impl<N: Name + LogName, K: Packed, V: Packed> Stand<N, K, V> {
         self.readers.get_mut(reader)?.get(key, now)
     }
 
+    /// The same of many keys, in as many places as there are keys. They stay as they are where there is no such reader.
+    pub fn get_many(&mut self, reader: usize, keys: &[K], values: &mut [Option<V>], now: u64)
+        requires even { length values.old ≡ length keys.now }
+    {
+        if let Some(reader) = self.readers.get_mut(reader) {
+            reader.get_many(keys, values, now);
+        }
+    }
+
     /// What a reader finds there without a touch.
-    pub fn peek(&mut self, reader: usize, key: &K) -> Option<V> {
-        self.readers.get_mut(reader)?.peek(key)
+    pub fn peek(&mut self, reader: usize, key: &K, now: u64) -> Option<V> {
+        self.readers.get_mut(reader)?.peek(key, now)
     }
 
     /// Whether a reader finds something there.
-    pub fn contains(&mut self, reader: usize, key: &K) -> bool {
+    pub fn contains(&mut self, reader: usize, key: &K, now: u64) -> bool {
         match self.readers.get_mut(reader) {
-            Some(reader) => reader.contains(key),
+            Some(reader) => reader.contains(key, now),
             None => false,
         }
     }

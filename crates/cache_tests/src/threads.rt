@@ -2,8 +2,8 @@
 ghost use Rattle.std.specs.Prelude.{◌≡◌};
 
 use crate::model::adds_up;
-use crate::stands::{Changer, config_of, next};
-use bump_cache::{Cache, CacheBlank, CacheConfig, CacheReader, Entry, LogName, Name, Opened, open};
+use crate::stands::{Changer, Entry, config_of, next};
+use bump_cache::{Cache, CacheBlank, CacheConfig, CacheReader, LogName, Name, Opened, open};
 use std::alloc::{AllocError, Global};
 use std::marker::Brand;
 use std::sync::Wait;
@@ -140,14 +140,14 @@ fn write<N: Name + LogName, W: Wait>(
             };
             match changer.put(rt, cache, &entry, number) {
                 Ok(did) => {
-                    let evicted = did.evicted.map(|entry| entry.key);
+                    let evicted = did.evicted.map(|lost| lost.key);
                     count(&mut wrong, evicted.is_some_and(|key| key < STAYING));
                 }
                 Err(_) => count(&mut wrong, true),
             }
         }
         if turn % 3 == 0 {
-            changer.remove(rt, cache, &next_other(&mut seed));
+            changer.remove(rt, cache, &next_other(&mut seed), number);
         }
     }
     unreachable!()

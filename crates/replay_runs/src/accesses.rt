@@ -11,7 +11,7 @@ use crate::scribes::Scribe;
 use bump_core::{Config, Tail};
 use bump_rules::LOOKS;
 use cache_lists::RESCUES;
-use cache_shelf::{Bound, PUT_BUMPS, PUT_LOOKS};
+use cache_shelf::{Bound, PUT_BUMPS, PUT_ROUNDS};
 use std::alloc::Global;
 use std::hash::RandomState;
 
@@ -97,7 +97,7 @@ fn place(scribe: &mut Scribe, plan: &Plan, key: u32) -> Result<(), ReplayFault>
     if !scribe.count_put() {
         return Ok(());
     }
-    balance(scribe, plan, PUT_LOOKS)?;
+    balance(scribe, plan, PUT_ROUNDS)?;
     Ok(())
 }
 

@@ -9,7 +9,7 @@ use crate::plans::Plan;
 use bump_core::{Answer, Command, Config, ItemId, Place, Pulled, Refused, Tail, World};
 use bump_rules::CACHE_REFS;
 use bump_trace::MAX_BYTES;
-use cache_shelf::{Bound, PUT_LOOKS};
+use cache_shelf::{Bound, PUT_ROUNDS};
 use std::alloc::Global;
 use std::collections::HashMap;
 use std::hash::RandomState;
@@ -230,7 +230,7 @@ impl Scribe {
         ensures { self.new.text ≡ self.old.text }
     {
         let puts = self.puts.saturating_add(1);
-        let balances = puts >= PUT_LOOKS;
+        let balances = puts >= PUT_ROUNDS;
         self.puts = if balances { 0 } else { puts };
         balances
     }

@@ -41,21 +41,31 @@ fn first_book<N: Name>(books: Vec<Book<N>>) -> Option<Book<N>>
     left.next()
 }
 
-// The value of a key, as the reader finds it: a get, a peek, and whether there is one. Where they differ, 0.
-fn value<N: Name>(reader: &mut WordReader<N, AnyRow>, key: [u64; 2]) -> Option<u64>
+// The value of a key at this time, as the reader finds it: a get, a peek, and whether there is one. Where they differ,
+// 0.
+fn value_at<N: Name>(reader: &mut WordReader<N, AnyRow>, key: [u64; 2], now: u64) -> Option<u64>
     requires { N.table.slots ≡ 3 }
 {
     let hash = SEED.hash(&key);
     let mut value = [0];
     let mut seen = [0];
-    let found = reader.get(hash, &key, &mut value, 20);
-    if reader.peek(hash, &key, &mut seen) != found || reader.contains(hash, &key) != found {
+    let found = reader.get(hash, &key, &mut value, now);
+    if reader.peek(hash, &key, &mut seen, now) != found
+        || reader.contains(hash, &key, now) != found
+    {
         return Some(0);
     }
     if seen[0] != value[0] {
         return Some(0);
     }
     if found { Some(value[0]) } else { None }
+}
+
+// The same at time 20.
+fn value<N: Name>(reader: &mut WordReader<N, AnyRow>, key: [u64; 2]) -> Option<u64>
+    requires { N.table.slots ≡ 3 }
+{
+    value_at(reader, key, 20)
 }
 
 // The value of a key, as it stands in the item whose hold the reader hands out.
@@ -70,12 +80,13 @@ fn held_value<N: Name>(reader: &mut WordReader<N, AnyRow>, key: [u64; 2]) -> Opt
     Some(if word == value[0] { word } else { 0 })
 }
 
-// A put that isn't refused, with the row of what it evicts.
+// A put of what expires then that isn't refused, with the label and the row of what it evicts.
 fn put<N: Name>(
     rt: &impl Abort,
     part: &mut Part<N, AnyRow>,
     row: [u64; 3],
-    evicted: &mut [u64; 3],
+    expires: u64,
+    evicted: &mut [u64; 4],
     now: u64,
 ) -> PutItem
     requires key { part.old.key_words ≡ 2 }
@@ -83,7 +94,7 @@ fn put<N: Name>(
     ensures key { part.new.key_words ≡ 2 }
     ensures value { part.new.value_words ≡ 1 }
 {
-    match part.put(&row, evicted, now) {
+    match part.put(&row, expires, evicted, now) {
         Ok(put) => put,
         Err(_) => panic!(rt; "there is room"),
     }
@@ -100,29 +111,30 @@ fn call_each<N: Name>(
     requires key { part.old.key_words ≡ 2 }
     requires value { part.old.value_words ≡ 1 }
     ensures key { part.new.key_words ≡ 2 }
+    ensures value { part.new.value_words ≡ 1 }
 {
-    let mut evicted = [0; 3];
+    let mut evicted = [0; 4];
     assert!(rt; part.find(&[1, 2]).is_none());
     assert!(rt; value(reader, [1, 2]).is_none());
-    let first = put(rt, part, [1, 2, 30], &mut evicted, 5);
+    let first = put(rt, part, [1, 2, 30], 0, &mut evicted, 5);
     assert!(rt; first.old.is_none());
     assert!(rt; first.evicted.is_none());
     assert!(rt; value(reader, [1, 2]) == Some(30));
     assert!(rt; value(reader, [2, 1]).is_none());
     assert!(rt; part.find(&[1, 2]) == Some(first.chunk));
-    let again = put(rt, part, [1, 2, 31], &mut evicted, 6);
+    let again = put(rt, part, [1, 2, 31], 40, &mut evicted, 6);
     assert!(rt; again.old == Some(first.chunk));
     assert!(rt; value(reader, [1, 2]) == Some(31));
-    let _ = put(rt, part, [3, 4, 50], &mut evicted, 7);
+    let _ = put(rt, part, [3, 4, 50], 0, &mut evicted, 7);
     assert!(rt; value(reader, [3, 4]) == Some(50));
-    assert!(rt; evicted == [0, 0, 0]);
-    let third = put(rt, part, [5, 6, 70], &mut evicted, 8);
+    assert!(rt; evicted == [0, 0, 0, 0]);
+    let third = put(rt, part, [5, 6, 70], 0, &mut evicted, 8);
     assert!(rt; third.evicted == Some(again.chunk));
-    assert!(rt; evicted == [1, 2, 31]);
+    assert!(rt; evicted == [40, 1, 2, 31]);
     assert!(rt; value(reader, [1, 2]).is_none());
     assert!(rt; value(reader, [3, 4]) == Some(50));
     assert!(rt; value(reader, [5, 6]) == Some(70));
-    part.tend(lanes, 8, 9, BOUNDS);
+    part.tend(lanes, 8, 9, BOUNDS, 4);
     assert!(rt; value(reader, [3, 4]) == Some(50));
     assert!(rt; held_value(reader, [3, 4]) == Some(50));
     assert!(rt; part.remove(&[5, 6]) == Some(third.chunk));
@@ -143,6 +155,9 @@ fn clear_all<N: Name>(
 )
     requires slots { N.table.slots ≡ 3 }
     requires key { part.old.key_words ≡ 2 }
+    requires value { part.old.value_words ≡ 1 }
+    ensures key { part.new.key_words ≡ 2 }
+    ensures value { part.new.value_words ≡ 1 }
 {
     part.drain(lanes, 8, 10);
     part.balance(3, BOUNDS, 10);
@@ -150,6 +165,54 @@ fn clear_all<N: Name>(
     part.clear();
     assert!(rt; value(reader, [3, 4]).is_none());
     assert!(rt; part.find(&[3, 4]).is_none());
+}
+
+// What expires soon is in TEMP. Behind its time no reader finds it, and it ends where its chunk has its turn.
+fn expire<N: Name>(
+    rt: &impl Abort,
+    part: &mut Part<N, AnyRow>,
+    lanes: &mut [RawLane<N>],
+    reader: &mut WordReader<N, AnyRow>,
+)
+    requires slots { N.table.slots ≡ 3 }
+    requires key { part.old.key_words ≡ 2 }
+    requires value { part.old.value_words ≡ 1 }
+    ensures key { part.new.key_words ≡ 2 }
+    ensures value { part.new.value_words ≡ 1 }
+{
+    let mut evicted = [0; 4];
+    let soon = put(rt, part, [1, 2, 30], 30, &mut evicted, 20);
+    let _ = put(rt, part, [3, 4, 50], 31, &mut evicted, 20);
+    assert!(rt; part.stats().number_temp == 1);
+    assert!(rt; part.stats().number_hot == 1);
+    assert!(rt; value_at(reader, [1, 2], 29) == Some(30));
+    assert!(rt; value_at(reader, [1, 2], 30).is_none());
+    assert!(rt; value_at(reader, [3, 4], 30) == Some(50));
+    assert!(rt; part.find(&[1, 2]) == Some(soon.chunk));
+    assert!(rt; part.end_expired(4, 29) == 0);
+    let _ = part.end_expired(1, 30);
+    let _ = part.end_expired(3, 30);
+    assert!(rt; part.find(&[1, 2]).is_none());
+    assert!(rt; part.stats().crawler_reclaimed == 1);
+    assert!(rt; part.stats().expired_unfetched == 0);
+    part.tend(lanes, 8, 31, BOUNDS, 4);
+    assert!(rt; part.find(&[3, 4]).is_none());
+    assert!(rt; part.stats().crawler_reclaimed == 2);
+}
+
+// Where room is needed behind its time, it is reclaimed: the label says when it expired.
+fn reclaim<N: Name>(rt: &impl Abort, part: &mut Part<N, AnyRow>)
+    requires key { part.old.key_words ≡ 2 }
+    requires value { part.old.value_words ≡ 1 }
+{
+    let mut evicted = [0; 4];
+    let _ = put(rt, part, [1, 2, 30], 60, &mut evicted, 40);
+    let _ = put(rt, part, [3, 4, 50], 0, &mut evicted, 40);
+    let _ = put(rt, part, [5, 6, 70], 0, &mut evicted, 60);
+    assert!(rt; evicted == [60, 1, 2, 30]);
+    assert!(rt; part.stats().evicted == 1);
+    assert!(rt; part.stats().reclaimed == 1);
+    assert!(rt; part.stats().expired_unfetched == 1);
 }
 
 fn run<N: Name, R: Abort>(rt: &R, alloc: Global, blank: Blank, config: &Config) -> Result<(), Fail>
@@ -172,9 +235,11 @@ fn run<N: Name, R: Abort>(rt: &R, alloc: Global, blank: Blank, config: &Config) 
     let worker = workers.pop().expect(rt, "there is a worker");
     let index = Index::new(alloc, 4)?;
     let mut reader = WordReader::new(worker, heads, index.reader()?);
-    let mut part = Part::new(book, index, SEED, 2, 1, 2);
+    let mut part = Part::new(book, index, SEED, 2, 1, 2, Some(10));
     call_each(rt, &mut part, &mut lanes, &mut reader);
     clear_all(rt, &mut part, &mut lanes, &mut reader);
+    expire(rt, &mut part, &mut lanes, &mut reader);
+    reclaim(rt, &mut part);
     Ok(())
 }
 
@@ -185,7 +250,7 @@ fn use_up_one<N: Name>(rt: &impl Abort, part: &mut Part<N, AnyRow>, key: u64)
     ensures key { part.new.key_words ≡ 2 }
     ensures value { part.new.value_words ≡ 1 }
 {
-    let _ = put(rt, part, [key, key, key], &mut [0; 3], 5);
+    let _ = put(rt, part, [key, key, key], 0, &mut [0; 4], 5);
     assert!(rt; part.remove(&[key, key]).is_some());
 }
 
@@ -206,13 +271,13 @@ fn use_up<N: Name, R: Abort>(
         panic!(rt; "there is a class")
     };
     let index = Index::new(alloc, 4)?;
-    let mut part = Part::new(book, index, SEED, 2, 1, 2);
+    let mut part = Part::new(book, index, SEED, 2, 1, 2, Some(10));
     use_up_one(rt, &mut part, 1);
     use_up_one(rt, &mut part, 2);
     use_up_one(rt, &mut part, 3);
     use_up_one(rt, &mut part, 4);
-    let mut evicted = [0; 3];
-    assert!(rt; part.put(&[5, 5, 5], &mut evicted, 6).is_err());
+    let mut evicted = [0; 4];
+    assert!(rt; part.put(&[5, 5, 5], 0, &mut evicted, 6).is_err());
     assert!(rt; part.find(&[5, 5]).is_none());
     Ok(())
 }

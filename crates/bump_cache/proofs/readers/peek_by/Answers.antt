@@ -23,7 +23,8 @@ returns-clause-found g c =
     let is : c.peek.new.value ≡ g.V.Packed.as_words c.unpack.result =
     told.2 ∙ ap g.V.Packed.as_words (sym (c.unpack.ensures.value told.0 told.1 told.2)) in
     subst (λ key. Peeks (IsPair g.K.Packed.fits g.K.Packed.as_words g.V.Packed.fits g.V.Packed.as_words)
-    c.args.reader.now.config key (g.V.Packed.as_words c.unpack.result) c.args.reader.now.worker c.peek.new.self.worker)
+    c.args.reader.now.config key (g.V.Packed.as_words c.unpack.result) c.args.now c.args.reader.now.worker
+    c.peek.new.self.worker)
     c.pack.ensures.packed
     (subst (λ words. Peeks (IsPair g.K.Packed.fits g.K.Packed.as_words g.V.Packed.fits g.V.Packed.as_words)
-    c.args.reader.now.config c.pack.new.to words c.args.reader.now.worker c.peek.new.self.worker) is found)
+    c.args.reader.now.config c.pack.new.to words c.args.now c.args.reader.now.worker c.peek.new.self.worker) is found)

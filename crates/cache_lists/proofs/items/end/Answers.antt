@@ -5,9 +5,9 @@ use Rattle.bump_rules.specs.Lists.{all_without}
 use Rattle.bump_steps.specs.Views.{owns, standing}
 use Rattle.cache_lists.specs.Linked.{linked_at}
 use Rattle.cache_lists.specs.Segments.{SameSegments}
-use Rattle.cache_lists.proofs.Bumping.{seen_keeps}
+use Rattle.cache_lists.proofs.LookLemmas.{head_looks, looks_keep, looks_same, looks_then, refused_looks}
 use Rattle.cache_lists.proofs.Segments.{unlinks_others}
-use Rattle.cache_lists.proofs.Standings.{unlinks_at, unlink_ok, unlink_err, unlinks_nothing, see_keeps, kept_ends, unlinked_none}
+use Rattle.cache_lists.proofs.Standings.{unlinks_at, unlink_ok, unlink_err, see_keeps, kept_ends, unlinked_none}
 use Rattle.cache_lists.proofs.Ways.{behind_none, seen_flows, unlinks_flow, refused_flow, found_segment}
 use Rattle.cache_lists.proofs.items.end.Goals as goal
 
@@ -25,6 +25,8 @@ returns-in-Ok-clause-ends g c =
       others = subst (λ b. SameSegments (all_without chunk b.lists) left.lists) looked (unlinks_others seen left id _ unlinked);
       not_linked = tt;
       kept = tt;
+      same = tt;
+      looks = tt;
     }
 
 pub returns-in-Ok-clause-flows : goal.returns-in-Ok-clause-flows
@@ -40,19 +42,22 @@ returns-in-Ok-clause-flows g c =
 
 pub returns-in-Err-clause-ends : goal.returns-in-Err-clause-ends
 returns-in-Err-clause-ends g c =
-    let seen = c.load_head-head.new.self in let left = c.unlink.new.self in
+    let book = c.args.book.now in let seen = c.load_head-head.new.self in let left = c.unlink.new.self in
     let chunk = c.args.chunk in
     let id : ItemId = record { chunk = chunk; generation = c.load_head-head.result.generation } in
     let looked = c.load_head-head.ensures.looked in
     let own = ap (λ b. owns chunk b.part) looked ∙ c.requires.own in
+    let looks = looks_then book seen left (head_looks book seen chunk c.load_head-head.result looked)
+    (refused_looks seen left id _ c.in-Err.ensures.unlinked) in
     record {
       ends = tt;
       others = tt;
-      not_linked = unlinked_none c.args.book.now chunk id.generation c.load_head-head.ensures.generation
+      not_linked = unlinked_none book chunk id.generation c.load_head-head.ensures.generation
           (λ linked. unlink_err seen id _ c.promise.ensures.stands own c.in-Err.ensures.refused
           (ap (λ b. linked_at b.part chunk) looked ∙ linked));
-      kept = seen_keeps c.args.book.now seen left chunk c.load_head-head.result looked
-          (unlinks_nothing seen left id _ c.in-Err.ensures.unlinked);
+      kept = looks_keep book left looks;
+      same = looks_same book left looks;
+      looks = looks;
     }
 
 pub returns-in-Err-clause-stays : goal.returns-in-Err-clause-stays

@@ -3,9 +3,7 @@ use Rattle.bump_links.specs.Lists.{last_of}
 use Rattle.bump_rules.specs.Lists.{list_at}
 use Rattle.bump_rules.specs.Places.{place_of}
 use Rattle.bump_class.specs.Pulls.{PullsBy, limits_of_call}
-use Rattle.cache_lists.proofs.AgeLemmas.{pulled_past, sight_flows, sight_keeps}
-use Rattle.cache_lists.proofs.Standings.{keeps_then}
-use Rattle.cache_lists.proofs.Ways.{behind_none}
+use Rattle.cache_lists.proofs.AgeLemmas.{pulled_past}
 use Rattle.cache_lists.proofs.items.look_past.Goals as goal
 
 pub returns-clause-looked : goal.returns-clause-looked

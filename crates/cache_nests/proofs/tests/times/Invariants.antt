@@ -1,8 +1,9 @@
 use Rattle.std.proofs.Common.{◌≡◌}
+use Rattle.cache_nests.specs.Views.{ahead}
 use Rattle.cache_nests.proofs.tests.times.Given as goal
 
 abbrev pub invariant-loop-life : goal.invariant-loop-life
 invariant-loop-life l = l.search.nests ≡ l.reader
 
 abbrev pub decreases-loop-life : goal.decreases-loop-life
-decreases-loop-life l = l.search.ahead
+decreases-loop-life l = ahead l.search

@@ -1,4 +1,4 @@
-use Rattle.std.proofs.Common.{◌+◌, ◌≡◌, ◌<◌, length, refl, sym, ap, ◌∙◌, subst, arith, is_some, true}
+use Rattle.std.proofs.Common.{◌+◌, ◌≡◌, ◌<◌, length, refl, sym, ◌∙◌, subst, arith, is_some, true}
 use Rattle.cache_lists.specs.Counts.{CountedView}
 use Rattle.cache_nests.specs.Views.{led_at, IndexView}
 use Rattle.cache_part.proofs.ClearLemmas.{ClearedTo, cleared_more, cleared_still, empty_all}

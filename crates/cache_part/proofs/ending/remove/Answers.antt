@@ -5,7 +5,7 @@ use Rattle.cache_lists.proofs.Standings.{kept_ends}
 use Rattle.cache_part.specs.Keys.{IsItemOf}
 use Rattle.cache_part.specs.Parts.{IsPart}
 use Rattle.cache_part.proofs.LookLemmas.{looks_keep}
-use Rattle.cache_part.proofs.PartLemmas.{part_looked, part_ended, linked_within, linked_owned}
+use Rattle.cache_part.proofs.PartLemmas.{class_then, part_looked, part_ended, linked_within, linked_owned}
 use Rattle.cache_part.proofs.ending.remove.Goals as goal
 
 pub end_led-requires : goal.end_led-requires
@@ -53,3 +53,11 @@ pub returns-in_default-clause-part : goal.returns-in_default-clause-part
 returns-in_default-clause-part g c =
     part_looked c.args.seed c.args.key_words c.args.lists.now.book c.find-found.new.lists.book c.args.index.now
     c.find-found.new.index c.requires.part c.find-found.ensures.looks c.find-found.ensures.index
+
+pub returns-clause-class : goal.returns-clause-class
+returns-clause-class g c = class_then c.args.lists.now.book c.find-found.new.lists.book c.end_led.new.lists.book
+    (looks_keep c.args.lists.now.book c.find-found.new.lists.book c.find-found.ensures.looks).class c.end_led.ensures.ends.class
+
+pub returns-in_default-clause-class : goal.returns-in_default-clause-class
+returns-in_default-clause-class g c =
+    (looks_keep c.args.lists.now.book c.find-found.new.lists.book c.find-found.ensures.looks).class

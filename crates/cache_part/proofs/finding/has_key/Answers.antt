@@ -2,7 +2,7 @@ use Rattle.std.proofs.Common.{◌≡◌, suc, ◌+◌, get_or, refl, sym, ap, �
 use Rattle.bump_steps.specs.Views.{owns, last_word}
 use Rattle.cache_part.specs.Keys.{words_from, key_at}
 use Rattle.cache_part.proofs.KeyLemmas.{words_read, word_read}
-use Rattle.cache_part.proofs.LookLemmas.{looks_then, word_looks, word_rest, rest_then}
+use Rattle.cache_part.proofs.LookLemmas.{looks_then, word_looks, seen_rest, rest_then}
 use Rattle.cache_part.proofs.finding.has_key.Goals as goal
 
 pub word-requires-clause-own : goal.word-requires-clause-own
@@ -28,7 +28,7 @@ loop-index-preserved g c =
       looks = looks_then c.args.lists.now.book now.book left.book so_far.looks
           (word_looks now left c.args.chunk c.word.result c.word.ensures.seen);
       rest = rest_then c.args.lists.now now left so_far.rest
-          (word_rest now left c.args.chunk c.word.result c.word.ensures.seen);
+          (seen_rest now left _ c.word.ensures.seen);
       same = below_more _ _ so_far.same
           (sym (c.word.ensures.stored
           ∙ ap (λ b. last_word (suc c.loop-index.index) b.part c.args.chunk) so_far.looks) ∙ c.if-word-key.false);
@@ -60,4 +60,4 @@ returns-then-word-key-clause-looks g c = looks_then c.args.lists.now.book c.loop
 
 pub returns-then-word-key-clause-rest : goal.returns-then-word-key-clause-rest
 returns-then-word-key-clause-rest g c = rest_then c.args.lists.now c.loop-index.lists c.word.new.self
-    c.loop-index.invariant.rest (word_rest c.loop-index.lists c.word.new.self c.args.chunk c.word.result c.word.ensures.seen)
+    c.loop-index.invariant.rest (seen_rest c.loop-index.lists c.word.new.self _ c.word.ensures.seen)

@@ -1,8 +1,7 @@
-use Rattle.std.proofs.Common.{subst, arith, take}
-use Rattle.cache_part.specs.Putting.{TellsWords}
+use Rattle.std.proofs.Common.{arith, take}
 use Rattle.cache_part.proofs.LookLemmas.{looks_keep}
 use Rattle.cache_part.proofs.PartLemmas.{part_looked, part_kept}
-use Rattle.cache_part.proofs.RoomLemmas.{part_evicted, room_stays, room_another, room_gone, item_stays, told_same}
+use Rattle.cache_part.proofs.RoomLemmas.{part_evicted, room_class, room_stays, room_another, room_gone, item_stays, told_same}
 use Rattle.cache_part.proofs.putting.make_room.Goals as goal
 
 pub find_key_of-found-requires : goal.find_key_of-found-requires
@@ -21,12 +20,14 @@ evict_where_full-evicted-requires g c =
       count = one.count;
       first = one.first;
       leads = one.agrees.leads;
-      few = omega (arith, c.requires.told, c.requires.words, c.requires.few);
+      told = c.requires.told;
+      few = omega (arith, c.requires.words, c.requires.few);
     }
 
 pub returns : goal.returns
 returns g c =
     let seed = c.args.settings.seed in let kw = c.args.settings.key_words in let items = c.args.settings.items in
+    let now = c.args.now in
     let before = c.args.lists.now in let seen = c.find_key_of-found.new.lists in
     let left = c.evict_where_full-evicted.new.lists in let between = c.free_where_none.new.lists in
     let found = c.find_key_of-found.ensures in let evicts = c.evict_where_full-evicted.ensures in
@@ -34,13 +35,14 @@ returns g c =
     let at = c.find_key_of-found.result.chunk in let evicted = c.evict_where_full-evicted.result in
     let one = part_looked seed kw before.book seen.book c.args.index.now c.find_key_of-found.new.index c.requires.part
     found.looks found.index in
-    let two = part_evicted seed kw items at evicted seen left c.find_key_of-found.new.index index evicts.evicts
+    let two = part_evicted seed kw items now at evicted seen left c.find_key_of-found.new.index index evicts.evicts
     evicts.table evicts.index one in
     record {
       part = part_kept seed kw left.book between.book index.table two frees.kept;
+      class = room_class items now at evicted before.book between.book seen left found.looks evicts.evicts frees.kept;
       hash = found.hash;
       was = found.item;
-      item = item_stays items at evicted before.book between.book seen left found.looks evicts.evicts frees.kept kw
+      item = item_stays items now at evicted before.book between.book seen left found.looks evicts.evicts frees.kept kw
           (take kw c.args.row.now) found.item;
       room = record {
         seen = seen;
@@ -51,11 +53,9 @@ returns g c =
         frees = frees.frees;
         counts = frees.counts;
       };
-      stay = room_stays items at evicted before.book between.book seen left found.looks evicts.evicts frees.kept;
-      told = let now = c.evict_where_full-evicted.new.told in
-          subst (λ n. TellsWords n evicted c.args.told.now now before.book.part) c.requires.told
-          (told_same _ evicted c.args.told.now now before.book.part seen.book.part
-          (looks_keep before.book seen.book found.looks).words evicts.told);
-      another = room_another items at evicted before.book between.book seen left found.looks evicts.evicts frees.kept;
-      gone = room_gone items at evicted before.book between.book seen left found.looks evicts.evicts frees.kept;
+      stay = room_stays items now at evicted before.book between.book seen left found.looks evicts.evicts frees.kept;
+      told = told_same _ evicted c.args.told.now c.evict_where_full-evicted.new.told before.book.part seen.book.part
+          (looks_keep before.book seen.book found.looks).words evicts.told;
+      another = room_another items now at evicted before.book between.book seen left found.looks evicts.evicts frees.kept;
+      gone = room_gone items now at evicted before.book between.book seen left found.looks evicts.evicts frees.kept;
     }

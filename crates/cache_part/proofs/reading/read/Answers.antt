@@ -3,7 +3,7 @@ use Rattle.std.proofs.lemmas.List.{get_or-set_same, get_or-set_other, length-set
 use Rattle.bump_steps.specs.Views.{owns, last_word}
 use Rattle.cache_part.specs.Keys.{words_from}
 use Rattle.cache_part.proofs.KeyLemmas.{words_read}
-use Rattle.cache_part.proofs.LookLemmas.{looks_then, word_looks, word_rest, rest_then}
+use Rattle.cache_part.proofs.LookLemmas.{looks_then, word_looks, seen_rest, rest_then}
 use Rattle.cache_part.proofs.reading.read.Goals as goal
 
 pub word-requires-clause-own : goal.word-requires-clause-own
@@ -32,7 +32,7 @@ loop-index-preserved g c =
     record {
       looks = looks_then c.args.lists.now.book now.book left.book so_far.looks
           (word_looks now left c.args.chunk read c.word.ensures.seen);
-      rest = rest_then c.args.lists.now now left so_far.rest (word_rest now left c.args.chunk read c.word.ensures.seen);
+      rest = rest_then c.args.lists.now now left so_far.rest (seen_rest now left _ c.word.ensures.seen);
       size = length-set words index read ∙ so_far.size;
       same = below_more _ _
           (λ j low. so_far.same j low ∙ sym (get_or-set_other words index j read 0 (λ same. omega (arith, low, same))))

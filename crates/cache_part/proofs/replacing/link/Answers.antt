@@ -1,4 +1,5 @@
 use Rattle.std.proofs.Common.{◌≡◌, ℕ, Option, Some, IsSome, sym, ap, ◌∙◌, subst, ne_eqb, if◌then◌else◌}
+use Rattle.bump_class.specs.Changes.{book_with_words}
 use Rattle.cache_lists.specs.Linked.{linked_at}
 use Rattle.cache_lists.proofs.Standings.{owns_same}
 use Rattle.cache_nests.specs.Views.{led_at}
@@ -44,12 +45,13 @@ returns-in-Some-chunk-clause-table g c =
 pub returns-in-Some-chunk-clause-links : goal.returns-in-Some-chunk-clause-links
 returns-in-Some-chunk-clause-links g c =
     let did = c.in-Some.ensures in
-    let P : Option ℕ → Type 0 = λ o. Links o c.args.row.now c.args.now c.in-Some.id c.args.lists.now.book
-    c.replace.new.lists.book in
+    let P : Option ℕ → Type 0 = λ o. Links c.args.temporary o c.args.row.now c.args.expires c.args.now
+    c.in-Some.id c.args.lists.now.book c.replace.new.lists.book in
     subst P (sym c.in-Some-chunk.is) (record {
       first = did.first;
       begun = c.begin.new.self.book;
-      linked = did.linked;
+      linked = subst (λ s. c.begin.new.self.book ≡ book_with_words s c.in-Some.id c.args.expires c.args.row.now c.args.now
+          c.args.lists.now.book) c.start-start.ensures did.linked;
       begins = did.begins;
       has_row = did.row;
       ends = (c.replace.ensures.ends, c.replace.ensures.others);

@@ -1,4 +1,4 @@
-use Rattle.std.proofs.Common.{◌≢◌, None, IsSome, sym, ap, ◌∙◌, subst, slice_set, inl}
+use Rattle.std.proofs.Common.{◌≢◌, None, IsSome, ap, ◌∙◌, subst, slice_set, inl}
 use Rattle.std.proofs.lemmas.List.{get_or-set_same, get_or-set_other}
 use Rattle.cache_lists.specs.Linked.{linked_at}
 use Rattle.cache_nests.specs.Views.{led_at, with_generation}

@@ -1,9 +1,10 @@
-use Rattle.std.proofs.Common.{◌≡◌, false, IsSome, is_some, length, refl, sym, ◌∙◌, subst, arith}
+use Rattle.std.proofs.Common.{◌≡◌, ◌+◌, ◌-◌, false, IsSome, is_some, length, refl, sym, ap, ◌∙◌, subst, arith}
 use Rattle.cache_lists.specs.Linked.{linked_at}
 use Rattle.cache_lists.proofs.Standings.{owns_same}
 use Rattle.cache_nests.specs.Views.{led_at}
+use Rattle.cache_part.specs.Keys.{row_of}
 use Rattle.cache_part.proofs.Agreements.{led_some, nothing_where}
-use Rattle.cache_part.proofs.KeyLemmas.{words_same}
+use Rattle.cache_part.proofs.KeyLemmas.{row_same}
 use Rattle.cache_part.proofs.room.evict_where_full.Goals as goal
 
 pub clear-requires : goal.clear-requires
@@ -13,11 +14,12 @@ clear-requires g c =
     led_some (led_at table chunk) (linked_at c.args.lists.now.book.part chunk) (c.requires.leads chunk)
     (subst IsSome (sym was.1) refl)
 
-pub read-requires : goal.read-requires
-read-requires g c =
+pub read_row-requires : goal.read_row-requires
+read_row-requires g c =
     let ends = c.in-Some.ensures.ends in record {
       own = owns_same c.args.lists.now.book c.evict.new.self.book ends.class c.in-Some.victim.chunk ∙ ends.own;
-      few = omega (arith, c.requires.few);
+      some = omega (arith, c.requires.told);
+      few = omega (arith, c.requires.told, c.requires.few);
     }
 
 pub returns-clause-evicts : goal.returns-clause-evicts
@@ -33,13 +35,15 @@ returns-clause-evicts g c =
           evicts = c.in-Some.ensures.evicts;
           ends = c.in-Some.ensures.ends;
         };
-        looks = c.read.ensures.looks;
-        same = c.read.ensures.rest;
+        looks = c.read_row.ensures.looks;
+        same = c.read_row.ensures.rest;
       },
     )
 
 pub returns-clause-told : goal.returns-clause-told
 returns-clause-told g c =
-    let chunk = c.in-Some.victim.chunk in
-    c.read.ensures.read ∙ words_same c.args.lists.now.book.part c.evict.new.self.book.part chunk 0
-    (length c.args.told.now) (λ i. c.in-Some.ensures.ends.words i chunk)
+    let chunk = c.in-Some.victim.chunk in let left = c.evict.new.self.book.part in
+    let words : length c.args.told.now - 1 ≡ c.args.settings.key_words + c.args.settings.value_words =
+    omega (arith, c.requires.told) in
+    c.read_row.ensures.read ∙ (ap (λ n. row_of n left chunk) words
+    ∙ row_same c.args.lists.now.book.part left chunk _ (λ i. c.in-Some.ensures.ends.words i chunk))

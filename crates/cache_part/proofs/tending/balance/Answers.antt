@@ -1,6 +1,4 @@
-use Rattle.std.proofs.Common.{◌≡◌, subst, ap₂, ◌∙◌}
 use Rattle.cache_lists.proofs.Standings.{keeps_then}
-use Rattle.cache_part.specs.Tending.{BalancesUpTo}
 use Rattle.cache_part.proofs.tending.balance.Goals as goal
 
 pub returns-clause-kept : goal.returns-clause-kept

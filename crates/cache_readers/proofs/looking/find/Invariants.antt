@@ -3,5 +3,5 @@ use Rattle.cache_readers.specs.Looks.{FindsNothing}
 use Rattle.cache_readers.proofs.looking.find.Given as goal
 
 abbrev pub invariant-loop-turn : goal.invariant-loop-turn
-invariant-loop-turn g l = FindsNothing l.fn.heads l.fn.key l.fn.worker l.worker
+invariant-loop-turn g l = FindsNothing l.fn.heads l.fn.key l.fn.now l.fn.worker l.worker
     × (l.worker.sender.ring ≡ l.fn.worker.sender.ring)

@@ -1,4 +1,4 @@
-use Rattle.std.proofs.Common.{rules, refl}
+use Rattle.std.proofs.Common.{rules, refl, inl, inr}
 use Rattle.cache_readers.proofs.LookLemmas.{takes_first, vain_of_hold}
 use Rattle.cache_readers.proofs.looking.look.Goals as goal
 
@@ -12,11 +12,16 @@ returns-in_default-clause-vain g c = record {
 }
 
 pub returns-then-not-has_key-clause-vain : goal.returns-then-not-has_key-clause-vain
-returns-then-not-has_key-clause-vain g c = vain_of_hold c.args.heads.now _ c.args.id.chunk _ _ c.in-Ok.hold c.in-Ok.found
-    (record { missing = c.in-Ok.ensures.missing; got = c.in-Ok.ensures.got }) (c.if-not-has_key.ensures.other refl)
-    c.in-Ok.ensures.few
+returns-then-not-has_key-clause-vain g c = vain_of_hold c.args.heads.now _ c.args.now c.args.id.chunk _ _ c.in-Ok.hold
+    c.in-Ok.found (record { missing = c.in-Ok.ensures.missing; got = c.in-Ok.ensures.got })
+    (inl (c.if-not-has_key.ensures.other refl)) c.in-Ok.ensures.few
+
+pub returns-then-has_expired-clause-vain : goal.returns-then-has_expired-clause-vain
+returns-then-has_expired-clause-vain g c = vain_of_hold c.args.heads.now _ c.args.now c.args.id.chunk _ _ c.in-Ok.hold
+    c.in-Ok.found (record { missing = c.in-Ok.ensures.missing; got = c.in-Ok.ensures.got })
+    (inr (c.if-not-has_key.ensures.has refl, search rules)) c.in-Ok.ensures.few
 
 pub returns-clause-takes : goal.returns-clause-takes
-returns-clause-takes g c = takes_first _ c.args.heads.now _ c.args.id.chunk _ _ c.in-Ok.hold _ c.in-Ok.found
-    c.has_key.ensures.same (record { missing = c.in-Ok.ensures.missing; got = c.in-Ok.ensures.got })
-    (c.if-not-has_key.ensures.has refl) c.in-Ok.ensures.law c.in-Ok.ensures.few
+returns-clause-takes g c = takes_first _ c.args.heads.now _ c.args.now c.args.id.chunk _ _ c.in-Ok.hold _
+    c.in-Ok.found (search rules) (record { missing = c.in-Ok.ensures.missing; got = c.in-Ok.ensures.got })
+    (c.if-not-has_key.ensures.has refl) (search rules) c.in-Ok.ensures.law c.in-Ok.ensures.few

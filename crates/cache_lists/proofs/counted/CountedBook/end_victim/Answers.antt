@@ -1,7 +1,7 @@
 use Rattle.std.proofs.Common.{None, Some, sym, ap, ◌∙◌, subst}
 use Rattle.bump_rules.specs.Places.{place_of}
 use Rattle.bump_rules.specs.declared.places.Place.TheVariants.{Dying}
-use Rattle.cache_lists.specs.Counts.{IsFlow, noted}
+use Rattle.cache_lists.specs.Counts.{IsFlow, noted, with_eviction}
 use Rattle.cache_lists.specs.Ends.{EndsInTurn, EndsNext}
 use Rattle.cache_lists.specs.Flows.{way_to}
 use Rattle.cache_lists.proofs.Counting.{counts, flow_goes_twice, end_is_ours}
@@ -17,17 +17,19 @@ invariant_of-self g c = subst (λ f. IsFlow f c.end_next.new.book.part)
 pub returns-in-Some : goal.returns-in-Some
 returns-in-Some g c =
     let it = c.in-Some.ended in record {
-      ends = subst (λ v. EndsInTurn it v (counts c.end_next.new.book c.note_end.new.self c.note.new.self)) c.self.view_is (record {
-        next = c.in-Some.ensures.next;
-        told = c.in-Some.ensures.ends;
-        flow = c.note_end.ensures ∙ ap (noted (Some (place_of it.from, Dying))) c.note_move.ensures;
-        evictions = c.note.ensures;
-      });
+      ends = subst (λ v. EndsInTurn c.args.now it v (counts c.end_next.new.book c.note_end.new.self c.note.new.self))
+          c.self.view_is (record {
+            next = c.in-Some.ensures.next;
+            told = c.in-Some.ensures.ends;
+            flow = c.note_end.ensures ∙ ap (noted (Some (place_of it.from, Dying))) c.note_move.ensures;
+            evictions = c.note.ensures
+                ∙ ap (λ b. with_eviction b it.fetched it.active c.self.inside.evictions) c.has_expired-expired.ensures;
+          });
     }
 
 pub returns-in-None : goal.returns-in-None
 returns-in-None g c =
     let flow = c.self.inside.flow in let evictions = c.self.inside.evictions in record {
-      ends = subst (λ v. EndsNext None v (counts c.end_next.new.book flow evictions)) c.self.view_is
+      ends = subst (λ v. EndsNext c.args.now None v (counts c.end_next.new.book flow evictions)) c.self.view_is
           (c.in-None.ensures.next, ap (λ b. counts b flow evictions) c.in-None.ensures.ends);
     }

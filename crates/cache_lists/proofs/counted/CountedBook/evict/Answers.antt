@@ -14,7 +14,7 @@ returns-in-Some-clause-evicts g c =
       between = up.between;
       rescues = up.rescues;
       left = c.rescue.new.self;
-      may = may_end c.rescue.result it c.args.self.now.book c.rescue.new.self.book up turn.next turn.told.list;
+      may = may_end c.args.now c.rescue.result it c.args.self.now.book c.rescue.new.self.book up turn.next turn.told.list;
       flow = c.rescue.ensures.flow;
       evictions = c.rescue.ensures.evictions;
       turn = turn;
@@ -24,19 +24,23 @@ pub returns-in-Some-clause-ends : goal.returns-in-Some-clause-ends
 returns-in-Some-clause-ends g c = kept_ends c.args.self.now.book c.rescue.new.self.book c.end_victim.new.self.book
     c.in-Some.ended.chunk c.rescue.ensures.kept c.in-Some.ensures.ends.told.ends
 
+pub returns-in-Some-clause-expires : goal.returns-in-Some-clause-expires
+returns-in-Some-clause-expires g c =
+    c.in-Some.ensures.ends.told.expires ∙ c.rescue.ensures.kept.words 0 c.in-Some.ended.chunk
+
 pub returns-in-Some-clause-some : goal.returns-in-Some-clause-some
-returns-in-Some-clause-some g c none = absurd (cc (sym (nothing_there most_rescues c.rescue.result c.args.self.now.book
+returns-in-Some-clause-some g c none = absurd (cc (sym (nothing_there c.args.now most_rescues c.rescue.result c.args.self.now.book
     c.rescue.new.self.book c.rescue.ensures.rescued none) ∙ c.in-Some.ensures.ends.next))
 
 pub returns-in-None-clause-empty : goal.returns-in-None-clause-empty
 returns-in-None-clause-empty g c =
-    let nothing = nothing_rescued most_rescues c.rescue.result c.args.self.now.book c.rescue.new.self.book (omega arith)
+    let nothing = nothing_rescued c.args.now most_rescues c.rescue.result c.args.self.now.book c.rescue.new.self.book (omega arith)
     c.rescue.ensures.rescued c.in-None.ensures.ends.0 in
     ap (λ b. victim b.lists) (sym nothing.1) ∙ c.in-None.ensures.ends.0
 
 pub returns-in-None-clause-none : goal.returns-in-None-clause-none
 returns-in-None-clause-none g c =
-    let nothing = nothing_rescued most_rescues c.rescue.result c.args.self.now.book c.rescue.new.self.book (omega arith)
+    let nothing = nothing_rescued c.args.now most_rescues c.rescue.result c.args.self.now.book c.rescue.new.self.book (omega arith)
     c.rescue.ensures.rescued c.in-None.ensures.ends.0 in
     c.in-None.ensures.ends.1 ∙ same_counted c.rescue.new.self c.args.self.now nothing.1
     (c.rescue.ensures.flow ∙ ap (λ n. noted_times n (Some (Cold, Warm)) c.args.self.now.flow) nothing.0)

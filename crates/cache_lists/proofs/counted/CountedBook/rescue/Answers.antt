@@ -11,7 +11,7 @@ loop-rescued-init g c = record { rescues = refl; kept = keeps_still c.args.self.
 pub loop-rescued-preserved : goal.loop-rescued-preserved
 loop-rescued-preserved g c =
     let so_far = c.loop-rescued.invariant in let did = c.in-true.ensures in record {
-      rescues = rescues_more _ _ _ _ so_far.rescues did.looked;
+      rescues = rescues_more _ _ _ _ _ so_far.rescues did.looked;
       kept = keeps_then _ _ _ so_far.kept did.kept;
       flow = noted_more c.loop-rescued.rescued (Some (Cold, Warm)) c.args.self.now.flow c.loop-rescued.self.flow
           c.rescue_last.new.self.flow so_far.flow did.flow;
@@ -25,7 +25,7 @@ returns-clause-rescued g c =
     record {
       few = omega arith;
       between = c.loop-rescued.self.book;
-      rescues = subst (λ n. Rescues n c.args.self.now.book c.loop-rescued.self.book) all did.rescues;
+      rescues = subst (λ n. Rescues c.args.now n c.args.self.now.book c.loop-rescued.self.book) all did.rescues;
       ends = inl (refl, refl);
     }
 

@@ -7,7 +7,7 @@ use Rattle.cache_lists.proofs.counted.CountedBook.rescue.Given as goal
 -- so many were rescued and counted
 abbrev pub invariant-loop-rescued : goal.invariant-loop-rescued
 invariant-loop-rescued g l = record {
-  rescues : Rescues l.rescued l.fn.self.book l.self.book;
+  rescues : Rescues l.now l.rescued l.fn.self.book l.self.book;
   kept : KeepsItems l.fn.self.book l.self.book;
   flow : l.self.flow ≡ noted_times l.rescued (Some (Cold, Warm)) l.fn.self.flow;
   evictions : l.self.evictions ≡ l.fn.self.evictions;

@@ -1,8 +1,23 @@
-use Rattle.std.proofs.Common.{arith}
-use Rattle.cache_nests.proofs.WriterLemmas.{lane_of_bits}
+use Rattle.std.proofs.Common.{rules}
+use Rattle.cache_nests.proofs.WalkLemmas.{walked_more}
 use Rattle.cache_nests.proofs.readers.Search.next.Goals as goal
 
-pub life_now-requires-clause-lane : goal.life_now-requires-clause-lane
-life_now-requires-clause-lane c =
-    let some = c.loop-self-test.false in
-    lane_of_bits c.loop-self.self-inside.lanes (omega arith) c.loop-self.invariant.1
+pub loop-self-preserved : goal.loop-self-preserved
+loop-self-preserved c = (
+  search rules,
+  search rules,
+  walked_more _ _ _ c.loop-self.invariant.2 (search rules) (search rules) c.loop-self.invariant.0 c.walk.ensures.later
+      c.walk.ensures.nest,
+  search rules,
+  search rules,
+  search rules,
+)
+
+pub returns-then-self-eq0-clause-walks : goal.returns-then-self-eq0-clause-walks
+returns-then-self-eq0-clause-walks c = search rules
+
+pub returns-clause-walks : goal.returns-clause-walks
+returns-clause-walks c = search rules
+
+pub returns-clause-one : goal.returns-clause-one
+returns-clause-one c = search rules

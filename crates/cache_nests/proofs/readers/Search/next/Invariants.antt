@@ -1,12 +1,13 @@
-use Rattle.std.proofs.Common.{◌≡◌, ◌+◌, ◌*◌, ◌^◌, ◌<◌, ◌≤◌}
+use Rattle.std.proofs.Common.{◌≡◌, ◌<◌, ◌≤◌}
+use Rattle.cache_nests.specs.Views.{ahead}
+use Rattle.cache_nests.proofs.WalkLemmas.{Walked}
 use Rattle.cache_nests.proofs.readers.Search.next.Given as goal
 
 abbrev pub invariant-loop-self : goal.invariant-loop-self
 invariant-loop-self l =
-    (l.self-inside.tag < 256) × (l.self-inside.lanes < 2 ^ 48) × (l.self-inside.nest < l.self-inside.nests)
-    × (l.self-inside.nests ≡ l.initial.self-inside.nests)
-    × (2 ^ 48 * l.self-inside.later + l.self-inside.lanes ≤ 2 ^ 48 * l.initial.self-inside.later +
-    l.initial.self-inside.lanes)
+    (l.self.nests ≡ l.fn.self.nests) × (l.self.tag ≡ l.fn.self.tag) × Walked l.fn.self l.self
+    × (l.self.later ≡ l.fn.self.later → l.self.lanes ≡ l.fn.self.lanes)
+    × (0 < l.fn.self.lanes → l.self.later ≡ l.fn.self.later) × (ahead l.self ≤ ahead l.fn.self)
 
 abbrev pub decreases-loop-self : goal.decreases-loop-self
-decreases-loop-self l = l.self-inside.later
+decreases-loop-self l = l.self.later

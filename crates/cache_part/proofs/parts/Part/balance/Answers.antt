@@ -1,7 +1,7 @@
 use Rattle.std.proofs.Common.{refl, subst}
 use Rattle.cache_lists.specs.Items.{KeepsItems}
 use Rattle.cache_part.specs.Tending.{BalancesByAge}
-use Rattle.cache_part.proofs.PartLemmas.{part_kept}
+use Rattle.cache_part.proofs.PartLemmas.{cursor_kept, part_kept}
 use Rattle.cache_part.proofs.ViewLemmas.{index_stays}
 use Rattle.cache_part.proofs.parts.Part.balance.Goals as goal
 
@@ -10,6 +10,7 @@ invariant_of-self g c = (
   part_kept c.self.inside.settings.seed c.self.inside.settings.key_words c.self.inside.lists.book
       c.balance.new.lists.book c.self.inside.index.table c.self.invariant.0 c.balance.ensures.kept,
   c.self.invariant.1,
+  cursor_kept c.self.inside.cursor c.self.inside.lists.book c.balance.new.lists.book c.balance.ensures.kept.class c.self.invariant.2,
 )
 
 pub returns : goal.returns

@@ -1,11 +1,17 @@
 use Rattle.std.proofs.Common.{◌≡◌, ℕ, subst}
 use Rattle.bump_steps.specs.Views.{last_word}
 use Rattle.cache_lists.specs.Items.{IsSameClass}
+use Rattle.cache_part.proofs.PartLemmas.{cursor_kept}
 use Rattle.cache_part.proofs.ViewLemmas.{evictions_stay}
 use Rattle.cache_part.proofs.parts.Part.clear.Goals as goal
 
 pub invariant_of-self : goal.invariant_of-self
-invariant_of-self g c = (c.clear.ensures.part, c.self.invariant.1)
+invariant_of-self g c = (
+  c.clear.ensures.part,
+  c.self.invariant.1,
+  cursor_kept c.self.inside.cursor c.self.inside.lists.book c.clear.new.lists.book c.clear.ensures.class
+      c.self.invariant.2,
+)
 
 pub returns : goal.returns
 returns g c =

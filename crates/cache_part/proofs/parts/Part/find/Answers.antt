@@ -1,7 +1,8 @@
 use Rattle.std.proofs.Common.{IfSome, IfNone, sym, ap, ◌∙◌, subst, arith}
 use Rattle.cache_part.specs.Looks.{LooksOnly}
 use Rattle.cache_part.specs.Parts.{IsUnder, IsUnknown}
-use Rattle.cache_part.proofs.PartLemmas.{part_looked, item_some, item_none}
+use Rattle.cache_part.proofs.LookLemmas.{looks_keep}
+use Rattle.cache_part.proofs.PartLemmas.{cursor_kept, part_looked, item_some, item_none}
 use Rattle.cache_part.proofs.ViewLemmas.{book_alone}
 use Rattle.cache_part.proofs.parts.Part.find.Goals as goal
 
@@ -18,6 +19,8 @@ invariant_of-self g c = (
       c.self.inside.lists.book c.find.new.lists.book c.self.inside.index c.find.new.index c.self.invariant.0
       c.find.ensures.looks c.find.ensures.index,
   c.self.invariant.1,
+  cursor_kept c.self.inside.cursor c.self.inside.lists.book c.find.new.lists.book
+      (looks_keep c.self.inside.lists.book c.find.new.lists.book c.find.ensures.looks).class c.self.invariant.2,
 )
 
 pub returns-clause-found : goal.returns-clause-found

@@ -1,4 +1,4 @@
-use Rattle.std.proofs.Common.{sym, subst}
+use Rattle.std.proofs.Common.{sym, subst, arith}
 use Rattle.cache_part.specs.Parts.{IsPart}
 use Rattle.cache_part.proofs.PartLemmas.{part_new}
 use Rattle.cache_part.proofs.parts.Part.new.Goals as goal
@@ -9,4 +9,5 @@ invariant_of-result g c = (
       (part_new c.args.seed c.args.key_words c.args.book c.args.index.table c.requires.first c.requires.history
       c.requires.index),
   c.requires.words,
+  omega arith,
 )

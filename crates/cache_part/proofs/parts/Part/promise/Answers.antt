@@ -1,4 +1,4 @@
-use Rattle.std.proofs.Common.{◌+◌, ◌≤◌, length, subst}
+use Rattle.std.proofs.Common.{◌+◌, ◌-◌, ◌≤◌, length, subst}
 use Rattle.bump_class.specs.Books.{IsBook}
 use Rattle.cache_lists.specs.Counts.{IsFlow, SegmentsAddUp}
 use Rattle.cache_part.specs.Parts.{IsPart}
@@ -12,5 +12,6 @@ returns g c =
       book = subst (λ v. IsBook v.book) is c.promise.ensures.book;
       flow = subst (λ v. IsFlow v.flow v.book.part) is c.promise.ensures.flow;
       sums = subst (λ v. SegmentsAddUp (length v.book.lists.hot) (length v.book.lists.warm)
-          (length v.book.lists.cold) v.book.part) is c.promise.ensures.sums;
+          (length v.book.lists.cold) (length v.book.lists.temp) v.book.part) is c.promise.ensures.sums;
+      cursor = subst (λ v. v.cursor ≤ v.book.part.count - 1) is c.self.invariant.2;
     }

@@ -1,54 +1,152 @@
-use Rattle.std.proofs.Common.{ℕ, ◌+◌, Option, None, Some, IfOk, IfErr, IfSome, IsSome, sym, ap, ◌∙◌, rules, subst, arith, take, drop, length, ◌≡◌}
+use Rattle.std.proofs.Common.{ℕ, ◌+◌, Option, None, Some, IfSome, IsSome, refl, sym, ap, ◌∙◌, rules, subst, arith, take, drop, length, suc, ◌≡◌}
+use Rattle.bump_links.specs.Lists.{first_of}
+use Rattle.cache_lists.specs.Counts.{CountedView}
+use Rattle.cache_lists.specs.Items.{IsSameClass}
 use Rattle.cache_lists.specs.Linked.{linked_at}
+use Rattle.cache_nests.specs.Views.{IndexView}
 use Rattle.cache_part.specs.Keys.{value_at, HasKey}
-use Rattle.cache_part.specs.Parts.{IsItem, counted}
+use Rattle.cache_part.specs.Parts.{IsItem, IsPart, counted}
 use Rattle.cache_part.specs.Putting.{MakesRoom, Puts, OthersStay, TellsRow, WasAnother, IsFresh}
+use Rattle.cache_part.proofs.LinkLemmas.{part_linked, links_class, links_under, links_row, links_value, links_ended, links_stay, stay_then, gone_then, first_fact}
+use Rattle.cache_part.proofs.PartLemmas.{class_then, cursor_kept, item_linked}
 use Rattle.cache_part.proofs.ViewLemmas.{both_stay}
 use Rattle.cache_part.proofs.parts.Part.put.Goals as goal
 
-pub put_item-requires : goal.put_item-requires
-put_item-requires g c =
+pub make_room-room-requires : goal.make_room-room-requires
+make_room-room-requires g c =
     let all : length c.args.row.now ≡ c.self.inside.settings.key_words + c.self.inside.settings.value_words =
     c.requires.words ∙ sym (ap (λ v. v.key_words + v.value_words) c.self.view_is) in
     record {
       part = c.self.invariant.0;
       words = all;
-      told = c.requires.evicted ∙ sym (ap (λ v. v.key_words + v.value_words) c.self.view_is);
+      told = c.requires.evicted ∙ sym (ap (λ v. suc (v.key_words + v.value_words)) c.self.view_is);
+      few = omega (arith, all, c.self.invariant.1);
+    }
+
+pub link-requires : goal.link-requires
+link-requires g c =
+    let all : length c.args.row.now ≡ c.self.inside.settings.key_words + c.self.inside.settings.value_words =
+    c.requires.words ∙ sym (ap (λ v. v.key_words + v.value_words) c.self.view_is) in
+    let made = c.make_room-room.ensures in let kw = c.self.inside.settings.key_words in record {
+      count = made.part.count;
+      first = made.part.first;
+      leads = made.part.agrees.leads;
+      old = item_linked kw (take kw c.args.row.now) c.make_room-room.result.found.chunk
+          c.make_room-room.new.lists.book.part made.item;
       few = omega (arith, all, c.self.invariant.1);
       law = c.requires.law;
     }
 
 pub invariant_of-self : goal.invariant_of-self
-invariant_of-self g c = (c.put_item.ensures.part, c.self.invariant.1)
+invariant_of-self g c =
+    let made = c.make_room-room.ensures in let none = c.in_default.ensures in
+    let seed = c.self.inside.settings.seed in let kw = c.self.inside.settings.key_words in
+    let P : CountedView → Type 0 = λ v. IsPart seed kw v.book.part c.link.new.index.table in
+    let Q : IndexView → Type 0 = λ i. IsPart seed kw c.make_room-room.new.lists.book.part i.table in
+    let R : CountedView → Type 0 = λ v. IsSameClass c.self.inside.lists.book v.book in (
+      subst P (sym none.none) (subst Q (sym none.index) made.part),
+      c.self.invariant.1,
+      cursor_kept c.self.inside.cursor c.self.inside.lists.book c.link.new.lists.book (subst R (sym none.none) made.class)
+          c.self.invariant.2,
+    )
+
+pub returns-in_default : goal.returns-in_default
+returns-in_default g c =
+    let same = c.self.view_is in let inside = c.self.inside.settings in
+    let kw = inside.key_words in let before = c.self.inside.lists in
+    let made = c.make_room-room.ensures in let between = c.make_room-room.new.lists in
+    let at = c.make_room-room.result.found.chunk in let evicted = c.make_room-room.result.evicted in
+    let from = c.args.evicted.now in let to = c.make_room-room.new.told in
+    let none = c.in_default.ensures in let left = c.link.new.lists in
+    let row = c.args.row.now in
+    let R : CountedView → Type 0 = λ v. MakesRoom inside.items c.args.now at evicted before v in
+    let S : CountedView → Type 0 = λ v. OthersStay None None evicted before.book v.book in
+    let T : CountedView → Type 0 = λ v. IfSome evicted (λ c. linked_at v.book.part c ≡ None) in
+    record {
+      old = tt;
+      under = tt;
+      value = tt;
+      ended = tt;
+      others = tt;
+      puts = tt;
+      row = tt;
+      length = search rules;
+      told = tt;
+      was = tt;
+      gone = tt;
+      fresh = tt;
+      no_room = ap (λ (v : CountedView). first_of v.book.lists.unused) none.none ∙ none.free;
+      room = subst (λ v. (old : Option ℕ) × IsItem (take v.key_words row) old v
+          × MakesRoom v.items c.args.now old evicted (counted v) left) same
+          (at, made.was, subst R (sym none.none) made.room);
+      stay = subst (λ v. OthersStay None None evicted v.book left.book) same (subst S (sym none.none) made.stay);
+      told_refused = subst (λ v. TellsRow evicted from to v) same made.told;
+      was_refused = subst (λ v. IfSome evicted (λ c. IsSome (linked_at v.book.part c))) same
+          (first_fact evicted (λ c. IsSome (linked_at before.book.part c)) (λ c. at ≡ None) made.another);
+      gone_refused = subst T (sym none.none) made.gone;
+      rest = both_stay _ _ left c.link.new.index.table same;
+    }
+
+pub invariant_of-self-2 : goal.invariant_of-self-2
+invariant_of-self-2 g c =
+    let made = c.make_room-room.ensures in let did = c.in-Some.ensures in
+    let seed = c.self.inside.settings.seed in let kw = c.self.inside.settings.key_words in
+    let after = c.link.new.lists in
+    let all : length c.args.row.now ≡ c.self.inside.settings.key_words + c.self.inside.settings.value_words =
+    c.requires.words ∙ sym (ap (λ v. v.key_words + v.value_words) c.self.view_is) in (
+      subst (IsPart seed kw after.book.part) (sym did.table)
+          (part_linked seed kw c.make_room-room.new.lists.book after.book c.make_room-room.new.index.table made.part
+          c.args.row.now c.args.expires (omega (arith, all)) c.self.inside.settings.temporary
+          c.make_room-room.result.found.chunk c.in-Some.id c.make_room-room.result.found.hash c.args.now did.links made.hash
+          made.item),
+      c.self.invariant.1,
+      cursor_kept c.self.inside.cursor c.self.inside.lists.book after.book
+          (class_then c.self.inside.lists.book c.make_room-room.new.lists.book after.book made.class
+          (links_class c.self.inside.settings.temporary c.make_room-room.result.found.chunk c.args.row.now c.args.expires
+          c.args.now c.in-Some.id c.make_room-room.new.lists.book after.book did.links)) c.self.invariant.2,
+    )
 
 pub returns : goal.returns
 returns g c =
-    let same = c.self.view_is in let e = c.put_item.ensures in let r = c.put_item.result in
-    let row = c.args.row.now in let from = c.args.evicted.now in let to = c.put_item.new.told in
-    let left = c.put_item.new.lists in
+    let same = c.self.view_is in let inside = c.self.inside.settings in
+    let kw = inside.key_words in let vw = inside.value_words in let before = c.self.inside.lists in
+    let made = c.make_room-room.ensures in let between = c.make_room-room.new.lists in
+    let at = c.make_room-room.result.found.chunk in let evicted = c.make_room-room.result.evicted in
+    let from = c.args.evicted.now in let to = c.make_room-room.new.told in
+    let id = c.in-Some.id in let did = c.in-Some.ensures in let left = c.link.new.lists in
+    let row = c.args.row.now in let expires = c.args.expires in let now = c.args.now in
+    let all : length row ≡ kw + vw = c.requires.words ∙ sym (ap (λ v. v.key_words + v.value_words) same) in
+    let stays = links_stay inside.temporary at row expires now id between.book left.book did.links in
     record {
-      old = subst (λ v. IfOk r (λ did. IsItem (take v.key_words row) did.old v)) same e.old;
-      under = subst (λ v. IfOk r (λ did. HasKey c.self.inside.settings.key_words (take v.key_words row) left.book.part
-          did.chunk)) same e.under;
-      value = subst (λ v. IfOk r (λ did. value_at v.key_words v.value_words left.book.part did.chunk
-          ≡ drop v.key_words row)) same e.value;
-      ended = e.ended;
-      others = subst (λ v. IfOk r (λ did. OthersStay (Some did.chunk) did.old did.evicted v.book left.book)) same e.others;
-      puts = subst (λ v. IfOk r (λ did. Puts v.items did.old did.evicted row c.args.now did.chunk (counted v) left)) same
-          e.puts;
-      row = e.row;
+      old = subst (λ v. IsItem (take v.key_words row) at v) same made.was;
+      under = subst (λ v. HasKey kw (take v.key_words row) left.book.part id.chunk) same
+          (links_under inside.temporary at row expires now id between.book left.book did.links kw (omega (arith, all))
+          (item_linked kw (take kw row) at between.book.part made.item));
+      value = subst (λ v. value_at v.key_words v.value_words left.book.part id.chunk ≡ drop v.key_words row) same
+          (links_value inside.temporary at row expires now id between.book left.book did.links kw vw all);
+      ended = links_ended inside.temporary at row expires now id between.book left.book did.links;
+      others = subst (λ v. OthersStay (Some id.chunk) at evicted v.book left.book) same
+          (stay_then (Some id.chunk) at evicted before.book between.book left.book made.stay stays);
+      puts = subst (λ v. Puts v.items v.temporary at evicted row expires now id.chunk (counted v) left) same (record {
+        between = between;
+        room = made.room;
+        item = id;
+        at = refl;
+        links = did.links;
+        evictions = did.evictions;
+      });
+      row = links_row inside.temporary at row expires now id between.book left.book did.links;
       length = search rules;
-      told = subst (λ v. IfOk r (λ did. TellsRow did.evicted from to v)) same e.told;
-      was = subst (λ v. IfOk r (λ did. WasAnother did.old did.evicted v)) same e.was;
-      gone = e.gone;
-      fresh = subst (λ v. IfOk r (λ did. IsFresh did.chunk did.evicted v)) same e.fresh;
-      no_room = e.no_room;
-      room = subst (λ v. IfErr r (λ why. (old : Option ℕ) × IsItem (take v.key_words row) old v
-          × MakesRoom v.items old why.evicted (counted v) left)) same e.room;
-      stay = subst (λ v. IfErr r (λ why. OthersStay None None why.evicted v.book left.book)) same e.stay;
-      told_refused = subst (λ v. IfErr r (λ why. TellsRow why.evicted from to v)) same e.told_refused;
-      was_refused = subst (λ v. IfErr r (λ why. IfSome why.evicted (λ c. IsSome (linked_at v.book.part c)))) same
-          e.was_refused;
-      gone_refused = e.gone_refused;
-      rest = both_stay _ _ left c.put_item.new.index.table same;
+      told = subst (λ v. TellsRow evicted from to v) same made.told;
+      was = subst (λ v. WasAnother at evicted v) same made.another;
+      gone = gone_then id.chunk at evicted before.book between.book left.book stays made.another made.gone;
+      fresh = subst (λ v. IsFresh id.chunk evicted v) same
+          (λ out. sym (made.stay.linked id.chunk (λ e. absurd (cc e)) (λ e. absurd (cc e)) out) ∙ did.links.begins.free);
+      no_room = tt;
+      room = tt;
+      stay = tt;
+      told_refused = tt;
+      was_refused = tt;
+      gone_refused = tt;
+      rest = both_stay _ _ left c.link.new.index.table same;
     }

@@ -2,7 +2,7 @@ use Rattle.std.proofs.Common.{◌≡◌, length, refl, subst}
 use Rattle.cache_part.specs.Keys.{words_from}
 use Rattle.cache_part.specs.Looks.{LooksOnly}
 use Rattle.cache_part.proofs.LookLemmas.{looks_keep}
-use Rattle.cache_part.proofs.PartLemmas.{part_kept}
+use Rattle.cache_part.proofs.PartLemmas.{cursor_kept, part_kept}
 use Rattle.cache_part.proofs.ViewLemmas.{book_alone}
 use Rattle.cache_part.proofs.parts.Part.read.Goals as goal
 
@@ -12,6 +12,8 @@ invariant_of-self g c =
       part_kept c.self.inside.settings.seed c.self.inside.settings.key_words from.book left.book c.self.inside.index.table
           c.self.invariant.0 (looks_keep from.book left.book c.read.ensures.looks),
       c.self.invariant.1,
+      cursor_kept c.self.inside.cursor from.book left.book (looks_keep from.book left.book c.read.ensures.looks).class
+          c.self.invariant.2,
     )
 
 pub returns : goal.returns

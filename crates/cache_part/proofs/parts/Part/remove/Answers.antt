@@ -4,6 +4,7 @@ use Rattle.cache_lists.specs.Items.{EndsAt}
 use Rattle.cache_lists.specs.Segments.{SameSegments}
 use Rattle.cache_part.specs.Looks.{LooksOnly}
 use Rattle.cache_part.specs.Parts.{IsUnder, IsUnknown}
+use Rattle.cache_part.proofs.PartLemmas.{cursor_kept}
 use Rattle.cache_part.proofs.ViewLemmas.{evictions_stay, none_changes}
 use Rattle.cache_part.proofs.parts.Part.remove.Goals as goal
 
@@ -15,7 +16,12 @@ remove-requires g c = record {
 }
 
 pub invariant_of-self : goal.invariant_of-self
-invariant_of-self g c = (c.remove.ensures.part, c.self.invariant.1)
+invariant_of-self g c = (
+  c.remove.ensures.part,
+  c.self.invariant.1,
+  cursor_kept c.self.inside.cursor c.self.inside.lists.book c.remove.new.lists.book c.remove.ensures.class
+      c.self.invariant.2,
+)
 
 pub returns : goal.returns
 returns g c =

@@ -1,21 +1,25 @@
-use Rattle.std.proofs.Common.{refl, subst}
-use Rattle.cache_lists.specs.Items.{KeepsItems}
+use Rattle.std.proofs.Common.{ℕ, subst, ◌≡◌}
+use Rattle.cache_part.specs.Expiring.{HasNoneExpired, IsInTurn, KeepsUnexpired, chunk_behind, looks_of}
+use Rattle.cache_part.specs.Parts.{counted}
 use Rattle.cache_part.specs.Tending.{Tends}
-use Rattle.cache_part.proofs.PartLemmas.{part_kept}
-use Rattle.cache_part.proofs.ViewLemmas.{index_stays}
+use Rattle.cache_part.proofs.ViewLemmas.{cursor_moves}
 use Rattle.cache_part.proofs.parts.Part.tend.Goals as goal
 
+pub tend-cursor-requires : goal.tend-cursor-requires
+tend-cursor-requires g c = record { part = c.self.invariant.0; cursor = c.self.invariant.2 }
+
 pub invariant_of-self : goal.invariant_of-self
-invariant_of-self g c = (
-  part_kept c.self.inside.settings.seed c.self.inside.settings.key_words c.self.inside.lists.book
-      c.tend.new.lists.book c.self.inside.index.table c.self.invariant.0 c.tend.ensures.kept,
-  c.self.invariant.1,
-)
+invariant_of-self g c = (c.tend-cursor.ensures.part, c.self.invariant.1, c.tend-cursor.ensures.within)
 
 pub returns : goal.returns
 returns g c =
-    let is = c.self.view_is in let left = c.tend.new.lists in record {
-      tends = subst (λ v. Tends c.args.most c.args.now c.args.bounds v.book c.args.lanes.now left.book c.tend.new.lanes) is c.tend.ensures.tends;
-      items = subst (λ v. KeepsItems v.book left.book) is c.tend.ensures.kept;
-      rest = index_stays _ _ left c.self.inside.index.table is c.tend.ensures.evictions refl;
+    let is = c.self.view_is in let left = c.tend-cursor.new.lists in let did = c.tend-cursor.ensures in
+    let now = c.args.now in let looks = c.args.looks in let result = c.tend-cursor.result in record {
+      tends = subst (λ v. Tends c.args.most now c.args.bounds looks v.cursor (counted v) c.args.lanes.now left
+          c.tend-cursor.new.lanes) is did.tends;
+      ended = subst (λ v. (chunk : ℕ) → IsInTurn v.cursor (looks_of looks v.book) v.book.part.count chunk
+          → HasNoneExpired now chunk left.book) is did.ended;
+      unexpired = subst (λ v. KeepsUnexpired now v.book left.book) is did.kept;
+      cursor = subst (λ v. result ≡ chunk_behind v.cursor (looks_of looks v.book) v.book.part.count) is did.cursor;
+      rest = cursor_moves _ _ left c.tend-cursor.new.index.table result is;
     }

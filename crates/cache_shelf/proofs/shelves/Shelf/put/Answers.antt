@@ -26,7 +26,8 @@ invariant_of-self g c =
 pub returns-clause-kept : goal.returns-clause-kept
 returns-clause-kept g c =
     let moves = drain_moves _ _ c.drain.new.self c.self.view_is c.drain.ensures.items c.drain.ensures.rest in
-    where_ok c.put_entry-put.result _ _ (λ did kept. kept_in_turn moves c.take_turn-self-inside.ensures.moves c.args.row.now kept)
+    where_ok c.put_entry-put.result _ _ (λ did kept.
+    kept_in_turn moves c.take_turn-self-inside.ensures.moves c.args.row.now c.args.expires kept)
     c.put_entry-put.ensures.kept
 
 pub returns-clause-had : goal.returns-clause-had
@@ -80,5 +81,5 @@ returns-clause-refuses g c =
     (drains_whole put_bumps c.args.now c.self.inside.part.book c.drain.new.self.book c.self.inside.lanes.items _ _
     c.self.inside.lanes.len c.drain.ensures.drains c.deref_mut.ensures.value c.drain.auto.lanes c.deref_mut.ensures.len)
     moves
-    (subst (λ n. FindsNoRoom (take n c.args.row.now) why.evicted c.drain.new.self c.put_entry-put.new.part)
+    (subst (λ n. FindsNoRoom (take n c.args.row.now) why.evicted c.args.now c.drain.new.self c.put_entry-put.new.part)
     (ap (λ p. p.key_words) moves.rest) refuses) c.take_turn-self-inside.ensures.turn) c.put_entry-put.ensures.refuses

@@ -1,20 +1,26 @@
-use Rattle.std.proofs.Common.{None, ap, subst}
-use Rattle.cache_shelf.specs.Entries.{AllKept}
-use Rattle.cache_shelf.proofs.Keeping.{moved_all, moved_lawful}
+use Rattle.std.proofs.Common.{subst}
+use Rattle.cache_shelf.specs.Entries.{AllUnexpiredKept}
+use Rattle.cache_shelf.specs.Shelves.{ShelfView}
+use Rattle.cache_shelf.specs.Turns.{LooksInTurn}
+use Rattle.cache_shelf.proofs.Keeping.{alike_tended, unexpired_all, unexpired_lawful}
 use Rattle.cache_shelf.proofs.shelves.Shelf.tend.Goals as goal
 
 pub invariant_of-self : goal.invariant_of-self
 invariant_of-self g c =
-    let e = c.tend.ensures in (
-      moved_lawful c.self.inside.part c.tend.new.self
-          (record { key_words = ap (λ p. p.key_words) e.rest; value_words = ap (λ p. p.value_words) e.rest }) e.items
+    let e = c.tend.ensures in let before = c.self.inside.part in (
+      unexpired_lawful c.args.now before c.tend.new.self (alike_tended before c.tend.new.self e.rest) e.unexpired
           g.L.RowLaw.law c.self.invariant.0,
       c.self.invariant.1,
     )
 
+pub returns-clause-looked : goal.returns-clause-looked
+returns-clause-looked g c =
+    subst (λ (from : ShelfView). LooksInTurn from.limits.looks c.args.now from.part c.tend.new.self) c.self.view_is
+    (record { ended = c.tend.ensures.ended; cursor = c.tend.ensures.cursor })
+
 pub returns-clause-kept : goal.returns-clause-kept
 returns-clause-kept g c =
-    let e = c.tend.ensures in
-    subst (λ v. AllKept None v.part c.tend.new.self) c.self.view_is
-    (moved_all c.self.inside.part c.tend.new.self
-    (record { key_words = ap (λ p. p.key_words) e.rest; value_words = ap (λ p. p.value_words) e.rest }) e.items)
+    let before = c.self.inside.part in
+    subst (λ (from : ShelfView). AllUnexpiredKept c.args.now from.part c.tend.new.self) c.self.view_is
+    (unexpired_all c.args.now before c.tend.new.self (alike_tended before c.tend.new.self c.tend.ensures.rest)
+    c.tend.ensures.unexpired)

@@ -1,0 +1,28 @@
+-- What a call did under the lock, told of the states that its log notes.
+use Rattle.std.proofs.Common.{◌≡◌, ℕ, List, Result, IfErr, IfOk, subst}
+use Rattle.cache_shelf.specs.Shelves.{ShelfView}
+use Rattle.bump_cache.specs.declared.answers.NoRoom.{NoRoom}
+use Rattle.bump_cache.specs.declared.answers.Put.{Put}
+use Rattle.bump_cache.specs.Putting.{PutsValue, RefusesValue}
+
+-- a fact of two states is one of two that equal them
+pub of_both : (Fact : ShelfView → ShelfView → Type 0) (before after from to : ShelfView) → before ≡ from → after ≡ to
+    → Fact before after → Fact from to
+of_both Fact before after from to same_before same_after fact =
+    subst (λ state. Fact state to) same_before (subst (λ state. Fact before state) same_after fact)
+
+module _ {K V : Type 0} (key_words : K → List ℕ) (value_words : V → List ℕ) (key : K) (value : V) (expires now : ℕ)
+    (told : Result (Put K V) (NoRoom K V)) (before after from to : ShelfView) (same_before : before ≡ from)
+    (same_after : after ≡ to) where
+  -- a put
+  pub put_noted : IfOk told (λ did. PutsValue key_words value_words key value expires now did before after)
+      → IfOk told (λ did. PutsValue key_words value_words key value expires now did from to)
+  put_noted =
+      of_both (λ one other. IfOk told (λ did. PutsValue key_words value_words key value expires now did one other)) before
+      after from to same_before same_after
+
+  -- and one that was refused
+  pub refusal_noted : IfErr told (λ why. RefusesValue key_words value_words key now why before after)
+      → IfErr told (λ why. RefusesValue key_words value_words key now why from to)
+  refusal_noted = of_both (λ one other. IfErr told (λ why. RefusesValue key_words value_words key now why one other))
+      before after from to same_before same_after

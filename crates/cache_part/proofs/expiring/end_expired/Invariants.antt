@@ -1,0 +1,15 @@
+use Rattle.std.proofs.Common.{◌≡◌, ℕ, ◌≤◌}
+use Rattle.cache_part.specs.Expiring.{HasNoneExpired, IsInTurn, KeepsUnexpired, LooksAround, chunk_behind}
+use Rattle.cache_part.specs.Parts.{IsPart}
+use Rattle.cache_part.proofs.expiring.end_expired.Given as goal
+
+-- so many chunks were looked at in turn, and this is the next one
+abbrev pub invariant-loop-look : goal.invariant-loop-look
+invariant-loop-look g l = record {
+  part : IsPart l.fn.settings.seed l.fn.settings.key_words l.lists.book.part l.index.table;
+  looks : LooksAround l._look l.fn.cursor l.fn.now l.ended l.fn.lists l.lists;
+  none : (c : ℕ) → IsInTurn l.fn.cursor l._look l.fn.lists.book.part.count c → HasNoneExpired l.fn.now c l.lists.book;
+  kept : KeepsUnexpired l.fn.now l.fn.lists.book l.lists.book;
+  at : l.chunk ≡ chunk_behind l.fn.cursor l._look l.fn.lists.book.part.count;
+  few : l.ended ≤ l._look;
+}

@@ -1,0 +1,24 @@
+use Rattle.std.proofs.Common.{refl, subst}
+use Rattle.cache_part.specs.Looks.{LooksOnly}
+use Rattle.cache_part.proofs.LookLemmas.{looks_keep, label_looks, seen_rest}
+use Rattle.cache_part.proofs.PartLemmas.{cursor_kept, part_kept}
+use Rattle.cache_part.proofs.ViewLemmas.{book_alone}
+use Rattle.cache_part.proofs.parts.Part.expires.Goals as goal
+
+pub invariant_of-self : goal.invariant_of-self
+invariant_of-self g c =
+    let from = c.self.inside.lists in let left = c.label.new.self in
+    let keeps = looks_keep from.book left.book (label_looks from left c.args.chunk c.label.result c.label.ensures.seen) in (
+      part_kept c.self.inside.settings.seed c.self.inside.settings.key_words from.book left.book c.self.inside.index.table
+          c.self.invariant.0 keeps,
+      c.self.invariant.1,
+      cursor_kept c.self.inside.cursor from.book left.book keeps.class c.self.invariant.2,
+    )
+
+pub returns-clause-looks : goal.returns-clause-looks
+returns-clause-looks g c = subst (λ v. LooksOnly v.book c.label.new.self.book) c.self.view_is
+    (label_looks c.self.inside.lists c.label.new.self c.args.chunk c.label.result c.label.ensures.seen)
+
+pub returns-clause-rest : goal.returns-clause-rest
+returns-clause-rest g c = book_alone _ _ c.label.new.self c.self.inside.index.table c.self.view_is
+    (seen_rest c.self.inside.lists c.label.new.self _ c.label.ensures.seen) refl

@@ -1,0 +1,90 @@
+//! Items end that have expired.
+ghost use Rattle.std.specs.Prelude.{◌≡◌, ℕ, ◌<◌, ◌≤◌, ◌-◌, length};
+ghost use Rattle.cache_part.specs.Expiring.{HasNoneExpired, IsInTurn, KeepsUnexpired, LooksAround, LooksAt};
+ghost use Rattle.cache_part.specs.Expiring.{chunk_behind, looks_of};
+ghost use Rattle.cache_part.specs.Parts.{IsPart};
+
+use crate::putting::Settings;
+use bump_heads::Name;
+use bump_steps::RowLaw;
+use cache_lists::CountedBook;
+use cache_nests::Index;
+use entry_times::has_expired;
+
+// Ends the item of a chunk, where it has one that has expired, and tells whether it did.
+fn end_where_expired<N: Name, L: RowLaw>(
+    lists: &mut CountedBook<N, L>,
+    index: &mut Index,
+    _settings: Settings,
+    chunk: u32,
+    now: u64,
+) -> bool
+    requires part { IsPart _settings.seed _settings.key_words lists.old.book.part index.old.table }
+    requires within { chunk < length index.old.table }
+    ensures part { IsPart _settings.seed _settings.key_words lists.new.book.part index.new.table }
+    ensures looks { LooksAt chunk now result lists.old lists.new }
+    ensures ended { HasNoneExpired now chunk lists.new.book }
+    ensures kept { KeepsUnexpired now lists.old.book lists.new.book }
+{
+    if !index.leads(chunk) {
+        return false;
+    }
+    if !has_expired(lists.label(chunk), now) {
+        return false;
+    }
+    index.clear(chunk);
+    lists.end_expired(chunk, now)
+}
+
+// The chunk behind this one, around and around.
+fn next_chunk(chunk: u32, chunks: u32) -> u32
+    requires { chunk < chunks }
+    ensures { result ≡ chunk_behind chunk 1 chunks }
+{
+    if chunk + 1 < chunks { chunk + 1 } else { 0 }
+}
+
+// What a turn of looks came to.
+#[derive(Clone, Copy)]
+pub(crate) struct Turn {
+    // so many items ended
+    pub(crate) ended: u32,
+
+    // the chunk at which the next turn begins
+    pub(crate) cursor: u32,
+}
+
+// Looks at so many chunks in turn, from this one on, and ends each item that has expired.
+pub(crate) fn end_expired<N: Name, L: RowLaw>(
+    lists: &mut CountedBook<N, L>,
+    index: &mut Index,
+    settings: Settings,
+    cursor: u32,
+    most: u32,
+    now: u64,
+) -> Turn
+    requires part { IsPart settings.seed settings.key_words lists.old.book.part index.old.table }
+    requires cursor { cursor ≤ lists.old.book.part.count - 1 }
+    ensures part { IsPart settings.seed settings.key_words lists.new.book.part index.new.table }
+    ensures looks { LooksAround (looks_of most lists.old.book) cursor now result.ended lists.old lists.new }
+    ensures ended { (chunk : ℕ) → IsInTurn cursor (looks_of most lists.old.book) lists.old.book.part.count chunk
+        → HasNoneExpired now chunk lists.new.book }
+    ensures kept { KeepsUnexpired now lists.old.book lists.new.book }
+    ensures cursor { result.cursor
+        ≡ chunk_behind cursor (looks_of most lists.old.book) lists.old.book.part.count }
+    ensures within { result.cursor ≤ lists.new.book.part.count - 1 }
+{
+    let chunks = index.chunks();
+    let mut ended = 0;
+    let mut chunk = cursor;
+    for _look in 0..most.min(chunks) {
+        if end_where_expired(lists, index, settings, chunk, now) {
+            ended += 1;
+        }
+        chunk = next_chunk(chunk, chunks);
+    }
+    Turn {
+        ended,
+        cursor: chunk,
+    }
+}
