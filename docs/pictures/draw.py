@@ -96,9 +96,9 @@ def crates():
           "bump_handles": (620, 120), "bump_c": (620, 60), "box_parts": (455, 60), "trace_lines": (330, 460),
           "bump_trace": (200, 300), "store_trace": (330, 180), "bumpsim": (330, 110), "cache_lists": (900, 300),
           "cache_part": (900, 240), "cache_shelf": (900, 180), "cache_readers": (1080, 240), "cache_nests": (1080, 300),
-          "pen_words": (1080, 360), "call_log": (900, 400), "packed_words": (900, 460), "keyed_hash": (1080, 460),
-          "bump_cache": (900, 120), "replay_runs": (900, 60), "bump_replay": (1080, 60), "access_logs": (1080, 120),
-          "replay_policies": (1080, 180)}
+          "pen_words": (1080, 360), "call_log": (900, 400), "entry_times": (1080, 410), "packed_words": (900, 460),
+          "keyed_hash": (1080, 460), "bump_cache": (900, 120), "replay_runs": (900, 60), "bump_replay": (1080, 60),
+          "access_logs": (1080, 120), "replay_policies": (1080, 180)}
     down = [("bump_rules", "bump_links"), ("bump_state", "bump_rules"), ("bump_core", "bump_state"),
             ("bump_word", "bump_rules"), ("bump_steps", "bump_word"), ("bump_readers", "bump_steps"),
             ("bump_heads", "bump_readers"), ("bump_ring", "bump_readers"), ("bump_class", "bump_heads"),
