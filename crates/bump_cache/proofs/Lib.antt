@@ -4,3 +4,15 @@ pub mod Openings
 pub mod HeldLemmas
 pub mod Noting
 pub mod ManyLemmas
+pub mod Choices
+pub mod PartSums
+pub mod Evens
+pub mod Soundness
+pub mod Rounds
+pub mod Places
+pub mod RowLemmas
+pub mod Beginning
+pub mod ShelfLemmas
+pub mod NewParts
+pub mod MemoryLemmas
+pub mod ChangingLemmas

@@ -1,5 +1,5 @@
 -- What was told as words, told as keys and values.
-use Rattle.std.proofs.Common.{◌≡◌, ◌+◌, inl, inr, ℕ, Bool, true, false, if◌then◌else◌, List, ◌∷◌, ◌++◌, length, take, drop, Option, None, Some, IfSome, IfNone, is_some, option_map, refl, sym, ap, ◌∙◌, subst}
+use Rattle.std.proofs.Common.{◌≡◌, ◌+◌, inl, inr, ℕ, Bool, true, false, if◌then◌else◌, List, ◌∷◌, ◌++◌, length, get_or, take, drop, Option, None, Some, IfSome, IfNone, is_some, option_map, refl, sym, ap, ◌∙◌, subst}
 use Rattle.std.proofs.Math.Seq.{drop-append_seam, take-append_seam}
 use Rattle.bump_rules.specs.Lists.{all_without}
 use Rattle.bump_steps.specs.Rule.{RowPredicate}
@@ -14,6 +14,7 @@ use Rattle.cache_shelf.specs.Entries.{Evicted as TellsRowOf, Had, Keeps, key_of_
 use Rattle.entry_times.specs.Times.{has_expired}
 use Rattle.packed_words.specs.Parts.{same_parts}
 use Rattle.bump_cache.specs.declared.answers.Evicted.{Evicted}
+use Rattle.bump_cache.specs.Changing.{HadUntil}
 use Rattle.bump_cache.specs.Pairs.{IsPair}
 use Rattle.bump_cache.specs.Putting.{EndsKey, HadValue, IsPairOfWords, IsTimedValue, TellsEvicted, TellsValue, WasEvicted, evicted_key}
 use Rattle.bump_cache.proofs.PairLemmas.{IsPairRow, pair_row}
@@ -112,6 +113,34 @@ module _ {K V : Type 0} (fits_key : K → Type 0) (key_words : K → List ℕ) (
         fresh,
         record { chunk = c; under = had.under; value = cc both; label = label },
       )
+
+  -- so it is with the time, which is the first of the words
+  pub until_told : (key : List ℕ) (chunk : Option ℕ) (from words : List ℕ) (now : ℕ) (value : V) (word : ℕ)
+      → Had (IsPair fits_key key_words fits_value value_words) key chunk from words part
+      → IfNone chunk (Some value ≡ None) → IfSome chunk (λ c. TellsValue fits_value value_words words now (Some value))
+      → word ≡ get_or words 0 0 → HadUntil fits_value value_words key (Some (value, word)) now part
+  until_told key None from words now value word had none some is = absurd (cc none)
+  until_told key (Some c) from words now value word had none some is =
+      by (has_expired some.expires now) refl some.tells
+    where
+      both : last_label part.book.part c ∷ value_at part.key_words part.value_words part.book.part c
+          ≡ some.expires ∷ value_words some.value
+      both = sym had.told ∙ some.has_words
+
+      first : word ≡ some.expires
+      first = is ∙ ap (λ (all : List ℕ). get_or all 0 0) some.has_words
+
+      by : (b : Bool) → has_expired some.expires now ≡ b → Some value ≡ (if b then None else Some some.value)
+          → HadUntil fits_value value_words key (Some (value, word)) now part
+      by true expired tells = absurd (cc tells)
+      by false fresh tells =
+          let one : some.value ≡ value = cc tells in
+          subst (λ v. HadUntil fits_value value_words key (Some (v, word)) now part) one
+          (subst (λ w. HadUntil fits_value value_words key (Some (some.value, w)) now part) (sym first) (
+            some.value_fits,
+            fresh,
+            record { chunk = c; under = had.under; value = cc both; label = cc both },
+          ))
 
   -- what is told of an evicted item are a time and then the words of a key and a value
   pub entry_told : (chunk : Option ℕ) (from row : List ℕ) (after : PartView)

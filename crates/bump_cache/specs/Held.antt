@@ -5,9 +5,9 @@ use Rattle.std.specs.Borrow.{Fml, GName, MutBor, RattleType, RestsIfNone}
 use Rattle.bump_readers.specs.declared.names.Name.{Ghosts}
 use Rattle.packed_words.specs.declared.packed.Packed.{Ghosts as PackedGhosts}
 use Rattle.bump_steps.specs.declared.views.HoldPart.{HoldPart}
-use Rattle.cache_readers.specs.Readers.{ReaderView}
 use Rattle.bump_cache.specs.declared.held.HeldItem.{HeldItem}
 use Rattle.bump_cache.specs.contracts.readers.CacheReader.{the_row}
+use Rattle.bump_cache.specs.Readers.{CacheReaderView}
 
 module _ {N K V : Type 0} where
   -- the name of the loan by which the item has its reader
@@ -15,7 +15,7 @@ module _ {N K V : Type 0} where
   loan_of held = held.reader.ghost_name
 
   -- the reader, as it is once the loan ends
-  abbrev pub reader_of : HeldItem N K V → ReaderView
+  abbrev pub reader_of : HeldItem N K V → CacheReaderView
   reader_of held = held.reader.now
 
   -- the hold: the life, and the words that were stored for it
@@ -31,5 +31,6 @@ module _ {N K V : Type 0} where
 module _ (N K V : RattleType) (name : Ghosts N.Denot) (key : PackedGhosts K.Denot) (value : PackedGhosts V.Denot)
   where
     -- where no item is handed out the reader ends as this says, and else as its loan to the item leaves it
-    abbrev pub EndsIfNone : MutBor ReaderView → Option (HeldItem N.Denot K.Denot V.Denot) → (ReaderView → Type 0) → Fml
+    abbrev pub EndsIfNone : MutBor CacheReaderView → Option (HeldItem N.Denot K.Denot V.Denot)
+        → (CacheReaderView → Type 0) → Fml
     EndsIfNone reader = RestsIfNone (the_row N K V name key value) reader loan_of

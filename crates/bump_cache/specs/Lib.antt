@@ -1,12 +1,19 @@
 pub mod Configs
+pub mod Choosing
 pub mod Pairs
 pub mod States
 pub mod Readers
 pub mod Many
 pub mod Held
 pub mod Opening
+pub mod Making
 pub mod Putting
+pub mod Changing
+pub mod Sums
 pub mod Tending
+pub mod Caches
+pub mod Bytes
+pub mod Memory
 pub use Rattle.atomic_table.specs.Seated
 pub use Rattle.bump_class.specs.Books
 pub use Rattle.bump_class.specs.Lanes
@@ -35,6 +42,7 @@ pub use Rattle.cache_readers.specs.Readers as WordReaders
 pub use Rattle.cache_shelf.specs.Entries
 pub use Rattle.cache_shelf.specs.Shelves
 pub use Rattle.cache_shelf.specs.Turns
+pub use Rattle.packed_words.specs.Strings
 pub use Rattle.entry_times.specs.Times
 pub use Rattle.call_log.specs.Blanks
 pub use Rattle.call_log.specs.Calls

@@ -1,20 +1,23 @@
 -- What a cache is opened from, and what it is once it is opened.
-use Rattle.std.specs.Prelude.{◌≡◌, ℕ, List, [], map, replicate, All, None}
+use Rattle.std.specs.Prelude.{◌≡◌, ℕ, zero, suc, ◌+◌, ◌*◌, ◌<◌, List, [], length, replicate, slice_get, option_map, All, None, Some}
+use mathlib.Core.List.{IsPrefix}
 use Rattle.atomic_table.specs.Seated.{TableId}
 use Rattle.bump_rules.specs.declared.configs.Config.{Config}
 use Rattle.bump_steps.specs.Rule.{worker_parts}
 use Rattle.bump_parts.specs.Parting.{raw_rings}
 use Rattle.bump_parts.specs.Workers.{worker_parts_of, WorkerState}
-use Rattle.bump_ring.specs.Ends.{Ring}
 use Rattle.bump_heads.specs.Making.{BlankView}
 use Rattle.call_log.specs.Blanks.{BlankView as LogBlankView}
-use Rattle.cache_readers.specs.Readers.{ReaderView}
+use Rattle.call_log.specs.Calls.{CallerView}
+use Rattle.call_log.specs.Logs.{calls_of, state_of}
+use Rattle.cache_readers.specs.Readers.{new_reader}
 use Rattle.cache_lists.specs.Counts.{no_evictions, no_flow}
 use Rattle.cache_shelf.specs.Shelves.{ShelfView}
 use Rattle.cache_shelf.specs.declared.limits.Limits.{Limits}
 use Rattle.bump_cache.specs.declared.config.CacheConfig.{CacheConfig}
-use Rattle.bump_cache.specs.Configs.{IsStoreOf, bounds_of, class_of, first_cache_fault}
-use Rattle.bump_cache.specs.Readers.{new_readers}
+use Rattle.bump_cache.specs.Configs.{IsStoreOf, bounds_of, class_of, first_cache_fault, items_in}
+use Rattle.bump_cache.specs.Readers.{CacheReaderView, rings_of}
+use Rattle.bump_cache.specs.States.{PartState, number_of}
 
 -- what contracts see of what a cache is opened from: which table its words are, its log, and its configuration
 pub record CacheBlankView : Type 0 where
@@ -36,43 +39,72 @@ pub record IsCacheBlank (blank : BlankView) (store : Config) (config : CacheConf
   pub store_of : IsStoreOf config store
   pub no_fault : first_cache_fault config ≡ None
 
--- the limits of a cache of this configuration
-abbrev pub limits_of : CacheConfig → Limits
-limits_of config = record {
-  bounds = bounds_of config;
+-- the first chunk of a part: as many as the parts before it have together
+abbrev pub chunks_before : CacheConfig → ℕ → ℕ
+chunks_before config zero = 0
+chunks_before config (suc part) = chunks_before config part + (class_of config part).chunks
+
+-- the limits of a part
+abbrev pub limits_of : CacheConfig → ℕ → Limits
+limits_of config part = record {
+  bounds = bounds_of config part;
   most = config.ring;
   looks = config.expiry_looks;
 }
 
--- the rings into which readers send
-abbrev pub reader_rings : List ReaderView → List Ring
-reader_rings readers = map (λ reader. reader.worker.sender.ring) readers
+-- The reader of this number got nothing yet: in each part it has one of the new workers, which are numbered part by
+-- part.
+pub record IsNewReader (config : CacheConfig) (store : Config) (workers : List WorkerState) (number : ℕ)
+    (reader : CacheReaderView) : Type 0 where
+  pub seed : reader.seed ≡ config.seed
+  pub parts : length reader.parts ≡ config.parts
+  pub each : (part : ℕ) → part < config.parts
+      → slice_get reader.parts part ≡ option_map (new_reader store) (slice_get workers (part * config.readers + number))
 
--- These are the readers of a cache of this configuration that was just opened: each got nothing yet, and has a worker
--- of the store that made no step.
-pub record AreNewReaders (config : CacheConfig) (readers : List ReaderView) : Type 0 where
+-- These are the readers of a cache of this configuration that was just opened, whose store's workers made no step.
+pub record AreNewReaders (config : CacheConfig) (readers : List CacheReaderView) : Type 0 where
   pub store : Config
   pub workers : List WorkerState
   pub store_of : IsStoreOf config store
-  pub made : readers ≡ new_readers store workers
-  pub new_workers : worker_parts_of workers ≡ worker_parts 0 config.readers
-  pub capacity : All (λ worker. worker.sender.capacity ≡ config.ring) workers
+  pub made : (number : ℕ) (reader : CacheReaderView) → slice_get readers number ≡ Some reader
+      → IsNewReader config store workers number reader
+  pub new_workers : worker_parts_of workers ≡ worker_parts 0 (config.readers * config.parts)
+  pub capacity : All (λ (worker : WorkerState). worker.sender.capacity ≡ config.ring) workers
 
--- What a cache of this configuration is when it is opened, with keys and values of so many words: no chunk was used
--- yet, nothing was counted, its lanes are those of these rings, and the first looks for expired items are at chunk 0.
-pub record IsNewShelf (config : CacheConfig) (key_width value_width : ℕ) (rings : List Ring) (shelf : ShelfView)
-    : Type 0 where
-  pub chunks : shelf.part.book.part.count ≡ (class_of config).chunks
+-- What a part of a cache of this configuration is when it is opened, with keys and values of so many words: its class
+-- is of its number, no chunk was used yet, nothing was counted, its lanes are those of the readers' rings in this part,
+-- in their order, and the first looks for expired items are at its first chunk.
+pub record IsNewShelf (config : CacheConfig) (part key_width value_width : ℕ) (readers : List CacheReaderView)
+    (shelf : ShelfView) : Type 0 where
+  pub class : shelf.part.book.part.class ≡ part
+  pub first : shelf.part.book.part.first ≡ chunks_before config part
+  pub chunks : shelf.part.book.part.count ≡ (class_of config part).chunks
   pub unused : shelf.part.book.part.history ≡ []
-  pub index : shelf.part.index ≡ replicate (class_of config).chunks None
+  pub index : shelf.part.index ≡ replicate (chunks_before config (suc part)) None
   pub flow : shelf.part.flow ≡ no_flow
   pub evictions : shelf.part.evictions ≡ no_evictions
   pub seed : shelf.part.seed ≡ config.seed
   pub key_words : shelf.part.key_words ≡ key_width
   pub value_words : shelf.part.value_words ≡ value_width
-  pub items : shelf.part.items ≡ config.items
+  pub items : shelf.part.items ≡ items_in config part
   pub temporary : shelf.part.temporary ≡ config.temporary
   pub cursor : shelf.part.cursor ≡ 0
-  pub limits : shelf.limits ≡ limits_of config
+  pub limits : shelf.limits ≡ limits_of config part
   pub puts : shelf.puts ≡ 0
-  pub lanes : raw_rings shelf.lanes ≡ rings
+  pub lane_count : length shelf.lanes ≡ config.readers
+  pub lanes : (number : ℕ) (reader : CacheReaderView) → slice_get readers number ≡ Some reader
+      → slice_get (raw_rings shelf.lanes) number ≡ slice_get (rings_of reader) part
+
+-- The part's first call, of those that the caller knows of, left this shelf.
+pub record BeginsWith (part : ℕ) (shelf : ShelfView) (me : CallerView PartState) : Type 0 where
+  pub seen : List PartState
+  pub prefix : IsPrefix seen me.log
+  pub once : calls_of number_of part seen ≡ 1
+  pub left : state_of number_of part me.first seen ≡ record { number = part; shelf = shelf }
+
+-- The part begins with a new shelf.
+pub record IsNewPart (config : CacheConfig) (part key_width value_width : ℕ) (readers : List CacheReaderView)
+    (me : CallerView PartState) : Type 0 where
+  pub shelf : ShelfView
+  pub new : IsNewShelf config part key_width value_width readers shelf
+  pub begins : BeginsWith part shelf me

@@ -1,28 +1,81 @@
 -- What contracts see of the readers of a cache, and what their calls come to.
-use Rattle.std.specs.Prelude.{ℕ, ◌+◌, List, map}
-use Rattle.bump_rules.specs.declared.configs.Config.{Config}
+use Rattle.std.specs.Prelude.{◌≡◌, ℕ, ◌+◌, List, length, map, slice_get, slice_set, sum_by, Some}
 use Rattle.bump_rules.specs.declared.bumps.Accounts.{Accounts}
+use Rattle.bump_rules.specs.declared.hands.Hand.TheVariants as hand
+use Rattle.bump_rules.specs.Rings.{IsAccounts}
 use Rattle.bump_steps.specs.declared.views.HoldPart.{HoldPart}
 use Rattle.bump_steps.specs.Rule.{RowPredicate}
-use Rattle.bump_parts.specs.Workers.{WorkerState}
+use Rattle.bump_ring.specs.Ends.{Ring}
+use Rattle.cache_lists.specs.Counts.{capped}
 use Rattle.cache_readers.specs.Looks.{Finds, HasWords, Hits, Peeks, Sees}
-use Rattle.cache_readers.specs.Readers.{ReaderView, new_reader}
+use Rattle.cache_readers.specs.Readers.{ReaderView}
+use Rattle.keyed_hash.specs.declared.seed.Seed.{Seed}
+use Rattle.keyed_hash.specs.Hashes.{hash_of}
+use Rattle.bump_cache.specs.Choosing.{part_of}
 
--- readers that got nothing yet, with these workers of a store of this configuration
-abbrev pub new_readers : Config → List WorkerState → List ReaderView
-new_readers config workers = map (new_reader config) workers
+-- the seed of the keys' hashes, and a reader of each part, by number
+pub record CacheReaderView : Type 0 where
+  pub seed : Seed
+  pub parts : List ReaderView
 
--- how many bumps were dropped
+-- these readers, with this seed
+abbrev pub readers_by : Seed → List ReaderView → CacheReaderView
+readers_by seed parts = record { seed = seed; parts = parts }
+
+-- the part that a key is of
+abbrev pub part_for : List ℕ → CacheReaderView → ℕ
+part_for key reader = part_of (length reader.parts) (hash_of reader.seed key)
+
+-- The reader of the key's part does this, and those of the other parts stay as they are.
+pub record InPart (Does : ReaderView → ReaderView → Type 0) (key : List ℕ) (before after : CacheReaderView) : Type 0
+  where
+    pub from : ReaderView
+    pub to : ReaderView
+    pub was : slice_get before.parts (part_for key before) ≡ Some from
+    pub does : Does from to
+    pub others : after ≡ record before { parts = slice_set before.parts (part_for key before) to }
+
+-- the rings into which it sends, by part
+abbrev pub rings_of : CacheReaderView → List Ring
+rings_of reader = map (λ (part : ReaderView). part.worker.sender.ring) reader.parts
+
+-- its rings are those that it had
+abbrev pub KeepsRings : CacheReaderView → CacheReaderView → Type 0
+KeepsRings before after = rings_of after ≡ rings_of before
+
+-- how many of its gets found something, over all parts, as far as the count goes
+abbrev pub hits_of : List ReaderView → ℕ
+hits_of parts = capped (sum_by (λ (part : ReaderView). part.hits) parts)
+
+-- how many found nothing
+abbrev pub misses_of : List ReaderView → ℕ
+misses_of parts = capped (sum_by (λ (part : ReaderView). part.misses) parts)
+
+-- its counts of bumps, each over all parts, as far as the count goes
+abbrev pub bumps_of : List ReaderView → Accounts
+bumps_of parts = record {
+  attempted = capped (sum_by (λ (part : ReaderView). part.worker.part.accounts.attempted) parts);
+  accepted = capped (sum_by (λ (part : ReaderView). part.worker.part.accounts.accepted) parts);
+  full = capped (sum_by (λ (part : ReaderView). part.worker.part.accounts.full) parts);
+  busy = capped (sum_by (λ (part : ReaderView). part.worker.part.accounts.busy) parts);
+  refs = capped (sum_by (λ (part : ReaderView). part.worker.part.accounts.refs) parts);
+}
+
+-- what a part's reader sent adds up: bumps that were accepted and dropped are those attempted
+abbrev pub AddsUp : ReaderView → Type 0
+AddsUp part = IsAccounts part.worker.part.accounts (length part.worker.sender.sent) hand.Idle
+
+-- how many bumps were dropped, as far as the count goes
 abbrev pub dropped_of : Accounts → ℕ
-dropped_of accounts = accounts.full + accounts.busy + accounts.refs
+dropped_of accounts = capped (accounts.full + accounts.busy + accounts.refs)
 
 -- a get found this value
 abbrev pub FindsValue : RowPredicate → List ℕ → List ℕ → ℕ → ReaderView → ReaderView → Type 0
 FindsValue law key value now before after = Finds law before.config key value now before.worker after.worker
 
 -- a get took this hold of an item with the key, and touched it
-abbrev pub HitsItem : RowPredicate → List ℕ → ℕ → ReaderView → ReaderView → HoldPart → Type 0
-HitsItem law key now before after hold = Hits law before.config key now before.worker after.worker hold
+abbrev pub HitsItem : RowPredicate → List ℕ → ℕ → HoldPart → ReaderView → ReaderView → Type 0
+HitsItem law key now hold before after = Hits law before.config key now before.worker after.worker hold
 
 -- the words of some value stand in the row of the hold, from this number of its further words on
 abbrev pub HoldsValue : {V : Type 0} → (V → Type 0) → (V → List ℕ) → ℕ → HoldPart → Type 0

@@ -1,16 +1,73 @@
--- Tends, one after the other.
-use Rattle.std.specs.Prelude.{◌≡◌, ℕ, zero, suc}
-use Rattle.call_log.specs.Calls.{CallerView, MakesOne, from_of, to_of}
-use Rattle.cache_shelf.specs.Shelves.{ShelfView}
+-- Calls that go through the parts of a cache, one after the other.
+use Rattle.std.specs.Prelude.{◌≡◌, ℕ, zero, suc, List}
+use Rattle.bump_steps.specs.Views.{last_word}
+use Rattle.call_log.specs.Calls.{CallerView, MakesOne, OnlyLooks}
+use Rattle.cache_part.specs.Expiring.{KeepsUnexpired, LooksInTurn}
+use Rattle.cache_part.specs.Parts.{IsUnknown}
+use Rattle.cache_part.specs.Stats.{stats_of}
+use Rattle.cache_part.specs.declared.stats.Stats.{Stats}
+use Rattle.cache_shelf.specs.Entries.{AllUnexpiredKept}
+use Rattle.cache_shelf.specs.Shelves.{ShelfView, with_ended, with_tended}
 use Rattle.cache_shelf.specs.Turns.{TendsShelf}
+use Rattle.bump_cache.specs.States.{PartState, from_of, now_of, part_called, to_of}
+use Rattle.bump_cache.specs.Sums.{both_stats, no_stats}
 
--- one call, which tended the cache at some time
-pub record TendsOnce (me me' : CallerView ShelfView) : Type 0 where
-  pub now : ℕ
+-- What a tend does to the shelf of a part: of so many chunks whose turn it was none has an item any more that has
+-- expired, and under each key stays what hasn't.
+pub record TendsInTurn (now : ℕ) (before after : ShelfView) : Type 0 where
+  pub tends : TendsShelf now before after
+  pub looked : LooksInTurn before.limits.looks now before.part after.part
+  pub unexpired : KeepsUnexpired now before.part.book after.part.book
+  pub kept : AllUnexpiredKept now before.part after.part
+  pub same : after ≡ with_tended after before
+
+-- One call, which tended the part of this number.
+pub record TendsPart (number now : ℕ) (me me' : CallerView PartState) : Type 0 where
   pub call : MakesOne me me'
-  pub tends : TendsShelf now (from_of me') (to_of me')
+  pub part : part_called me' ≡ number
+  pub tends : TendsInTurn now (from_of me') (to_of me')
 
--- the caller made so many calls, each of which tended the cache
-abbrev pub TendsTimes : ℕ → CallerView ShelfView → CallerView ShelfView → Type 0
-TendsTimes zero me me' = me' ≡ me
-TendsTimes (suc count) me me' = (between : CallerView ShelfView) × TendsTimes count me between × TendsOnce between me'
+-- the first so many parts were tended, in order, by one call each
+abbrev pub TendsParts : ℕ → ℕ → CallerView PartState → CallerView PartState → Type 0
+TendsParts zero now me me' = me' ≡ me
+TendsParts (suc part) now me me' =
+    (between : CallerView PartState) × TendsParts part now me between × TendsPart part now between me'
+
+-- all of so many parts were tended, at some time
+abbrev pub TendsOnce : ℕ → CallerView PartState → CallerView PartState → Type 0
+TendsOnce parts me me' = (now : ℕ) × TendsParts parts now me me'
+
+-- so they were, so many times
+abbrev pub TendsTimes : ℕ → ℕ → CallerView PartState → CallerView PartState → Type 0
+TendsTimes parts zero me me' = me' ≡ me
+TendsTimes parts (suc count) me me' =
+    (between : CallerView PartState) × TendsTimes parts count me between × TendsOnce parts between me'
+
+-- What a clear does to the shelf of a part: no key has an item, and all words are as they were.
+pub record ClearsShelf (before after : ShelfView) : Type 0 where
+  pub empty : (key : List ℕ) → IsUnknown key after.part
+  pub words : (i c : ℕ) → last_word i after.part.book.part c ≡ last_word i before.part.book.part c
+  pub same : after ≡ with_ended after before
+
+-- One call, which cleared the part of this number.
+pub record ClearsPart (number : ℕ) (me me' : CallerView PartState) : Type 0 where
+  pub call : MakesOne me me'
+  pub part : part_called me' ≡ number
+  pub clears : ClearsShelf (from_of me') (to_of me')
+
+-- the first so many parts were cleared, in order, by one call each
+abbrev pub ClearsParts : ℕ → CallerView PartState → CallerView PartState → Type 0
+ClearsParts zero me me' = me' ≡ me
+ClearsParts (suc part) me me' =
+    (between : CallerView PartState) × ClearsParts part me between × ClearsPart part between me'
+
+-- the caller looked at a part, and these are its statistics then
+pub record LooksAtPart (number : ℕ) (me me' : CallerView PartState) (stats : Stats) : Type 0 where
+  pub look : OnlyLooks me me'
+  pub told : stats ≡ stats_of (now_of number me').part
+
+-- the caller looked at the first so many parts, in order, and these are the sums of the statistics that each had then
+abbrev pub SumsUpParts : ℕ → CallerView PartState → CallerView PartState → Stats → Type 0
+SumsUpParts zero me me' stats = (me' ≡ me) × (stats ≡ no_stats)
+SumsUpParts (suc part) me me' stats = (between : CallerView PartState) × (before own : Stats)
+    × SumsUpParts part me between before × LooksAtPart part between me' own × (stats ≡ both_stats before own)

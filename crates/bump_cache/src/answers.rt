@@ -34,6 +34,35 @@ pub struct Put<K, V> {
     pub evicted: Option<Evicted<K, V>>,
 }
 
+/// What an add came to.
+#[derive(Clone, Copy, Debug, PartialEq, Eq, Drop)]
+pub enum Added<K, V> {
+    /// The key had nothing, or what had expired, and the value was put.
+    Put {
+        /// What was evicted to make room, if something was. It is never more than one.
+        evicted: Option<Evicted<K, V>>,
+    },
+
+    /// The key has this, which hasn't expired, and nothing was put.
+    Has(V),
+}
+
+/// What a get came to that puts where nothing is.
+#[derive(Clone, Copy, Debug, PartialEq, Eq, Drop)]
+pub enum GotOrPut<K, V> {
+    /// The key has this, which hasn't expired, and nothing was made.
+    Got(V),
+
+    /// The key had nothing, or what had expired, and a value was made and put.
+    Put {
+        /// The value that was made.
+        value: V,
+
+        /// What was evicted to make room, if something was. It is never more than one.
+        evicted: Option<Evicted<K, V>>,
+    },
+}
+
 /// A put was refused: each chunk that has no item is held by a reader, or by a bump that waits, or has had its last
 /// generation, and is used no more.
 #[derive(Clone, Copy, Debug, PartialEq, Eq, Drop)]

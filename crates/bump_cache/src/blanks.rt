@@ -36,7 +36,8 @@ impl<K: Packed, V: Packed> Model for CacheBlank<K, V> {
     ghost view = { λ b. record { table = b.words.table; log = b.log; config = b.config } };
 
     ghost invariant = { λ b. IsCacheBlank b.words b.store b.config × (b.words.table.slots ≡ K.width + V.width)
-        × (K.width + V.width ≤ most_words) × (b.log.parts ≡ most_callers) };
+        × (K.width + V.width ≤ most_words) × (b.log.parts ≡ most_callers + b.config.parts)
+        × (b.log.values ≡ b.config.parts) };
 }
 
 // What a cache of this configuration is opened from.
@@ -46,13 +47,14 @@ fn make<K: Packed, V: Packed>(
 ) -> Result<CacheBlank<K, V>, AllocError>
     requires sound { first_cache_fault config.now ≡ None }
     requires words { K.width + V.width ≤ most_words }
-    ensures { IfOk result (λ blank. blank.config ≡ config.now) }
+    ensures { IfOk result (λ blank. (blank.config ≡ config.now) × (blank.log.parts ≡ most_callers + config.now.parts)
+        × (blank.log.values ≡ config.now.parts)) }
 {
     let store = config.store(alloc)?;
     let words = Blank::with_words(alloc, &store, (K::words() + V::words()) as u32)?;
     Ok(CacheBlank {
         words,
-        log: LogBlank::new(MOST_CALLERS),
+        log: LogBlank::new(MOST_CALLERS, config.parts),
         store,
         config: *config,
     })
@@ -66,7 +68,8 @@ impl<K: Packed, V: Packed> CacheBlank<K, V> {
         requires words { K.width + V.width ≤ most_words }
         ensures fault { told_fault (result_err result) ≡ first_cache_fault config.now }
         ensures config { IfOk result (λ blank. blank.config ≡ config.now) }
-        ensures callers { IfOk result (λ blank. blank.log.parts ≡ most_callers) }
+        ensures callers { IfOk result (λ blank. blank.log.parts ≡ most_callers + config.now.parts) }
+        ensures values { IfOk result (λ blank. blank.log.values ≡ config.now.parts) }
     {
         match config.fault() {
             Some(fault) => Err(CacheRefusal::Fault(fault)),

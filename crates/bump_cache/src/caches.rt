@@ -1,37 +1,120 @@
 //! A cache that threads share.
-ghost use Rattle.std.specs.Prelude.{◌≡◌, ℕ, List, ◌<◌, IfSome, IfOk, IfErr, None, is_some, option_map};
-ghost use Rattle.bump_steps.specs.Views.{last_word};
-ghost use Rattle.cache_part.specs.Expiring.{KeepsUnexpired};
+ghost use Rattle.std.specs.Prelude.{◌≡◌, ◌<◌, true, IfSome, IfOk, IfErr, None, is_some, option_map, vec_len};
+ghost use Rattle.std.specs.Sync.Mutex.{mutex_guard_value};
 ghost use Rattle.cache_part.specs.Parts.{IsUnknown};
-ghost use Rattle.cache_part.specs.Stats.{stats_of};
-ghost use Rattle.cache_shelf.specs.Entries.{AllKept, AllUnexpiredKept, Keeps, OthersKept};
-ghost use Rattle.cache_shelf.specs.Shelves.{with_ended, with_put, with_tended};
-ghost use Rattle.cache_shelf.specs.Turns.{LooksInTurn, TendsShelf};
-ghost use Rattle.call_log.specs.Calls.{MakesOne, OnlyLooks, from_of, to_of};
+ghost use Rattle.cache_shelf.specs.Entries.{AllKept, Keeps, OthersKept};
+ghost use Rattle.cache_shelf.specs.Shelves.{with_ended, with_put};
+ghost use Rattle.call_log.specs.Calls.{MakesOne};
+ghost use Rattle.bump_cache.specs.Caches.{part_in};
 ghost use Rattle.bump_cache.specs.Putting.{EndsKey, HadValue, PutsRow, RefusesRow, WasEvicted, evicted_key};
-ghost use Rattle.bump_cache.specs.Tending.{TendsTimes};
+ghost use Rattle.bump_cache.specs.States.{from_of, part_called, to_of};
 
 use crate::answers::{NoRoom, Put};
-use crate::pairs::Pairs;
+use crate::choosing::part_of_key;
+use crate::numbered::Numbered;
 use crate::states::CacheState;
 use bump_heads::Name;
-use cache_shelf::Stats;
 use call_log::{Caller, LogName, Logged};
+use keyed_hash::Seed;
 use packed_words::Packed;
-use std::sync::atomic::{AtomicBool, AtomicU64, Ordering};
-use std::sync::{Mutex, Wait};
+use std::marker::Model;
+use std::sync::{Mutex, MutexGuard, Wait};
 
-/// A cache, which all threads share: whoever changes it waits for its lock, and whoever gets doesn't.
+/// A cache, which all threads share: whoever changes it waits for the lock of one of its parts, and whoever gets
+/// doesn't. A key's part is by its hash.
 ///
 /// Each thread that changes it has a `Caller` of its own, which has no bytes: by it the contracts say what a call did.
-/// What was there before a call is `from_of` of its caller, and what is there behind it `to_of`: both are what the lock
-/// guarded at that moment, one directly behind the other, and behind all that the caller had seen.
+/// What was there in a part before a call is `from_of` of its caller, and what is there behind it `to_of`: both are
+/// what the part's lock guarded at that moment, one directly behind the other, and behind all that the caller had seen
+/// of it. Calls that go through all parts take one lock at a time, and are one call for each part.
 #[derive(Drop)]
 pub struct Cache<N: Name + LogName, K: Packed, V: Packed> {
-    pub(crate) pairs: Mutex<Logged<N, Pairs<N, K, V>, CacheState>>,
+    // by number
+    pub(crate) parts: Vec<Mutex<Logged<N, Numbered<N, K, V>, CacheState>>>,
+    pub(crate) seed: Seed,
+}
+
+impl<N: Name + LogName, K: Packed, V: Packed> Model for Cache<N, K, V> {
+    ghost use Rattle.std.specs.Prelude.{◌+◌, ◌≤◌, vec_len};
+    ghost use Rattle.bump_cache.specs.Caches.{CacheView};
+    ghost use Rattle.bump_cache.specs.Choosing.{IsPartCount};
+    ghost use Rattle.bump_cache.specs.Opening.{most_words};
+
+    ghost Value = { CacheView };
+
+    ghost view = { λ c. record { parts = vec_len c.parts; seed = c.seed } };
+
+    ghost invariant = { λ c. IsPartCount (vec_len c.parts) × (K.width + V.width ≤ most_words) };
+}
+
+// Whether this is what the lock of the part of this number guards.
+fn is_part<N: Name + LogName, K: Packed, V: Packed>(
+    logged: &Logged<N, Numbered<N, K, V>, CacheState>,
+    part: usize,
+) -> bool
+    ensures { result ≡ true → logged.now.number ≡ part }
+{
+    logged.value.number as usize == part
 }
 
 impl<N: Name + LogName, K: Packed, V: Packed> Cache<N, K, V> {
+    /// How many parts there are, 1 to 16.
+    pub fn parts(&self) -> u32
+        ensures { result ≡ self.now.parts }
+    {
+        self.parts.len() as u32
+    }
+
+    /// The part of a key, by number.
+    pub fn part_of(&self, key: &K) -> u32
+        ensures part { result ≡ part_in self.now (K.as_words key.now) }
+        ensures within { result < self.now.parts }
+    {
+        part_of_key(self.parts.len(), self.seed, key) as u32
+    }
+
+    // The place of the lock that is tried behind this one.
+    fn next_lock(&self, at: usize) -> usize
+        requires { at < self.now.parts }
+        ensures { result < self.now.parts }
+    {
+        let next = at.saturating_add(1);
+        if next < self.parts.len() { next } else { 0 }
+    }
+
+    // What the lock of the part of this number guards, until the guard is let go. The number is compared under the
+    // lock, since a caller that has two guards could exchange what they guard; where that was done, it goes round the
+    // locks, one at a time, until it finds the part.
+    pub(crate) fn lock_part<W: Wait>(
+        &self,
+        rt: &W,
+        part: usize,
+    ) -> MutexGuard<'_, Logged<N, Numbered<N, K, V>, CacheState>>
+        requires { part < self.now.parts }
+        ensures { (mutex_guard_value result).number ≡ part }
+    {
+        let mut at = part;
+        for _ in rt.forever() {
+            let guard = self.parts[at].lock(rt);
+            if is_part(&guard, part) {
+                return guard;
+            }
+            at = self.next_lock(at);
+        }
+        unreachable!()
+    }
+
+    // What the lock of a key's part guards, until the guard is let go.
+    pub(crate) fn lock_of<W: Wait>(
+        &self,
+        rt: &W,
+        key: &K,
+    ) -> MutexGuard<'_, Logged<N, Numbered<N, K, V>, CacheState>>
+        ensures { (mutex_guard_value result).number ≡ part_in self.now (K.as_words key.now) }
+    {
+        self.lock_part(rt, self.part_of(key) as usize)
+    }
+
     /// Puts a value under a key that never expires, as memcached's `set` with the time 0: `put_until` with 0.
     pub fn put<W: Wait>(
         &self,
@@ -43,6 +126,7 @@ impl<N: Name + LogName, K: Packed, V: Packed> Cache<N, K, V> {
     ) -> Result<Put<K, V>, NoRoom<K, V>>
         requires part { 0 < me.old.parts }
         ensures call { MakesOne me.old me.new }
+        ensures part { part_called me.new ≡ part_in self.now (K.as_words key.now) }
         ensures kept { IfOk result (λ did. Keeps (K.as_words key.now) (V.as_words value.now) 0 (to_of me.new).part) }
         ensures old { IfOk result (λ did. HadValue (K.as_words key.now) (option_map V.as_words did.old) now
             (from_of me.new).part) }
@@ -63,10 +147,10 @@ impl<N: Name + LogName, K: Packed, V: Packed> Cache<N, K, V> {
         self.put_until(rt, me, key, value, 0, now)
     }
 
-    /// Puts a value under a key until a time, as memcached's `set`: it waits until no other thread changes the cache.
-    /// From `expires` on no get finds it any more, and 0 is never; where `expires` isn't behind `now` it has expired at
-    /// once, and is put all the same. `now` is the item's time, and that of the bumps which it applies. Times are in
-    /// the caller's ticks, which all calls count alike. It asks for no memory.
+    /// Puts a value under a key until a time, as memcached's `set`: it waits until no other thread changes the key's
+    /// part. From `expires` on no get finds it any more, and 0 is never; where `expires` isn't behind `now` it has
+    /// expired at once, and is put all the same. `now` is the item's time, and that of the bumps which it applies.
+    /// Times are in the caller's ticks, which all calls count alike. It asks for no memory.
     ///
     /// First the bumps that wait are applied, at most 16 of each reader. Where the key has nothing and as many items as
     /// the configuration says are there, one is evicted: of COLD's last ones those go to WARM that were in use since
@@ -88,6 +172,7 @@ impl<N: Name + LogName, K: Packed, V: Packed> Cache<N, K, V> {
     ) -> Result<Put<K, V>, NoRoom<K, V>>
         requires part { 0 < me.old.parts }
         ensures call { MakesOne me.old me.new }
+        ensures part { part_called me.new ≡ part_in self.now (K.as_words key.now) }
         ensures kept { IfOk result (λ did. Keeps (K.as_words key.now) (V.as_words value.now) expires
             (to_of me.new).part) }
         ensures old { IfOk result (λ did. HadValue (K.as_words key.now) (option_map V.as_words did.old) now
@@ -106,9 +191,9 @@ impl<N: Name + LogName, K: Packed, V: Packed> Cache<N, K, V> {
             (from_of me.new) (to_of me.new)) }
         ensures same { to_of me.new ≡ with_put (to_of me.new) (from_of me.new) }
     {
-        let mut guard = self.pairs.lock(rt);
+        let mut guard = self.lock_of(rt, key);
         let logged = &mut *guard;
-        let put = logged.value.put(key, value, expires, now);
+        let put = logged.value.pairs.put(key, value, expires, now);
         logged.log.note(rt, me, &logged.value);
         put
     }
@@ -126,90 +211,17 @@ impl<N: Name + LogName, K: Packed, V: Packed> Cache<N, K, V> {
     ) -> Option<V>
         requires part { 0 < me.old.parts }
         ensures call { MakesOne me.old me.new }
+        ensures part { part_called me.new ≡ part_in self.now (K.as_words key.now) }
         ensures old { HadValue (K.as_words key.now) (option_map V.as_words result) now (from_of me.new).part }
         ensures gone { IsUnknown (K.as_words key.now) (to_of me.new).part }
         ensures others { OthersKept (K.as_words key.now) None (from_of me.new).part (to_of me.new).part }
         ensures ends { EndsKey (K.as_words key.now) (from_of me.new).part (to_of me.new).part }
         ensures same { to_of me.new ≡ with_ended (to_of me.new) (from_of me.new) }
     {
-        let mut guard = self.pairs.lock(rt);
+        let mut guard = self.lock_of(rt, key);
         let logged = &mut *guard;
-        let old = logged.value.remove(key, now);
+        let old = logged.value.pairs.remove(key, now);
         logged.log.note(rt, me, &logged.value);
         old
-    }
-
-    /// What memcached's maintainer and its crawler do: it applies the bumps that the readers queued, at most a ring's
-    /// room of each; ends the items that have expired at `now`, in as many chunks as the configuration says, where the
-    /// last tend ended its looks, around and around; frees the chunks of ended items that nobody holds any more; and
-    /// balances HOT and WARM: it looks at the last item of each in turn, until none of them is to go on, at most a
-    /// hundred times. One that is ACTIVE loses that and goes to the front of WARM; another goes to COLD where its list
-    /// has more than its share, or where it was used longer ago than so many percent of COLD's age, as the
-    /// configuration says. It waits until no other thread changes the cache. `now` is also the time of the bumped
-    /// items, and that by which ages are told, in the caller's ticks. The same keys have the same values, but those
-    /// that have expired.
-    pub fn tend<W: Wait>(&self, rt: &W, me: &mut Caller<N, CacheState>, now: u64)
-        requires part { 0 < me.old.parts }
-        ensures call { MakesOne me.old me.new }
-        ensures tends { TendsShelf now (from_of me.new) (to_of me.new) }
-        ensures looked { LooksInTurn (from_of me.new).limits.looks now (from_of me.new).part (to_of me.new).part }
-        ensures unexpired { KeepsUnexpired now (from_of me.new).part.book (to_of me.new).part.book }
-        ensures kept { AllUnexpiredKept now (from_of me.new).part (to_of me.new).part }
-        ensures same { to_of me.new ≡ with_tended (to_of me.new) (from_of me.new) }
-    {
-        let mut guard = self.pairs.lock(rt);
-        let logged = &mut *guard;
-        logged.value.tend(now);
-        logged.log.note(rt, me, &logged.value);
-    }
-
-    /// Tends the cache as `tend` does, again and again until `stop` is set, each time at what `clock` has then: the
-    /// loop of a thread of its own.
-    pub fn tend_until<W: Wait>(
-        &self,
-        rt: &W,
-        me: &mut Caller<N, CacheState>,
-        clock: &AtomicU64,
-        stop: &AtomicBool,
-    )
-        requires part { 0 < me.old.parts }
-        ensures tends { (count : ℕ) × TendsTimes count me.old me.new }
-        ensures parts { me.new.parts ≡ me.old.parts }
-    {
-        for _ in rt.forever() {
-            if stop.load(Ordering::SeqCst) {
-                return;
-            }
-            self.tend(rt, me, clock.load(Ordering::SeqCst));
-        }
-    }
-
-    /// Ends each item, as memcached's `flush_all`; none counts as evicted. It waits until no other thread changes the
-    /// cache, and looks at each chunk once: its time is in proportion to the items that the cache has room for.
-    pub fn clear<W: Wait>(&self, rt: &W, me: &mut Caller<N, CacheState>)
-        requires part { 0 < me.old.parts }
-        ensures call { MakesOne me.old me.new }
-        ensures empty { (key : List ℕ) → IsUnknown key (to_of me.new).part }
-        ensures words { (i c : ℕ) → last_word i (to_of me.new).part.book.part c
-            ≡ last_word i (from_of me.new).part.book.part c }
-        ensures same { to_of me.new ≡ with_ended (to_of me.new) (from_of me.new) }
-    {
-        let mut guard = self.pairs.lock(rt);
-        let logged = &mut *guard;
-        logged.value.clear();
-        logged.log.note(rt, me, &logged.value);
-    }
-
-    /// The statistics, by memcached's names, of one moment that isn't before what the caller has seen;
-    /// `CacheReader::hits`, `misses` and `bumps_dropped` tell the rest. It waits until no other thread changes the
-    /// cache.
-    pub fn stats<W: Wait>(&self, rt: &W, me: &mut Caller<N, CacheState>) -> Stats
-        ensures look { OnlyLooks me.old me.new }
-        ensures stats { result ≡ stats_of (to_of me.new).part }
-    {
-        let mut guard = self.pairs.lock(rt);
-        let logged = &mut *guard;
-        logged.log.show(rt, me);
-        logged.value.stats()
     }
 }

@@ -4,17 +4,29 @@
 
 mod answers;
 mod blanks;
+mod bytes;
 mod caches;
+mod changing;
+mod choosing;
 mod config;
+mod counts;
 mod held;
 mod law;
+mod looking;
+mod making;
 mod many;
+mod memory;
+mod numbered;
 mod opening;
 mod pairs;
 mod readers;
+mod rows;
 mod states;
+mod statistics;
+mod sums;
+mod tending;
 
-pub use answers::{Cause, Evicted, NoRoom, Put};
+pub use answers::{Added, Cause, Evicted, GotOrPut, NoRoom, Put};
 pub use blanks::CacheBlank;
 pub use bump_heads::Name;
 pub use bump_rules::{Accounts, ClassConfig, Classes, Config};
@@ -23,6 +35,7 @@ pub use cache_shelf::Stats;
 pub use caches::Cache;
 pub use call_log::{Caller, LogName};
 pub use config::{CacheConfig, CacheFault, CacheRefusal};
+pub use counts::ReaderCounts;
 pub use held::HeldItem;
 pub use keyed_hash::Seed;
 pub use law::{MOST_WORDS, PairLaw};

@@ -1,20 +1,19 @@
 //! What a cache's lock guards: a shelf whose rows are those of keys and values.
 ghost use Rattle.std.specs.Prelude.{◌≡◌, ℕ, suc, List, ◌+◌, ◌∷◌, ◌++◌, ◌<◌, ◌^◌, IfSome, IfNone, IfOk, IfErr, None, is_some, length};
 ghost use Rattle.bump_steps.specs.Views.{last_word};
-ghost use Rattle.cache_part.specs.Expiring.{KeepsUnexpired};
+ghost use Rattle.cache_part.specs.Expiring.{KeepsUnexpired, LooksInTurn};
 ghost use Rattle.cache_part.specs.Parts.{IsUnknown};
 ghost use Rattle.cache_part.specs.Stats.{stats_of};
-ghost use Rattle.cache_shelf.specs.Entries.{AllUnexpiredKept};
+ghost use Rattle.cache_shelf.specs.Entries.{AllUnexpiredKept, ReadsShelf};
 ghost use Rattle.cache_shelf.specs.Shelves.{with_ended, with_put, with_tended};
-ghost use Rattle.cache_shelf.specs.Turns.{LooksInTurn, TendsShelf};
+ghost use Rattle.cache_shelf.specs.Turns.{TendsShelf};
+ghost use Rattle.bump_cache.specs.Changing.{HadUntil};
 ghost use Rattle.bump_cache.specs.Putting.{IsPairOfWords, IsTimedValue, PutsValue, RefusesValue, RemovesValue, TellsEvicted, TellsValue, cause_of};
 
 use crate::answers::{Cause, Evicted, NoRoom, Put};
 use crate::law::PairLaw;
-use crate::states::CacheState;
 use bump_heads::Name;
 use cache_shelf::{Shelf, Stats};
-use call_log::Shows;
 use entry_times::has_expired;
 use packed_words::Packed;
 use std::alloc::{AllocError, Global};
@@ -46,10 +45,6 @@ impl<N: Name, K: Packed, V: Packed> Model for Pairs<N, K, V> {
     ghost invariant = { λ p. (p.shelf.part.key_words ≡ K.width) × (p.shelf.part.value_words ≡ V.width)
         × (length p.key.items ≡ K.width) × (length p.row.items ≡ K.width + V.width)
         × (length p.had.items ≡ suc V.width) × (length p.evicted.items ≡ suc (K.width + V.width)) };
-}
-
-impl<N: Name, K: Packed, V: Packed> Shows<CacheState> for Pairs<N, K, V> {
-    ghost shown = { λ p. p };
 }
 
 // Writes the words of a key, and behind them those of a value, into a row.
@@ -192,6 +187,31 @@ fn remove_key<N: Name, K: Packed, V: Packed>(
     told_value(chunk, had, now)
 }
 
+// Looks for the item of a key, and unpacks what is told, and when it expires.
+fn look_key<N: Name, K: Packed, V: Packed>(
+    shelf: &mut Shelf<N, PairLaw<K, V>>,
+    _key: &K,
+    words: &[u64],
+    had: &mut [u64],
+    now: u64,
+) -> Option<(V, u64)>
+    requires key { shelf.old.part.key_words ≡ K.width }
+    requires value { shelf.old.part.value_words ≡ V.width }
+    requires in_range { K.fits _key.now }
+    requires words { words.now ≡ K.as_words _key.now }
+    requires had { length had.old ≡ suc V.width }
+    ensures had { HadUntil V.fits V.as_words (K.as_words _key.now) result now shelf.old.part }
+    ensures reads { ReadsShelf shelf.old shelf.new }
+    ensures length { length had.new ≡ length had.old }
+{
+    shelf.promise();
+    let chunk = shelf.look(words, had);
+    match told_value(chunk, had, now) {
+        Some(value) => Some((value, had[0])),
+        None => None,
+    }
+}
+
 impl<N: Name, K: Packed, V: Packed> Pairs<N, K, V> {
     /// A shelf whose rows are those of keys and values, in which there is nothing yet. It is refused only for want of
     /// memory.
@@ -247,6 +267,15 @@ impl<N: Name, K: Packed, V: Packed> Pairs<N, K, V> {
     {
         key.pack(&mut self.key);
         remove_key(&mut self.shelf, key, &self.key, &mut self.had, now)
+    }
+
+    /// What is under a key, where it hasn't expired, and when it expires; it isn't touched.
+    pub(crate) fn look(&mut self, key: &K, now: u64) -> Option<(V, u64)>
+        ensures had { HadUntil V.fits V.as_words (K.as_words key.now) result now self.old.part }
+        ensures reads { ReadsShelf self.old self.new }
+    {
+        key.pack(&mut self.key);
+        look_key(&mut self.shelf, key, &self.key, &mut self.had, now)
     }
 
     /// Tends the shelf, as `Shelf::tend` does.

@@ -1,14 +1,16 @@
 //! A reader of a cache.
-ghost use Rattle.std.specs.Prelude.{◌≡◌, ◌+◌, ◌≤◌, true, false, length, IfSome, IfNone};
-ghost use Rattle.bump_rules.specs.declared.hands.Hand.TheVariants as hand;
-ghost use Rattle.bump_rules.specs.Rings.{IsAccounts};
+ghost use Rattle.std.specs.Prelude.{◌≡◌, ◌+◌, ◌≤◌, true, false, length, All, IfSome, IfNone};
 ghost use Rattle.cache_readers.specs.Readers.{CountsHit, CountsNothing, KeepsRing, Misses, ReadsNothing};
+ghost use Rattle.bump_cache.specs.Choosing.{IsPartCount};
 ghost use Rattle.bump_cache.specs.Opening.{most_words};
 ghost use Rattle.bump_cache.specs.Pairs.{IsPair};
-ghost use Rattle.bump_cache.specs.Readers.{FindsValue, HitsItem, HoldsValue, PeeksValue, SeesItem, dropped_of};
+ghost use Rattle.bump_cache.specs.Readers.{AddsUp, FindsValue, HitsItem, HoldsValue, InPart, KeepsRings, PeeksValue, SeesItem, bumps_of, dropped_of, hits_of, misses_of};
 
+use crate::choosing::part_of_hash;
 use crate::held::{HeldItem, PairHold};
 use crate::law::{MOST_WORDS, PairLaw};
+use crate::looking::{get_in, hold_in, peek_in, see_in};
+use crate::sums::{bumps_in, hits_in, misses_in};
 use bump_heads::Name;
 use bump_rules::Accounts;
 use cache_readers::WordReader;
@@ -16,127 +18,51 @@ use keyed_hash::Seed;
 use packed_words::Packed;
 use std::marker::{Model, PhantomData};
 
-/// A reader of a cache, which one thread has at a time.
+/// A reader of a cache, which one thread has at a time. It has a worker and a ring of its own in each part.
 #[derive(Drop)]
 pub struct CacheReader<N: Name, K: Packed, V: Packed> {
-    reader: WordReader<N, PairLaw<K, V>>,
+    // a reader of each part, by number
+    parts: Vec<WordReader<N, PairLaw<K, V>>>,
     seed: Seed,
     of: PhantomData<(K, V)>,
 }
 
 impl<N: Name, K: Packed, V: Packed> Model for CacheReader<N, K, V> {
-    ghost use Rattle.std.specs.Prelude.{◌+◌, ◌≤◌};
-    ghost use Rattle.cache_readers.specs.Readers.{ReaderView};
+    ghost use Rattle.std.specs.Prelude.{◌+◌, ◌≤◌, length};
+    ghost use Rattle.bump_cache.specs.Choosing.{IsPartCount};
     ghost use Rattle.bump_cache.specs.Opening.{most_words};
+    ghost use Rattle.bump_cache.specs.Readers.{CacheReaderView};
 
-    ghost Value = { ReaderView };
+    ghost Value = { CacheReaderView };
 
-    ghost view = { λ r. r.reader };
+    ghost view = { λ r. record { seed = r.seed; parts = r.parts.items } };
 
-    ghost invariant = { λ r. (K.width + V.width ≤ N.table.slots) × (K.width + V.width ≤ most_words) };
-}
-
-// Gets a value by a reader of words, with room for the words of the key and of the value.
-#[inline(always)]
-fn get_by<N: Name, K: Packed, V: Packed>(
-    reader: &mut WordReader<N, PairLaw<K, V>>,
-    seed: Seed,
-    key: &K,
-    words: &mut [u64],
-    value: &mut [u64],
-    now: u64,
-) -> Option<V>
-    requires few { K.width + V.width ≤ N.table.slots }
-    requires words { length words.old ≡ K.width }
-    requires value { length value.old ≡ V.width }
-    ensures found { IfSome result (λ it. FindsValue (IsPair K.fits K.as_words V.fits V.as_words) (K.as_words key.now)
-        (V.as_words it) now reader.old reader.new) }
-    ensures counted { IfSome result (λ it. CountsHit reader.old reader.new) }
-    ensures missed { IfNone result (Misses (K.as_words key.now) now reader.old reader.new) }
-    ensures ring { KeepsRing reader.old reader.new }
-{
-    key.pack(words);
-    if !reader.get(seed.hash(words), words, value, now) {
-        return None;
-    }
-    Some(V::unpack(value))
-}
-
-// Gets an item by a reader of words and holds it, with room for the words of the key.
-#[inline(always)]
-fn hold_by<N: Name, K: Packed, V: Packed>(
-    reader: &mut WordReader<N, PairLaw<K, V>>,
-    seed: Seed,
-    key: &K,
-    words: &mut [u64],
-    now: u64,
-) -> Option<PairHold<N, K, V>>
-    requires few { K.width + V.width ≤ N.table.slots }
-    requires most { K.width + V.width ≤ most_words }
-    requires words { length words.old ≡ K.width }
-    ensures found { IfSome result (λ hold. HitsItem (IsPair K.fits K.as_words V.fits V.as_words) (K.as_words key.now)
-        now reader.old reader.new hold) }
-    ensures counted { IfSome result (λ hold. CountsHit reader.old reader.new) }
-    ensures value { IfSome result (λ hold. HoldsValue V.fits V.as_words K.width hold) }
-    ensures missed { IfNone result (Misses (K.as_words key.now) now reader.old reader.new) }
-    ensures ring { KeepsRing reader.old reader.new }
-{
-    key.pack(words);
-    let Some(hold) = reader.hold(seed.hash(words), words, now) else {
-        return None;
-    };
-    Some(PairHold::new(hold))
-}
-
-// Peeks at a value by a reader of words, in the same way.
-#[inline(always)]
-fn peek_by<N: Name, K: Packed, V: Packed>(
-    reader: &mut WordReader<N, PairLaw<K, V>>,
-    seed: Seed,
-    key: &K,
-    words: &mut [u64],
-    value: &mut [u64],
-    now: u64,
-) -> Option<V>
-    requires few { K.width + V.width ≤ N.table.slots }
-    requires words { length words.old ≡ K.width }
-    requires value { length value.old ≡ V.width }
-    ensures found { IfSome result (λ it. PeeksValue (IsPair K.fits K.as_words V.fits V.as_words) (K.as_words key.now)
-        (V.as_words it) now reader.old reader.new) }
-    ensures nothing { IfNone result (ReadsNothing (K.as_words key.now) now reader.old reader.new) }
-    ensures uncounted { CountsNothing reader.old reader.new }
-    ensures ring { KeepsRing reader.old reader.new }
-{
-    key.pack(words);
-    if !reader.peek(seed.hash(words), words, value, now) {
-        return None;
-    }
-    Some(V::unpack(value))
+    ghost invariant = { λ r. IsPartCount (length r.parts.items) × (K.width + V.width ≤ N.table.slots)
+        × (K.width + V.width ≤ most_words) };
 }
 
 impl<N: Name, K: Packed, V: Packed> CacheReader<N, K, V> {
     ghost use Rattle.std.specs.Borrow.{sem};
     ghost use Rattle.bump_cache.specs.Held.{EndsIfNone, hold_of, loan_of, reader_of};
 
-    /// A reader by one of words.
-    pub(crate) fn new(reader: WordReader<N, PairLaw<K, V>>, seed: Seed) -> CacheReader<N, K, V>
+    /// A reader by one of each part.
+    pub(crate) fn new(parts: Vec<WordReader<N, PairLaw<K, V>>>, seed: Seed) -> CacheReader<N, K, V>
+        requires parts { IsPartCount (length parts.items) }
         requires few { K.width + V.width ≤ N.table.slots }
         requires words { K.width + V.width ≤ most_words }
-        ensures { result ≡ reader }
+        ensures { result ≡ record { seed = seed; parts = parts.items } }
     {
         CacheReader {
-            reader,
+            parts,
             seed,
             of: PhantomData,
         }
     }
 
-    // The reader of words by which it reads.
+    // A reader of words by which it reads: by any part's what is held is read, and given back.
     #[inline(always)]
-    pub(crate) fn words(&self) -> &WordReader<N, PairLaw<K, V>>
-        ensures { result.now ≡ self.now }
-    {
-        &self.reader
+    pub(crate) fn words(&self) -> &WordReader<N, PairLaw<K, V>> {
+        &self.parts[0]
     }
 
     /// What was put under the key, as memcached's `get`; or None where nothing was found. `now` is the time by which an
@@ -151,11 +77,12 @@ impl<N: Name, K: Packed, V: Packed> CacheReader<N, K, V> {
     /// an item was ended by another thread in between it searches anew, at most 1,000 times.
     #[inline(always)]
     pub fn get(&mut self, key: &K, now: u64) -> Option<V>
-        ensures found { IfSome result (λ value. FindsValue (IsPair K.fits K.as_words V.fits V.as_words)
-            (K.as_words key.now) (V.as_words value) now self.old self.new) }
-        ensures counted { IfSome result (λ value. CountsHit self.old self.new) }
-        ensures missed { IfNone result (Misses (K.as_words key.now) now self.old self.new) }
-        ensures ring { KeepsRing self.old self.new }
+        ensures found { IfSome result (λ value. InPart (FindsValue (IsPair K.fits K.as_words V.fits V.as_words)
+            (K.as_words key.now) (V.as_words value) now) (K.as_words key.now) self.old self.new) }
+        ensures counted { IfSome result (λ value. InPart CountsHit (K.as_words key.now) self.old self.new) }
+        ensures missed { IfNone result (InPart (Misses (K.as_words key.now) now) (K.as_words key.now) self.old
+            self.new) }
+        ensures ring { KeepsRings self.old self.new }
     {
         let seed = self.seed;
         // Arrays, of which as many words are used as the types have: the compiler knows these numbers, and keeps words
@@ -164,7 +91,7 @@ impl<N: Name, K: Packed, V: Packed> CacheReader<N, K, V> {
         let mut value_row = [0; MOST_WORDS];
         let words = &mut key_row[..K::words()];
         let value = &mut value_row[..V::words()];
-        get_by(&mut self.reader, seed, key, words, value, now)
+        get_in(&mut self.parts, seed, key, words, value, now)
     }
 
     // Looks ahead for a key that is to be got soon: its get needn't wait for the memory of the index.
@@ -174,7 +101,8 @@ impl<N: Name, K: Packed, V: Packed> CacheReader<N, K, V> {
         let mut key_row = [0; MOST_WORDS];
         let words = &mut key_row[..K::words()];
         key.pack(words);
-        self.reader.look_ahead(seed.hash(words));
+        let hash = seed.hash(words);
+        self.parts[part_of_hash(self.parts.len(), hash)].look_ahead(hash);
     }
 
     /// What was put under the key, as `get` finds it, but the item is handed out, held, in place of its value; or None
@@ -185,18 +113,18 @@ impl<N: Name, K: Packed, V: Packed> CacheReader<N, K, V> {
     #[inline(always)]
     pub fn get_with(&mut self, key: &K, now: u64) -> Option<HeldItem<'_, N, K, V>>
         ensures* missed { sem 𝓛 (EndsIfNone N.row K.row V.row N.Name K.Packed V.Packed self.entry result
-            (Misses (K.as_words key.now) now self.old)) }
+            (InPart (Misses (K.as_words key.now) now) (K.as_words key.now) self.old)) }
         ensures loan { IfSome result (λ held. loan_of held ≡ self.entry.ghost_name) }
-        ensures found { IfSome result (λ held. HitsItem (IsPair K.fits K.as_words V.fits V.as_words)
-            (K.as_words key.now) now self.old (reader_of held) (hold_of held)) }
-        ensures counted { IfSome result (λ held. CountsHit self.old (reader_of held)) }
+        ensures found { IfSome result (λ held. InPart (HitsItem (IsPair K.fits K.as_words V.fits V.as_words)
+            (K.as_words key.now) now (hold_of held)) (K.as_words key.now) self.old (reader_of held)) }
+        ensures counted { IfSome result (λ held. InPart CountsHit (K.as_words key.now) self.old (reader_of held)) }
         ensures value { IfSome result (λ held. HoldsValue V.fits V.as_words K.width (hold_of held)) }
-        ensures ring { IfSome result (λ held. KeepsRing self.old (reader_of held)) }
+        ensures ring { IfSome result (λ held. KeepsRings self.old (reader_of held)) }
     {
         let seed = self.seed;
         let mut key_row = [0; MOST_WORDS];
         let words = &mut key_row[..K::words()];
-        let Some(hold) = hold_by(&mut self.reader, seed, key, words, now) else {
+        let Some(hold) = hold_in(&mut self.parts, seed, key, words, now) else {
             return None;
         };
         Some(HeldItem::new(self, hold))
@@ -206,64 +134,69 @@ impl<N: Name, K: Packed, V: Packed> CacheReader<N, K, V> {
     /// be evicted as if nobody had asked. `now` is the time by which an item has expired, in the caller's ticks.
     #[inline(always)]
     pub fn peek(&mut self, key: &K, now: u64) -> Option<V>
-        ensures found { IfSome result (λ value. PeeksValue (IsPair K.fits K.as_words V.fits V.as_words)
-            (K.as_words key.now) (V.as_words value) now self.old self.new) }
-        ensures nothing { IfNone result (ReadsNothing (K.as_words key.now) now self.old self.new) }
-        ensures uncounted { CountsNothing self.old self.new }
-        ensures ring { KeepsRing self.old self.new }
+        ensures found { IfSome result (λ value. InPart (PeeksValue (IsPair K.fits K.as_words V.fits V.as_words)
+            (K.as_words key.now) (V.as_words value) now) (K.as_words key.now) self.old self.new) }
+        ensures nothing { IfNone result (InPart (ReadsNothing (K.as_words key.now) now) (K.as_words key.now) self.old
+            self.new) }
+        ensures uncounted { InPart CountsNothing (K.as_words key.now) self.old self.new }
+        ensures ring { KeepsRings self.old self.new }
     {
         let seed = self.seed;
         let mut key_row = [0; MOST_WORDS];
         let mut value_row = [0; MOST_WORDS];
         let words = &mut key_row[..K::words()];
         let value = &mut value_row[..V::words()];
-        peek_by(&mut self.reader, seed, key, words, value, now)
+        peek_in(&mut self.parts, seed, key, words, value, now)
     }
 
     /// Whether something is under the key that hasn't expired at `now`: `peek` without the value.
     #[inline(always)]
     pub fn contains(&mut self, key: &K, now: u64) -> bool
-        ensures found { result ≡ true → SeesItem (IsPair K.fits K.as_words V.fits V.as_words) (K.as_words key.now) now
-            self.old self.new }
-        ensures nothing { result ≡ false → ReadsNothing (K.as_words key.now) now self.old self.new }
-        ensures uncounted { CountsNothing self.old self.new }
-        ensures ring { KeepsRing self.old self.new }
+        ensures found { result ≡ true → InPart (SeesItem (IsPair K.fits K.as_words V.fits V.as_words)
+            (K.as_words key.now) now) (K.as_words key.now) self.old self.new }
+        ensures nothing { result ≡ false → InPart (ReadsNothing (K.as_words key.now) now) (K.as_words key.now) self.old
+            self.new }
+        ensures uncounted { InPart CountsNothing (K.as_words key.now) self.old self.new }
+        ensures ring { KeepsRings self.old self.new }
     {
         let seed = self.seed;
         let mut key_row = [0; MOST_WORDS];
         let words = &mut key_row[..K::words()];
-        key.pack(words);
-        self.reader.contains(seed.hash(words), words, now)
+        see_in(&mut self.parts, seed, key, words, now)
     }
 
-    /// How many gets found something (memcached's `get_hits`), at most 2^64 - 1.
+    /// How many gets found something (memcached's `get_hits`), in all parts together, at most 2^64 - 1.
     pub fn hits(&self) -> u64
-        ensures { result ≡ self.now.hits }
+        ensures { result ≡ hits_of self.now.parts }
     {
-        self.reader.hits()
+        hits_in(&self.parts)
     }
 
-    /// How many gets found nothing (memcached's `get_misses`), at most 2^64 - 1.
+    /// How many gets found nothing (memcached's `get_misses`), in all parts together, at most 2^64 - 1.
     pub fn misses(&self) -> u64
-        ensures { result ≡ self.now.misses }
+        ensures { result ≡ misses_of self.now.parts }
     {
-        self.reader.misses()
+        misses_in(&self.parts)
     }
 
-    /// Its counts of bumps, as `Worker::counts` tells them: accepted and dropped ones add up to those attempted.
+    /// Its counts of bumps, as `Worker::counts` tells them: each over all parts, at most 2^64 - 1. In each part by
+    /// itself accepted and dropped ones add up to those attempted.
     pub fn bumps(&self) -> Accounts
-        ensures counts { result ≡ self.now.worker.part.accounts }
-        ensures add_up { IsAccounts result (length self.now.worker.sender.sent) hand.Idle }
+        ensures counts { result ≡ bumps_of self.now.parts }
+        ensures add_up { All AddsUp self.now.parts }
     {
-        self.reader.bumps()
+        bumps_in(&self.parts)
     }
 
-    /// How many bumps of this reader's hits were dropped, since its ring had no room, other threads were faster, or the
-    /// references to the item were at their limit (memcached's `lru_bumps_dropped`). They are at most 2^62.
+    /// How many bumps of this reader's hits were dropped, since a ring of it had no room, other threads were faster, or
+    /// the references to the item were at their limit (memcached's `lru_bumps_dropped`), at most 2^64 - 1.
     pub fn bumps_dropped(&self) -> u64
-        ensures { result ≡ dropped_of self.now.worker.part.accounts }
+        ensures { result ≡ dropped_of (bumps_of self.now.parts) }
     {
-        let counts = self.reader.bumps();
-        counts.full + counts.busy + counts.refs
+        let counts = bumps_in(&self.parts);
+        counts
+            .full
+            .saturating_add(counts.busy)
+            .saturating_add(counts.refs)
     }
 }

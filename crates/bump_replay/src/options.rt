@@ -167,7 +167,7 @@ fn with_shares<'a>(alloc: Global, command: Command<'a>) -> Result<Command<'a>, A
         .arg(no_ages)
 }
 
-// What says who gets, and how often the cache is tended.
+// What says who gets, how often the cache is tended, and how many parts it has.
 fn with_readers<'a>(alloc: Global, command: Command<'a>) -> Result<Command<'a>, AllocError> {
     let workers = number_arg(
         alloc,
@@ -190,7 +190,14 @@ fn with_readers<'a>(alloc: Global, command: Command<'a>) -> Result<Command<'a>, 
         "64",
         "After so many accesses the cache is tended",
     );
-    command.arg(workers)?.arg(ring)?.arg(every)
+    let parts = number_arg(
+        alloc,
+        "parts",
+        "PARTS",
+        "1",
+        "Parts of the cache, 1 to 16; at most 64 when multiplied by the readers",
+    );
+    command.arg(workers)?.arg(ring)?.arg(every)?.arg(parts)
 }
 
 // What says what is told.
@@ -272,6 +279,7 @@ fn plan_of(matches: &ArgMatches<'_>) -> Plan {
             warm_age: age_of(matches, "warm-age"),
             temporary: None,
             expiry_looks: 0,
+            parts: number_of(matches, "parts"),
             readers: number_of(matches, "workers"),
             ring: number_of(matches, "ring"),
             seed: SEED,
@@ -315,6 +323,9 @@ fn discord(options: &Options<'_>) -> Option<&'static str> {
     }
     if options.trace.is_some() && (options.files.len() > 1 || options.sizes.len() > 1) {
         return Some("a trace is of one log, and of one size");
+    }
+    if options.trace.is_some() && options.plan.config.parts > 1 {
+        return Some("a trace is of a cache of one part");
     }
     if !options.classes.is_sorted() {
         return Some("the classes aren't in ascending order");

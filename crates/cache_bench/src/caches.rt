@@ -192,9 +192,12 @@ fn make_putters<'a, N: Name + LogName, R: Wait + Copy>(
     Ok(putters)
 }
 
-// What a cache is opened from: so many items, in the shape that memcached has.
-fn blank_of(alloc: Global, items: u32, readers: u32) -> Option<CacheBlank<u64, u64>> {
-    let config = CacheConfig::new(items, readers, SEED);
+// What a cache is opened from: so many items and parts, in the shape that memcached has.
+fn blank_of(alloc: Global, items: u32, readers: u32, parts: u32) -> Option<CacheBlank<u64, u64>> {
+    let config = CacheConfig {
+        parts,
+        ..CacheConfig::new(items, readers, SEED)
+    };
     CacheBlank::new(alloc, &config).ok()
 }
 
@@ -211,7 +214,7 @@ impl<R: Threads + Clock + Wait + Copy + Send + Sync> Passes<R> {
             mut caller,
             mut readers,
         } = open::<N, u64, u64, R>(self.alloc, &self.rt, blank).ok()?;
-        let puts = self.work == Work::Put || self.work == Work::PutSame;
+        let puts = self.work.is_put();
         prepare(
             &self.rt,
             &cache,
@@ -233,7 +236,7 @@ impl<R: Threads + Clock + Wait + Copy + Send + Sync> Passes<R> {
     /// Times the calls of a cache: gets of items of which most have both marks, or puts while nobody gets. None where
     /// it can't be made from these numbers, or where memory or the clock is refused.
     pub fn cache_times(self) -> Option<Times> {
-        let blank = blank_of(self.alloc, self.items, self.threads)?;
+        let blank = blank_of(self.alloc, self.items, self.threads, self.work.parts())?;
         self.run::<Brand>(blank)
     }
 }
@@ -258,11 +261,25 @@ fn grown<N: Name + LogName, R: Wait + Files + AllocGlobal>(
     memory_now(rt)
 }
 
-/// By how much memory the process grows when a cache of so many items is opened and filled. It is an error where no
-/// cache is made from this number, or where memory is refused.
-pub fn grown_by_cache<R: Wait + Files + AllocGlobal>(rt: &R, items: u32) -> io::Result<Memory> {
+/// By how much memory the process grows when a cache of so many items and readers is opened and filled. It is an error
+/// where no cache is made from these numbers, or where memory is refused.
+pub fn grown_by_cache<R: Wait + Files + AllocGlobal>(
+    rt: &R,
+    items: u32,
+    readers: u32,
+) -> io::Result<Memory> {
     let before = memory_now(rt)?;
-    let blank = blank_of(rt.alloc(), items, 1).ok_or(AllocError)?;
+    let blank = blank_of(rt.alloc(), items, readers, 1).ok_or(AllocError)?;
     let behind = grown::<Brand, R>(rt, blank, items)?;
     Ok(behind.since(before))
+}
+
+/// How many bytes such a cache asks for and keeps, as its configuration says; 0 where no cache is made from these
+/// numbers.
+pub fn bytes_taken(items: u32, readers: u32) -> u64 {
+    let config = CacheConfig::new(items, readers, SEED);
+    match config.fault() {
+        None => config.bytes_taken(1, 1),
+        Some(_) => 0,
+    }
 }

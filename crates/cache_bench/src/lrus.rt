@@ -1,7 +1,6 @@
 //! The same calls of the kit's `lru` behind mutexes.
 use crate::memory::{Memory, memory_now};
 use crate::passes::{Called, Passes, Times};
-use crate::workloads::Work;
 use crossbeam_utils::CachePadded;
 use lru::LruCache;
 use std::alloc::{AllocError, Global};
@@ -83,7 +82,7 @@ impl<R: Threads + Clock + Wait + Copy + Send + Sync> Passes<R> {
                 .push(Shards {
                     rt: self.rt,
                     shards: &shards,
-                    are_puts: self.work == Work::Put || self.work == Work::PutSame,
+                    are_puts: self.work.is_put(),
                 })
                 .ok()?;
         }

@@ -52,10 +52,15 @@ fn measure_bytes<R: Wait + Print + Files + AllocGlobal + Copy>(
     rt: R,
     name: &str,
     workload: Workload,
+    threads: u32,
     items: u32,
 ) -> io::Result<()> {
     let grown = match workload.subject {
-        Subject::Cache => caches::grown_by_cache(&rt, items)?,
+        Subject::Cache => {
+            // `checks/cache_memory` reads this line.
+            println!(rt; "bytes_taken {}", caches::bytes_taken(items, threads))?;
+            caches::grown_by_cache(&rt, items, threads)?
+        }
         Subject::Lru => lrus::grown_by_lru(rt, items, 1)?,
         Subject::Shards => lrus::grown_by_lru(rt, items, 16)?,
     };
@@ -71,7 +76,7 @@ fn main(rt: HostRuntime) -> io::Result<()> {
         return Ok(());
     };
     if workload.work == Work::Bytes {
-        return measure_bytes(&rt, name, workload, items);
+        return measure_bytes(&rt, name, workload, threads, items);
     }
     measure_times(&rt, rt.alloc(), name, workload, threads, items)
 }

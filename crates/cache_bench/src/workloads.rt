@@ -28,6 +28,9 @@ pub enum Work {
     /// Puts of fresh keys, which were never there: each evicts an item.
     Put,
 
+    /// The same puts, where there are four parts.
+    PutParts,
+
     /// Puts of keys that are there, at random.
     PutSame,
 
@@ -42,9 +45,27 @@ pub struct Workload {
     pub work: Work,
 }
 
+impl Work {
+    /// Whether puts are made, and no gets.
+    pub fn is_put(self) -> bool {
+        match self {
+            Work::Put | Work::PutParts | Work::PutSame => true,
+            Work::Get | Work::GetMany | Work::Hot | Work::Bytes => false,
+        }
+    }
+
+    /// How many parts the cache has.
+    pub fn parts(self) -> u32 {
+        match self {
+            Work::PutParts => 4,
+            Work::Put | Work::PutSame | Work::Get | Work::GetMany | Work::Hot | Work::Bytes => 1,
+        }
+    }
+}
+
 impl Workload {
     /// The workload of a name: whose calls, and which, as `cache_get` and `lru16_put_same`. Many keys at a time are got
-    /// of a cache alone.
+    /// of a cache alone, and a cache alone has parts.
     pub fn named(name: &str) -> Option<Workload> {
         let (subject, work) = name.split_once('_')?;
         let subject = match subject {
@@ -58,6 +79,7 @@ impl Workload {
             "get_many" if subject == Subject::Cache => Work::GetMany,
             "hot" => Work::Hot,
             "put" => Work::Put,
+            "put_parts" if subject == Subject::Cache => Work::PutParts,
             "put_same" => Work::PutSame,
             "bytes" => Work::Bytes,
             _ => return None,

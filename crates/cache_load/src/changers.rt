@@ -10,6 +10,9 @@ pub struct Changer<N: Name + LogName> {
     /// Its number: a writer's, from 0, or any other one.
     pub number: u32,
 
+    /// So many keys come and go.
+    pub others: u64,
+
     /// The caller.
     pub me: Caller<N, CacheState>,
     ghost part: { 0 < me.parts },
@@ -20,6 +23,7 @@ pub fn some_of<N: Name + LogName>(
     alloc: Global,
     me: &mut Caller<N, CacheState>,
     count: u32,
+    others: u64,
 ) -> Result<Vec<Changer<N>>, AllocError>
     requires { count < me.old.parts }
     ensures { me.old.parts < me.new.parts + count + 1 }
@@ -27,7 +31,11 @@ pub fn some_of<N: Name + LogName>(
     let mut all = Vec::with_capacity(alloc, count as usize)?;
     for number in 0..count {
         let other = me.another();
-        all.push(Changer { number, me: other })?;
+        all.push(Changer {
+            number,
+            others,
+            me: other,
+        })?;
     }
     Ok(all)
 }

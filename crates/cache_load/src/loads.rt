@@ -3,7 +3,7 @@ ghost use Rattle.std.specs.Prelude.{◌≡◌, ◌<◌, ◌≤◌};
 
 use crate::changers::{Changer, some_of};
 use crate::readers::{Part, Seen, read};
-use crate::values::Value;
+use crate::values::{Value, others_of};
 use crate::writers::{Wrote, put_staying, tend, write};
 use bump_cache::{Cache, CacheBlank, CacheReader, LogName, Name, Opened, Stats, open};
 use std::alloc::{AllocError, Global};
@@ -23,6 +23,9 @@ pub struct Load {
 
     /// So many gets all readers make together, as far as each makes as many as each other one.
     pub gets: u64,
+
+    /// So many parts the cache has.
+    pub parts: u32,
 }
 
 /// What it came to.
@@ -81,10 +84,16 @@ fn parts_of<N: Name + LogName>(
     load: Load,
 ) -> Result<Vec<Part<N>>, AllocError> {
     let gets = load.gets / u64::from(load.readers.max(1));
+    let others = others_of(load.parts);
     let mut parts = Vec::with_capacity(alloc, readers.len())?;
     let mut seed = 1u64;
     for reader in readers {
-        parts.push(Part { reader, seed, gets })?;
+        parts.push(Part {
+            reader,
+            seed,
+            others,
+            gets,
+        })?;
         seed = seed.saturating_add(1);
     }
     Ok(parts)
@@ -137,12 +146,18 @@ pub fn run<N: Name + LogName + Send + Sync, R: Threads + Wait + Sync>(
         caller: mut me,
         readers,
     } = open::<N, u64, Value, R>(alloc, rt, blank)?;
+    let others = others_of(load.parts);
     let tender = Changer {
         number: 0,
+        others,
         me: me.another(),
     };
-    let writers = some_of(alloc, &mut me, load.writers.min(4))?;
-    let mut first = Changer { number: 0, me };
+    let writers = some_of(alloc, &mut me, load.writers.min(4), others)?;
+    let mut first = Changer {
+        number: 0,
+        others,
+        me,
+    };
     let mut wrote = Wrote::new();
     put_staying(rt, &cache, &mut first, &mut wrote);
     let parts = parts_of(alloc, readers, load)?;

@@ -37,6 +37,9 @@ pub struct Part<N: Name + LogName> {
     /// What the random numbers begin with.
     pub seed: u64,
 
+    /// So many keys come and go.
+    pub others: u64,
+
     /// So many gets it makes.
     pub gets: u64,
 }
@@ -99,6 +102,7 @@ pub fn read<N: Name + LogName>(part: Part<N>) -> Seen {
     let Part {
         mut reader,
         mut seed,
+        others,
         gets,
     } = part;
     let mut newest = [0u64; NUMBERS];
@@ -108,7 +112,7 @@ pub fn read<N: Name + LogName>(part: Part<N>) -> Seen {
             let key = next(&mut seed) % STAYING;
             seen.note_staying(key, reader.get(&key, now), &mut newest);
         } else {
-            let key = next_other(&mut seed);
+            let key = next_other(&mut seed, others);
             seen.note_other(key, reader.get(&key, now));
         }
         count(&mut seen.gets, true);

@@ -8,11 +8,11 @@ pub const MOST_WRITERS: u32 = 4;
 
 /// The keys below this are there from the first get on. Each writer puts them anew again and again: of its puts each
 /// second one is of such a key. So between two puts of one such key there are fewer than 32 of each writer, which is less
-/// than there are items in HOT: it is never evicted.
+/// than there are items in HOT of a part: it is never evicted.
 pub const STAYING: u64 = 16;
 
-/// The other keys are below this.
-pub const KEYS: u64 = 2_400;
+// So many other keys there are for each part: more than it has room for.
+const OTHERS: u64 = 2_384;
 
 // A number over a key and a value's number.
 fn sum_of(key: u64, number: u64) -> u64 {
@@ -46,9 +46,14 @@ pub fn next(seed: &mut u64) -> u64 {
     *seed >> 33
 }
 
-/// The next of the keys that come and go.
-pub fn next_other(seed: &mut u64) -> u64 {
-    STAYING.saturating_add(next(seed) % (KEYS - STAYING))
+/// How many keys come and go in a cache of so many parts.
+pub fn others_of(parts: u32) -> u64 {
+    OTHERS.saturating_mul(u64::from(parts))
+}
+
+/// The next of the keys that come and go, of which there are so many.
+pub fn next_other(seed: &mut u64, others: u64) -> u64 {
+    STAYING.saturating_add(next(seed) % others.max(1))
 }
 
 /// Counts one more where something is so.

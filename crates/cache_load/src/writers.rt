@@ -116,10 +116,10 @@ pub fn write<N: Name + LogName, W: Wait>(
         }
         for staying in 0..STAYING {
             wrote.put(rt, cache, &mut changer, staying);
-            let other = next_other(&mut seed);
+            let other = next_other(&mut seed, changer.others);
             wrote.put(rt, cache, &mut changer, other);
             if staying % 4 == 0 {
-                let key = next_other(&mut seed);
+                let key = next_other(&mut seed, changer.others);
                 wrote.remove(rt, cache, &mut changer, key);
             }
         }
@@ -134,7 +134,11 @@ pub fn tend<N: Name + LogName, W: Wait>(
     changer: Changer<N>,
     done: &AtomicBool,
 ) {
-    let Changer { number: _, mut me } = changer;
+    let Changer {
+        number: _,
+        others: _,
+        mut me,
+    } = changer;
     let clock = AtomicU64::new(7);
     cache.tend_until(rt, &mut me, &clock, done);
 }

@@ -8,3 +8,4 @@ pub mod SearchLemmas
 pub mod WriterLemmas
 pub mod AnswerLemmas
 pub mod WalkLemmas
+pub mod NumberLemmas

@@ -1,6 +1,6 @@
 -- What contracts see of an index and of the searches in it.
 use Rattle.std.specs.Prelude.{ℕ, ◌+◌, ◌-◌, ◌*◌, ◌^◌, ◌≤◌, ◌==◌, Bool, false, ◌&&◌, nat_lt, if◌then◌else◌}
-use Rattle.std.specs.Prelude.{List, slice_index, slice_index_or, Option, Some, None, map}
+use Rattle.std.specs.Prelude.{List, slice_index, slice_index_or, Option, Some, None, map, replicate, ◌++◌}
 use Rattle.atomic_table.specs.Seated.{TableId}
 use Rattle.cache_nests.specs.declared.led.Way.{Way}
 use Rattle.cache_nests.specs.Tags.{lanes, tag_of}
@@ -18,11 +18,17 @@ pub record Led : Type 0 where
   pub hash : ℕ
   pub generation : ℕ
 
--- an index: what it leads to, by chunk; how many nests it has; and by chunk the place of its lane
+-- an index: its first chunk; what it leads to, by chunk; how many nests it has; and by chunk the place of its lane
 pub record IndexView : Type 0 where
+  pub first : ℕ
   pub table : List (Option Led)
   pub nests : ℕ
   pub places : List ℕ
+
+-- a reader of an index: how many nests it has, and its first chunk
+pub record IndexReaderView : Type 0 where
+  pub nests : ℕ
+  pub first : ℕ
 
 -- a reader's search: of how many nests, and for which tag; the nest in which it is, and how many it hasn't come to; and
 -- which of the lanes that it found in this nest are left, each by the highest of its 8 bits
@@ -44,11 +50,22 @@ led_by words way =
     if way.place == 0 then None
     else Some (record { hash = way.hash; generation = generation_in (slice_index words way.place) })
 
+-- an index whose chunks are numbered from 0 on, by their ways
 abbrev pub index_view : ℕ → List ℕ → List Way → IndexView
 index_view nests words ways = record {
+  first = 0;
   table = map (led_by words) ways;
   nests = nests;
   places = map (λ (way : Way). way.place) ways;
+}
+
+-- the same index, its chunks numbered from this one on: it has nothing of those before
+abbrev pub numbered_from : ℕ → IndexView → IndexView
+numbered_from first index = record {
+  first = first;
+  table = replicate first None ++ index.table;
+  nests = index.nests;
+  places = replicate first 0 ++ index.places;
 }
 
 -- what is ahead of a reader's search: a number that gets less with each answer

@@ -3,6 +3,7 @@ ghost use Rattle.std.specs.Prelude.{◌≡◌, ◌<◌, ◌==◌, ◌||◌, ℕ,
 ghost use Rattle.cache_nests.specs.Tags.{tag_of};
 ghost use Rattle.cache_nests.specs.Views.{IsWithin, lanes_ahead, has_answered, led_at};
 
+use crate::from_zero::IndexFromZero;
 use crate::index::Index;
 use crate::led::life_of;
 use crate::tags::LANES;
@@ -39,6 +40,31 @@ impl Index {
     /// each chunk that has this very hash was answered. The search is one of this index, which stays as it is. Each
     /// chunk is answered once at most, and each answer leaves fewer lanes ahead.
     pub fn next_of(&mut self, search: &mut ExactSearch) -> Option<ItemId>
+        requires { IsWithin self.old search.old }
+        ensures index { self.new ≡ self.old }
+        ensures hash { search.new.hash ≡ search.old.hash }
+        ensures within { IsWithin self.new search.new }
+        ensures fewer { IfSome result (λ _. lanes_ahead self.new search.new < lanes_ahead self.old search.old) }
+        ensures anew { IfSome result (λ life. has_answered self.old search.old life.chunk ≡ false) }
+        ensures led { IfSome result (λ life. IsSomeAnd (led_at self.old.table life.chunk)
+            (λ led. (led.generation ≡ life.generation) × (tag_of led.hash ≡ tag_of search.old.hash))) }
+        ensures answered { IfSome result (λ life. (chunk : ℕ) → has_answered self.new search.new chunk
+            ≡ (has_answered self.old search.old chunk || (chunk == life.chunk))) }
+        ensures done { IfNone result ((chunk : ℕ) → has_answered self.new search.new chunk
+            ≡ has_answered self.old search.old chunk) }
+        ensures all { IfNone result ((chunk : ℕ) → IfSome (led_at self.old.table chunk)
+            (λ led. led.hash ≡ search.old.hash → has_answered self.old search.old chunk ≡ true)) }
+    {
+        let Some(life) = self.from_zero.next_of(search) else {
+            return None;
+        };
+        Some(self.numbered(life))
+    }
+}
+
+impl IndexFromZero {
+    /// The same over chunks that are numbered from 0 on.
+    pub(crate) fn next_of(&mut self, search: &mut ExactSearch) -> Option<ItemId>
         requires { IsWithin self.old search.old }
         ensures index { self.new ≡ self.old }
         ensures hash { search.new.hash ≡ search.old.hash }

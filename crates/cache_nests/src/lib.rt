@@ -3,6 +3,7 @@
 #![tactic(auto)]
 
 mod exact;
+mod from_zero;
 mod index;
 mod led;
 mod nests;

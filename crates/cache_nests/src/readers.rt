@@ -14,19 +14,20 @@ use std::alloc::{AllocError, Global};
 use std::marker::Model;
 use std::sync::Arc;
 
-/// A reader of an index. A contract sees how many nests the index has.
+/// A reader of an index. A contract sees how many nests the index has, and its first chunk.
 #[derive(Drop)]
 pub struct IndexReader {
     nests: Arc<Nests, Global>,
+    first: u32,
 }
 
 impl Model for IndexReader {
-    ghost use Rattle.std.specs.Prelude.{ℕ};
     ghost use Rattle.std.specs.Arc.{arc_value};
+    ghost use Rattle.cache_nests.specs.Views.{IndexReaderView};
 
-    ghost Value = { ℕ };
+    ghost Value = { IndexReaderView };
 
-    ghost view = { λ r. (arc_value r.nests).nests };
+    ghost view = { λ r. record { nests = (arc_value r.nests).nests; first = r.first } };
 }
 
 /// A reader's search. A contract sees its walk: the tag, the nest in which it is, how many nests it hasn't come to, and
@@ -59,11 +60,11 @@ impl Model for Search {
 }
 
 impl IndexReader {
-    /// A reader of these nests.
-    pub(crate) fn new(nests: Arc<Nests, Global>) -> IndexReader
-        ensures { result ≡ (arc_value nests).nests }
+    /// A reader of these nests, which numbers the chunks from this one on.
+    pub(crate) fn new(nests: Arc<Nests, Global>, first: u32) -> IndexReader
+        ensures { result ≡ record { nests = (arc_value nests).nests; first = first } }
     {
-        IndexReader { nests }
+        IndexReader { nests, first }
     }
 
     /// Another reader of the same index. It is refused only for want of memory.
@@ -72,6 +73,7 @@ impl IndexReader {
     {
         Ok(IndexReader {
             nests: Arc::try_clone(&self.nests)?,
+            first: self.first,
         })
     }
 
@@ -79,10 +81,10 @@ impl IndexReader {
     /// to come. It waits for nobody and takes no memory.
     #[inline(always)]
     pub fn search(&self, hash: u32) -> Search
-        ensures nests { result.nests ≡ self.now }
+        ensures nests { result.nests ≡ self.now.nests }
         ensures tag { result.tag ≡ tag_of hash }
-        ensures home { result.nest ≡ home_of self.now hash }
-        ensures later { result.later + 1 ≡ self.now }
+        ensures home { result.nest ≡ home_of self.now.nests hash }
+        ensures later { result.later + 1 ≡ self.now.nests }
     {
         let nests = self.nests.count();
         let nest = self.nests.home(hash);
@@ -114,13 +116,14 @@ impl Search {
         self.lanes = nests.lanes_now(self.nest, self.tag);
     }
 
-    /// The next life that may be of a key with the search's hash, or `None` where no more may be. The reader is of the
-    /// index in which the search began. It waits for nobody and takes no memory, and each answer brings the search
-    /// nearer to its end: the lowest lane that is left in its nest is taken, and where none is, it walks on to a nest
-    /// that has one. It walks past a nest only where a key passed it, and ends where none did, or behind the last one.
+    /// The next life that may be of a key with the search's hash, or `None` where no more may be. Its chunk has its own
+    /// number. The reader is of the index in which the search began. It waits for nobody and takes no memory, and each
+    /// answer brings the search nearer to its end: the lowest lane that is left in its nest is taken, and where none
+    /// is, it walks on to a nest that has one. It walks past a nest only where a key passed it, and ends where none
+    /// did, or behind the last one.
     #[inline(always)]
     pub fn next(&mut self, reader: &IndexReader) -> Option<ItemId>
-        requires { self.old.nests ≡ reader.now }
+        requires { self.old.nests ≡ reader.now.nests }
         ensures nests { self.new.nests ≡ self.old.nests }
         ensures tag { self.new.tag ≡ self.old.tag }
         ensures walks { WalksOn self.old self.new }
@@ -138,6 +141,11 @@ impl Search {
         }
         let lane = lowest(self.lanes);
         self.lanes = without_lowest(self.lanes);
-        Some(life_of(nests.life_now(self.nest, lane)))
+        let life = life_of(nests.life_now(self.nest, lane));
+        // Nothing is known of a word that a reader loads, so nothing says that the sum fits.
+        Some(ItemId {
+            chunk: life.chunk.wrapping_add(reader.first),
+            generation: life.generation,
+        })
     }
 }

@@ -1,4 +1,6 @@
 //! Tests of the index: random calls beside a plain list, and readers beside the writer.
+ghost use Rattle.std.specs.Prelude.{◌≡◌, ◌<◌, ◌≤◌, true, length};
+
 use crate::{Index, IndexReader};
 use bump_rules::ItemId;
 use std::alloc::Global;
@@ -30,17 +32,24 @@ fn hash_of(number: u64, hashes: u64) -> u32 {
     ((number % hashes.max(1)).wrapping_mul(0x9E37_79B9_7F4A_7C15) >> 32) as u32
 }
 
+// Whether a chunk is one of the index's own.
+fn has(index: &Index, chunk: u32) -> bool
+    ensures { result ≡ true → (index.now.first ≤ chunk) × (chunk < length index.now.table) }
+{
+    let range = index.range();
+    range.start <= chunk && chunk < range.end
+}
+
 // Puts a life, if its chunk has none.
 fn put(index: &mut Index, hash: u32, life: ItemId) {
-    if life.chunk < index.chunks() && !index.leads(life.chunk) {
+    if has(index, life.chunk) && !index.leads(life.chunk) {
         index.put(hash, life);
     }
 }
 
 // Leads from the hash of a chunk to another life, if that may be; and tells whether it did.
 fn lead(index: &mut Index, old: u32, life: ItemId) -> bool {
-    let chunks = index.chunks();
-    if old >= chunks || life.chunk >= chunks || !index.leads(old) {
+    if !has(index, old) || !has(index, life.chunk) || !index.leads(old) {
         return false;
     }
     if old == life.chunk {
@@ -56,14 +65,14 @@ fn lead(index: &mut Index, old: u32, life: ItemId) -> bool {
 
 // Leads no more to a chunk, if it did.
 fn clear(index: &mut Index, chunk: u32) {
-    if chunk < index.chunks() && index.leads(chunk) {
+    if has(index, chunk) && index.leads(chunk) {
         index.clear(chunk);
     }
 }
 
-// Writes what the plain list has of a chunk.
-fn note(plain: &mut Vec<Option<Noted>>, chunk: u32, noted: Option<Noted>) {
-    if let Some(one) = plain.get_mut(chunk as usize) {
+// Writes what the plain list has of a chunk, counted from the first one on.
+fn note(plain: &mut Vec<Option<Noted>>, number: u32, noted: Option<Noted>) {
+    if let Some(one) = plain.get_mut(number as usize) {
         *one = noted;
     }
 }
@@ -71,28 +80,30 @@ fn note(plain: &mut Vec<Option<Noted>>, chunk: u32, noted: Option<Noted>) {
 // Puts, leads anew or clears, and notes it in the plain list.
 fn step(index: &mut Index, plain: &mut Vec<Option<Noted>>, state: &mut u64, hashes: u64) {
     let chunks = u64::from(index.chunks().max(1));
-    let chunk = (random(state) % chunks) as u32;
+    let number = (random(state) % chunks) as u32;
     let other = (random(state) % chunks) as u32;
     let generation = (random(state) % 1_000_000) as u32;
-    let had = plain.get(chunk as usize).copied().flatten();
+    let had = plain.get(number as usize).copied().flatten();
+    let first = index.range().start;
+    let chunk = first.saturating_add(number);
     match had {
         None => {
             let hash = hash_of(random(state), hashes);
             put(index, hash, ItemId { chunk, generation });
-            note(plain, chunk, Some(Noted { hash, generation }));
+            note(plain, number, Some(Noted { hash, generation }));
         }
         Some(noted) => {
             let hash = noted.hash;
             let life = ItemId {
-                chunk: other,
+                chunk: first.saturating_add(other),
                 generation,
             };
             if lead(index, chunk, life) {
-                note(plain, chunk, None);
+                note(plain, number, None);
                 note(plain, other, Some(Noted { hash, generation }));
             } else if generation % 3 == 0 {
                 clear(index, chunk);
-                note(plain, chunk, None);
+                note(plain, number, None);
             }
         }
     }
@@ -124,13 +135,13 @@ fn exact_times(index: &mut Index, hash: u32, chunk: u32, generation: u32) -> u32
 
 // Whether the index leads to a chunk.
 fn leads(index: &Index, chunk: u32) -> bool {
-    chunk < index.chunks() && index.leads(chunk)
+    has(index, chunk) && index.leads(chunk)
 }
 
 // In how many chunks the index isn't as the plain list.
 fn differences(index: &mut Index, reader: &IndexReader, plain: &[Option<Noted>]) -> u32 {
     let mut count = 0u32;
-    let mut chunk = 0u32;
+    let mut chunk = index.range().start;
     for one in plain {
         let is_found = match *one {
             None => true,
@@ -147,9 +158,10 @@ fn differences(index: &mut Index, reader: &IndexReader, plain: &[Option<Noted>])
     count
 }
 
-// Random calls on an index of so many chunks, with so many hashes; and in how many chunks it wasn't as the plain list.
-fn run(alloc: Global, chunks: u32, hashes: u64) -> Result<u32, Fail> {
-    let mut index = Index::new(alloc, chunks.min(1_000))?;
+// Random calls on an index of so many chunks from a first one on, with so many hashes; and in how many chunks it wasn't
+// as the plain list.
+fn run(alloc: Global, first: u32, chunks: u32, hashes: u64) -> Result<u32, Fail> {
+    let mut index = Index::new(alloc, first.min(1_000_000), chunks.min(1_000))?;
     let reader = index.reader()?;
     let mut plain: Vec<Option<Noted>> = Vec::new(alloc);
     for _chunk in 0..chunks.min(1_000) {
@@ -168,21 +180,28 @@ fn run(alloc: Global, chunks: u32, hashes: u64) -> Result<u32, Fail> {
 
 #[test]
 fn random_calls_in_a_small_index(rt: HostRuntime) -> Result<(), Fail> {
-    assert_eq!(rt; run(rt.alloc(), 1, 1)?, 0);
-    assert_eq!(rt; run(rt.alloc(), 7, 1)?, 0);
-    assert_eq!(rt; run(rt.alloc(), 30, 1_000_000)?, 0);
+    assert_eq!(rt; run(rt.alloc(), 0, 1, 1)?, 0);
+    assert_eq!(rt; run(rt.alloc(), 0, 7, 1)?, 0);
+    assert_eq!(rt; run(rt.alloc(), 0, 30, 1_000_000)?, 0);
     Ok(())
 }
 
 #[test]
 fn random_calls_with_one_hash_for_all(rt: HostRuntime) -> Result<(), Fail> {
-    assert_eq!(rt; run(rt.alloc(), 40, 1)?, 0);
+    assert_eq!(rt; run(rt.alloc(), 0, 40, 1)?, 0);
     Ok(())
 }
 
 #[test]
 fn random_calls_in_a_larger_index(rt: HostRuntime) -> Result<(), Fail> {
-    assert_eq!(rt; run(rt.alloc(), 300, 700)?, 0);
+    assert_eq!(rt; run(rt.alloc(), 0, 300, 700)?, 0);
+    Ok(())
+}
+
+#[test]
+fn random_calls_from_a_first_chunk_on(rt: HostRuntime) -> Result<(), Fail> {
+    assert_eq!(rt; run(rt.alloc(), 1, 30, 3)?, 0);
+    assert_eq!(rt; run(rt.alloc(), 1_000_000, 40, 1_000_000)?, 0);
     Ok(())
 }
 
@@ -211,7 +230,7 @@ fn missed(reader: &IndexReader) -> u32 {
 
 #[test]
 fn a_reader_finds_what_is_led_anew(rt: HostRuntime) -> Result<(), Fail> {
-    let mut index = Index::new(rt.alloc(), 3 * KEYS)?;
+    let mut index = Index::new(rt.alloc(), 0, 3 * KEYS)?;
     for chunk in 0..KEYS {
         put(
             &mut index,

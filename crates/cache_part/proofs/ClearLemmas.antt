@@ -1,5 +1,5 @@
 -- All items end, chunk by chunk.
-use Rattle.std.proofs.Common.{◌≡◌, ℕ, ◌+◌, ◌<◌, Bool, true, false, ◌==◌, List, Option, Some, None, IsSome, is_some, if◌then◌else◌, length, slice_set, refl, sym, ap, ◌∙◌, subst, eq-eqb, below_more}
+use Rattle.std.proofs.Common.{◌≡◌, ℕ, ◌+◌, ◌<◌, ◌≤◌, Bool, true, false, ◌==◌, List, Option, Some, None, IsSome, is_some, if◌then◌else◌, length, slice_set, refl, sym, ap, ◌∙◌, subst, eq-eqb, below_more, arith}
 use Rattle.bump_class.specs.Books.{BookView}
 use Rattle.bump_steps.specs.Views.{last_word}
 use Rattle.cache_lists.specs.Counts.{CountedView}
@@ -8,7 +8,7 @@ use Rattle.cache_lists.specs.Linked.{linked_at}
 use Rattle.cache_nests.specs.Views.{Led, led_at, IndexView}
 use Rattle.keyed_hash.specs.declared.seed.Seed.{Seed}
 use Rattle.cache_part.specs.Parts.{generation_led, IsPart}
-use Rattle.cache_part.proofs.PartLemmas.{linked_within, part_ended}
+use Rattle.cache_part.proofs.PartLemmas.{first_kept, linked_within, part_ended}
 
 -- what isn't linked isn't behind an end either
 none_without : (linked : Option ℕ) (b : Bool) → linked ≡ None → (if b then None else linked) ≡ None
@@ -45,9 +45,12 @@ module _ (seed : Seed) (key_words : ℕ) (book : BookView) (index : List (Option
       by (Some generation) e =
           below c (linked_within seed key_words book book index is c (subst IsSome (sym e) refl))
 
--- nothing is linked at the chunks below this one; they have their words still, and nothing was evicted
+-- nothing is linked at the chunks below this one, which isn't before the class's first; they have their words still,
+-- and nothing was evicted
 pub record ClearedTo (seed : Seed) (key_words end : ℕ) (before after : CountedView) (index : IndexView) : Type 0 where
   pub part : IsPart seed key_words after.book.part index.table
+  pub first : index.first ≡ after.book.part.first
+  pub from : after.book.part.first ≤ end
   pub empty : (c : ℕ) → c < end → linked_at after.book.part c ≡ None
   pub words : (i c : ℕ) → last_word i after.book.part c ≡ last_word i before.book.part c
   pub class : IsSameClass before.book after.book
@@ -57,11 +60,13 @@ module _ (seed : Seed) (key_words chunk : ℕ) (before now : CountedView) (index
     (so_far : ClearedTo seed key_words chunk before now index) where
   -- the item of the next chunk ends
   pub cleared_more : (left : CountedView) (to : IndexView) → EndsAt chunk now.book left.book
-      → to.table ≡ slice_set index.table chunk None → left.evictions ≡ now.evictions
+      → to.table ≡ slice_set index.table chunk None → to.first ≡ index.first → left.evictions ≡ now.evictions
       → ClearedTo seed key_words (chunk + 1) before left to
-  cleared_more left to ends table evictions = record {
+  cleared_more left to ends table first evictions = record {
     part = subst (IsPart seed key_words left.book.part) (sym table)
         (part_ended seed key_words now.book left.book index.table so_far.part chunk ends);
+    first = first ∙ first_kept index.first now.book left.book ends.class so_far.first;
+    from = omega (arith, so_far.from, ends.class.first);
     empty = below_more _ _ (λ c low. ended_there chunk c now.book left.book ends (so_far.empty c low))
         (ended_here chunk now.book left.book ends);
     words = λ i c. ends.words i c ∙ so_far.words i c;
@@ -76,6 +81,8 @@ module _ (seed : Seed) (key_words chunk : ℕ) (before now : CountedView) (index
   pub cleared_still : is_some (led_at index.table chunk) ≡ false → ClearedTo seed key_words (chunk + 1) before now index
   cleared_still none = record {
     part = so_far.part;
+    first = so_far.first;
+    from = omega (arith, so_far.from);
     empty = below_more _ _ so_far.empty
         (unled_empty seed key_words now.book index.table so_far.part chunk none);
     words = so_far.words;

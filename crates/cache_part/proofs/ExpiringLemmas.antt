@@ -1,14 +1,14 @@
 -- What looks for expired items leave.
-use Rattle.std.proofs.Common.{◌≡◌, ℕ, suc, ◌+◌, ◌⊎◌, inl, inr, Bool, true, false, ◌==◌, None, IsSome, if◌then◌else◌, refl, sym, ap, ◌∙◌, subst, eqb-true, arith}
+use Rattle.std.proofs.Common.{◌≡◌, ℕ, suc, ◌+◌, ◌⊎◌, inl, inr, Bool, true, false, ◌==◌, None, IsSome, if◌then◌else◌, min, refl, sym, ap, ◌∙◌, subst, eqb-true, arith}
 use Rattle.bump_rules.specs.Lawful.{bit}
 use Rattle.bump_steps.specs.Views.{last_word}
 use Rattle.bump_class.specs.Books.{BookView}
 use Rattle.cache_lists.specs.Counts.{CountedView}
 use Rattle.cache_lists.specs.Expiring.{expired_at, EndsExpired, EndsFound}
-use Rattle.cache_lists.specs.Items.{KeepsItems, EndsAt}
+use Rattle.cache_lists.specs.Items.{IsSameClass, KeepsItems, EndsAt}
 use Rattle.cache_lists.specs.Linked.{linked_at}
 use Rattle.entry_times.specs.Times.{has_expired}
-use Rattle.cache_part.specs.Expiring.{HasNoneExpired, EndedExpired, KeepsUnexpired, IsInTurn, LooksAt, LooksAround, chunk_behind}
+use Rattle.cache_part.specs.Expiring.{HasNoneExpired, EndedExpired, KeepsUnexpired, IsInTurn, IsNumberInTurn, LooksAt, LooksAround, number_behind}
 use Rattle.cache_part.proofs.PartLemmas.{class_then}
 use Rattle.cache_part.proofs.TurnLemmas.{in_turn_more}
 
@@ -96,7 +96,8 @@ found_expired chunk now false before after finds some expired = absurd (by finds
 module _ (from count now : ℕ) (first : CountedView) (counts : first.book.part.count ≡ count) where
   -- one chunk more was looked at
   pub around_more : (looks ended so_far : ℕ) (did : Bool) (between after : CountedView)
-      → LooksAround looks from now so_far first between → LooksAt (chunk_behind from looks count) now did between after
+      → LooksAround looks from now so_far first between
+      → LooksAt (first.book.part.first + number_behind from looks count) now did between after
       → ended ≡ so_far + bit did → LooksAround (looks + 1) from now ended first after
   around_more looks ended so_far did between after around looked sums =
       let one_more : suc looks ≡ looks + 1 = omega arith in
@@ -105,17 +106,35 @@ module _ (from count now : ℕ) (first : CountedView) (counts : first.book.part.
         so_far,
         did,
         around,
-        subst (λ n. LooksAt (chunk_behind from looks n) now did between after) (sym counts) looked,
+        subst (λ n. LooksAt (first.book.part.first + number_behind from looks n) now did between after) (sym counts) looked,
         sums,
       )
 
   -- and none of those that were has an expired item
   pub none_in_turn : (looks : ℕ) (between after : BookView)
-      → ((c : ℕ) → IsInTurn from looks count c → HasNoneExpired now c between)
-      → HasNoneExpired now (chunk_behind from looks count) after → KeepsUnexpired now between after
-      → (c : ℕ) → IsInTurn from (looks + 1) count c → HasNoneExpired now c after
-  none_in_turn looks between after none here keeps c turn = by (in_turn_more from looks count c turn)
+      → ((n : ℕ) → IsNumberInTurn from looks count n → HasNoneExpired now (first.book.part.first + n) between)
+      → HasNoneExpired now (first.book.part.first + number_behind from looks count) after
+      → KeepsUnexpired now between after
+      → (n : ℕ) → IsNumberInTurn from (looks + 1) count n → HasNoneExpired now (first.book.part.first + n) after
+  none_in_turn looks between after none here keeps n turn = by (in_turn_more from looks count n turn)
     where
-      by : IsInTurn from looks count c ⊎ (chunk_behind from looks count ≡ c) → HasNoneExpired now c after
-      by (inl before) = none_kept now c between after keeps (none c before)
-      by (inr this) = subst (λ n. HasNoneExpired now n after) this here
+      by : IsNumberInTurn from looks count n ⊎ (number_behind from looks count ≡ n)
+          → HasNoneExpired now (first.book.part.first + n) after
+      by (inl before) = none_kept now (first.book.part.first + n) between after keeps (none n before)
+      by (inr this) = subst (λ m. HasNoneExpired now (first.book.part.first + m) after) this here
+
+-- what holds of the class's chunks by their numbers holds of those in turn
+pub none_of_class : (now from looks : ℕ) (book after : BookView)
+    → ((n : ℕ) → IsNumberInTurn from looks book.part.count n → HasNoneExpired now (book.part.first + n) after)
+    → (chunk : ℕ) → IsInTurn from looks book.part chunk → HasNoneExpired now chunk after
+none_of_class now from looks book after none chunk (number, is, turn) =
+    subst (λ c. HasNoneExpired now c after) (sym is) (none number turn)
+
+-- chunks in turn of a class stay so where its chunks stay
+pub in_turn_same : (from most : ℕ) (book left : BookView) → IsSameClass book left → (chunk : ℕ)
+    → IsInTurn from (min most book.part.count) book.part chunk → IsInTurn from (min most left.part.count) left.part chunk
+in_turn_same from most book left class chunk (number, is, turn) = (
+  number,
+  is ∙ ap (λ f. f + number) (sym class.first),
+  subst (λ n. IsNumberInTurn from (min most n) n number) (sym class.count) turn,
+)

@@ -8,21 +8,14 @@ use Rattle.keyed_hash.specs.declared.seed.Seed.{Seed}
 use Rattle.keyed_hash.specs.Hashes.{hash_of}
 use Rattle.cache_part.specs.Keys.{key_at, HasKey}
 use Rattle.cache_part.specs.Parts.{generation_led, IsPart}
-use Rattle.cache_part.proofs.Agreements.{led_some, led_within}
-use Rattle.cache_part.proofs.PartLemmas.{within_owned}
+use Rattle.cache_part.proofs.Agreements.{led_some}
 
 -- what is something of which a fact holds is something
 pub some_and : (at : Option Led) (P : Led → Type 0) → IsSomeAnd at P → IsSome at
 some_and None P h = absurd h
 some_and (Some led) P h = refl
 
--- a chunk to which the index leads is one of the class
-pub led_owned : (seed : Seed) (key_words : ℕ) (class : ClassPart) (table : List (Option Led))
-    → IsPart seed key_words class table → (chunk : ℕ) → IsSome (led_at table chunk) → owns chunk class ≡ true
-led_owned seed key_words class table is chunk some =
-    within_owned class table is.first is.count chunk (led_within table chunk some)
-
--- and its item is linked
+-- where the index leads to a chunk its item is linked
 pub led_linked : (seed : Seed) (key_words : ℕ) (class : ClassPart) (table : List (Option Led))
     → IsPart seed key_words class table → (chunk : ℕ) → IsSome (led_at table chunk) → IsSome (linked_at class chunk)
 led_linked seed key_words class table is chunk some = by (led_at table chunk) refl some
@@ -30,6 +23,12 @@ led_linked seed key_words class table is chunk some = by (led_at table chunk) re
     by : (at : Option Led) → led_at table chunk ≡ at → IsSome at → IsSome (linked_at class chunk)
     by None e none = absurd (cc none)
     by (Some led) e so = subst IsSome (ap generation_led (sym e) ∙ is.agrees.leads chunk) refl
+
+-- and it is one of the class
+pub led_owned : (seed : Seed) (key_words : ℕ) (class : ClassPart) (table : List (Option Led))
+    → IsPart seed key_words class table → (chunk : ℕ) → IsSome (led_at table chunk) → owns chunk class ≡ true
+led_owned seed key_words class table is chunk some =
+    is.own chunk (led_linked seed key_words class table is chunk some)
 
 -- one chunk more that was answered hasn't the key
 pub none_more : (class : ClassPart) (key_words : ℕ) (key : List ℕ) (before after : ℕ → Bool) (at : ℕ)

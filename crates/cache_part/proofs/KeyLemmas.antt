@@ -46,21 +46,21 @@ pub row_same : (class left : ClassPart) (chunk count : ℕ)
 row_same class left chunk count same = ap₂ (λ x xs. x ∷ xs) (same 0) (words_same class left chunk 0 count same)
 
 -- a label and the words behind it are a row
-pub row_put : (label : ℕ) (row words : List ℕ) → 0 < length row
-    → put_mid 1 (length (slice_set row 0 label) - 1) (slice_set row 0 label) words ≡ label ∷ words
+pub row_put : (label : ℕ) (stored words : List ℕ) → 0 < length stored
+    → put_mid 1 (length (slice_set stored 0 label) - 1) (slice_set stored 0 label) words ≡ label ∷ words
 row_put label [] words some = absurd (omega (arith, some))
-row_put label (x ∷ row) words some =
-    let rest : length row ≤ length (label ∷ row) - 1 = omega arith in
-    ap (λ end. label ∷ (words ++ end)) (drop_all (length (label ∷ row) - 1) row rest)
+row_put label (x ∷ stored) words some =
+    let rest : length stored ≤ length (label ∷ stored) - 1 = omega arith in
+    ap (λ end. label ∷ (words ++ end)) (drop_all (length (label ∷ stored) - 1) stored rest)
     ∙ ap (λ all. label ∷ all) (append-nil words)
 
 -- and there is room for so many words behind a label
-pub rest_length : (label : ℕ) (row : List ℕ) → 0 < length row
-    → length (mid_of 1 (length (slice_set row 0 label) - 1) (slice_set row 0 label)) ≡ length row - 1
+pub rest_length : (label : ℕ) (stored : List ℕ) → 0 < length stored
+    → length (mid_of 1 (length (slice_set stored 0 label) - 1) (slice_set stored 0 label)) ≡ length stored - 1
 rest_length label [] some = absurd (omega (arith, some))
-rest_length label (x ∷ row) some =
-    let rest : length (label ∷ row) - 1 ≤ length row = omega arith in
-    length-take-le (length (label ∷ row) - 1) row rest
+rest_length label (x ∷ stored) some =
+    let rest : length (label ∷ stored) - 1 ≤ length stored = omega arith in
+    length-take-le (length (label ∷ stored) - 1) stored rest
 
 -- the key of a row is its first words
 pub key_of_row : (book : BookView) (chunk label key_words : ℕ) (row : List ℕ) → HasRow chunk label row book

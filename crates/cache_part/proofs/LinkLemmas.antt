@@ -1,5 +1,5 @@
 -- What an item that is linked leaves, and the end of the key's old one behind it.
-use Rattle.std.proofs.Common.{◌≡◌, ◌≢◌, ℕ, suc, ◌+◌, ◌<◌, ◌≤◌, Bool, true, false, ◌==◌, List, Option, Some, None, IsSome, IfSome, if◌then◌else◌, length, take, drop, slice_set, refl, sym, ap, ◌∙◌, subst, eqb-true, eq-eqb, ne_eqb}
+use Rattle.std.proofs.Common.{◌≡◌, ◌≢◌, ℕ, suc, ◌+◌, ◌<◌, ◌≤◌, Bool, true, false, ◌==◌, List, Option, Some, None, IsSome, IfSome, if◌then◌else◌, length, take, drop, slice_set, refl, sym, ap, ap₂, ◌∙◌, subst, eqb-true, eq-eqb, ne_eqb}
 use Rattle.std.proofs.lemmas.List.{length-set}
 use Rattle.bump_rules.specs.declared.items.ItemId.{ItemId}
 use Rattle.bump_steps.specs.Views.{last_word}
@@ -15,7 +15,7 @@ use Rattle.cache_part.specs.Parts.{generation_led, Agrees, IsPart}
 use Rattle.cache_part.specs.Putting.{Links, EndsOld, OthersStay, leads_anew}
 use Rattle.cache_part.proofs.Agreements.{agrees_same, agrees_without, agrees_with}
 use Rattle.cache_part.proofs.KeyLemmas.{words_same, key_of_row, value_of_row}
-use Rattle.cache_part.proofs.PartLemmas.{class_then, owned_within, linked_within, key_begun}
+use Rattle.cache_part.proofs.PartLemmas.{class_then, owned_within, own_begun, own_ended, linked_within, key_begun}
 
 -- the end of the old item leaves the chunks
 ended_class : (old : Option ℕ) (begun after : BookView) → EndsOld old begun after → IsSameClass begun after
@@ -75,15 +75,15 @@ module _ (seed : Seed) (key_words : ℕ) (before after : BookView) (index : List
       → hash ≡ hash_of seed (take key_words row) → IsItemOf key_words (take key_words row) None before.part
       → IsPart seed key_words after.part (leads_anew hash None item index)
   part_begun item hash begins has hashed unknown = record {
-    first = begins.class.first ∙ is.first;
-    count = begins.class.count
+    count = ap₂ (λ f n. f + n) begins.class.first begins.class.count
         ∙ (is.count ∙ sym (length-set index item.chunk (Some (record { hash = hash; generation = item.generation }))));
+    own = own_begun item before after begins is.own;
     agrees = agrees_same seed (λ c. if item.chunk == c then Some item.generation else linked_at before.part c)
         (λ c. if item.chunk == c then take key_words row else key_at key_words before.part c)
         (leads_anew hash None item index)
         (agrees_with seed (linked_at before.part) (key_at key_words before.part) index is.agrees item.chunk
         item.generation hash (take key_words row)
-        (owned_within before.part index is.first is.count item.chunk begins.own) hashed
+        (owned_within before.part index is.count item.chunk begins.own) hashed
         (λ c some same. unknown c (record { linked = some; key = same })))
         (linked_at after.part) (key_at key_words after.part) begins.linked
         (key_begun before after item.chunk expires key_words row begins.words has few);
@@ -95,9 +95,9 @@ module _ (seed : Seed) (key_words : ℕ) (before after : BookView) (index : List
       → HasKey key_words (take key_words row) before.part chunk
       → IsPart seed key_words after.part (leads_anew hash (Some chunk) item index)
   part_replaced begun item hash chunk begins has ends had = record {
-    first = ends.class.first ∙ (begins.class.first ∙ is.first);
-    count = ends.class.count ∙ (begins.class.count ∙ (is.count ∙ sym (length-set left item.chunk now
-        ∙ length-set index chunk None)));
+    count = ap₂ (λ f n. f + n) (ends.class.first ∙ begins.class.first) (ends.class.count ∙ begins.class.count)
+        ∙ (is.count ∙ sym (length-set left item.chunk now ∙ length-set index chunk None));
+    own = own_ended chunk begun after ends (own_begun item before begun begins is.own);
     agrees = subst (λ at. Agrees seed (linked_at after.part) (key_at key_words after.part) (slice_set left item.chunk at))
         (sym there.2)
         (agrees_same seed (λ c. if item.chunk == c then Some item.generation else without c)
@@ -107,7 +107,7 @@ module _ (seed : Seed) (key_words : ℕ) (before after : BookView) (index : List
         (agrees_without seed (linked_at before.part) (key_at key_words before.part) index is.agrees chunk within)
         item.chunk item.generation there.0.hash (take key_words row)
         (subst (λ n. item.chunk < n) (sym (length-set index chunk None))
-        (owned_within before.part index is.first is.count item.chunk begins.own))
+        (owned_within before.part index is.count item.chunk begins.own))
         (is.agrees.hashes chunk there.0 there.1 ∙ ap (hash_of seed) had.key) unknown)
         (linked_at after.part) (key_at key_words after.part)
         (λ c. ends.linked c ∙ (ap (λ (l : Option ℕ). if chunk == c then None else l) (begins.linked c)

@@ -5,7 +5,9 @@ use Rattle.std.proofs.lemmas.List.{length-set, length-replicate}
 use Rattle.bump_steps.specs.declared.views.ClassPart.{ClassPart}
 use Rattle.bump_steps.specs.Views.{owns, last_word}
 use Rattle.bump_class.specs.Books.{BookView}
-use Rattle.cache_lists.specs.Items.{IsSameClass, KeepsItems, EndsAt, HasRow}
+use Rattle.cache_lists.specs.Items.{IsSameClass, KeepsItems, EndsAt, BeginsAt, HasRow}
+use Rattle.bump_rules.specs.declared.items.ItemId.{ItemId}
+use Rattle.cache_lists.proofs.Standings.{owns_same}
 use Rattle.bump_rules.specs.History.{standing_in}
 use Rattle.cache_lists.specs.Linked.{linked_standing, linked_at}
 use Rattle.cache_nests.specs.Views.{Led, led_at, IndexView}
@@ -15,29 +17,53 @@ use Rattle.cache_part.specs.Looks.{LooksOnly}
 use Rattle.cache_part.specs.Parts.{generation_led, IsPart}
 use Rattle.cache_part.proofs.KeyLemmas.{words_same, key_of_row}
 use Rattle.cache_part.proofs.LookLemmas.{looks_keep}
-use Rattle.cache_part.proofs.Agreements.{led_some, led_within, agrees_same, agrees_without}
+use Rattle.cache_part.proofs.Agreements.{led_some, led_within, some_without, agrees_same, agrees_without}
 
 -- a chunk of the class is one of the index
-pub owned_within : (class : ClassPart) (index : List (Option Led)) → class.first ≡ 0 → class.count ≡ length index
+pub owned_within : (class : ClassPart) (index : List (Option Led)) → class.first + class.count ≡ length index
     → (chunk : ℕ) → owns chunk class ≡ true → chunk < length index
-owned_within class index first count chunk own =
+owned_within class index count chunk own =
     let both = and_parts (nat_le class.first chunk) (nat_lt chunk (class.first + class.count)) own in
-    grind (arith, both.1, first, count)
+    grind (arith, both.1, count)
+
+-- and isn't before its first one
+pub owned_from : (class : ClassPart) (chunk : ℕ) → owns chunk class ≡ true → class.first ≤ chunk
+owned_from class chunk own =
+    let both = and_parts (nat_le class.first chunk) (nat_lt chunk (class.first + class.count)) own in
+    grind (arith, both.0)
 
 -- and the other way round
-pub within_owned : (class : ClassPart) (index : List (Option Led)) → class.first ≡ 0 → class.count ≡ length index
-    → (chunk : ℕ) → chunk < length index → owns chunk class ≡ true
-within_owned class index first count chunk within =
-    ap₂ (λ a b. a && b) (le-leb class.first chunk (omega (arith, first)))
-    (lt-ltb chunk (class.first + class.count) (omega (arith, first, count, within)))
+pub within_owned : (class : ClassPart) (index : List (Option Led)) → class.first + class.count ≡ length index
+    → (chunk : ℕ) → class.first ≤ chunk → chunk < length index → owns chunk class ≡ true
+within_owned class index count chunk from within =
+    ap₂ (λ a b. a && b) (le-leb class.first chunk from)
+    (lt-ltb chunk (class.first + class.count) (omega (arith, count, within)))
+
+-- what is linked behind an end is the class's own, where it was
+pub own_ended : (chunk : ℕ) (book left : BookView) → EndsAt chunk book left
+    → ((c : ℕ) → IsSome (linked_at book.part c) → owns c book.part ≡ true)
+    → (c : ℕ) → IsSome (linked_at left.part c) → owns c left.part ≡ true
+own_ended chunk book left ends own c some = owns_same book left ends.class c
+    ∙ own c (some_without chunk c (linked_at book.part c) (subst IsSome (ends.linked c) some))
+
+-- and behind a beginning
+pub own_begun : (item : ItemId) (book left : BookView) → BeginsAt item book left
+    → ((c : ℕ) → IsSome (linked_at book.part c) → owns c book.part ≡ true)
+    → (c : ℕ) → IsSome (linked_at left.part c) → owns c left.part ≡ true
+own_begun item book left begins own c some = owns_same book left begins.class c ∙ by (item.chunk == c) refl
+  where
+    by : (b : Bool) → (item.chunk == c) ≡ b → owns c book.part ≡ true
+    by true e = ap (λ n. owns n book.part) (sym (eqb-true item.chunk c e)) ∙ begins.own
+    by false e = own c (subst IsSome (begins.linked c
+        ∙ ap (λ b. if b then Some item.generation else linked_at book.part c) e) some)
 
 module _ (seed : Seed) (key_words : ℕ) (book left : BookView) (index : List (Option Led))
     (is : IsPart seed key_words book.part index) where
   -- it stays a part where the same items are linked
   pub part_kept : KeepsItems book left → IsPart seed key_words left.part index
   part_kept keeps = record {
-    first = keeps.class.first ∙ is.first;
-    count = keeps.class.count ∙ is.count;
+    count = ap₂ (λ f n. f + n) keeps.class.first keeps.class.count ∙ is.count;
+    own = λ c some. owns_same book left keeps.class c ∙ is.own c (subst IsSome (keeps.linked c) some);
     agrees = agrees_same seed (linked_at book.part) (key_at key_words book.part) index is.agrees (linked_at left.part)
         (key_at key_words left.part) keeps.linked
         (λ c. words_same book.part left.part c 0 key_words (λ i. keeps.words i c));
@@ -47,12 +73,12 @@ module _ (seed : Seed) (key_words : ℕ) (book left : BookView) (index : List (O
   pub part_ended : (chunk : ℕ) → EndsAt chunk book left
       → IsPart seed key_words left.part (slice_set index chunk None)
   part_ended chunk ends = record {
-    first = ends.class.first ∙ is.first;
-    count = ends.class.count ∙ (is.count ∙ sym (length-set index chunk None));
+    count = ap₂ (λ f n. f + n) ends.class.first ends.class.count ∙ (is.count ∙ sym (length-set index chunk None));
+    own = own_ended chunk book left ends is.own;
     agrees = agrees_same seed (λ c. if chunk == c then None else linked_at book.part c) (key_at key_words book.part)
         (slice_set index chunk None)
         (agrees_without seed (linked_at book.part) (key_at key_words book.part) index is.agrees chunk
-        (owned_within book.part index is.first is.count chunk ends.own)) (linked_at left.part)
+        (owned_within book.part index is.count chunk ends.own)) (linked_at left.part)
         (key_at key_words left.part) ends.linked
         (λ c. words_same book.part left.part c 0 key_words (λ i. ends.words i c));
   }
@@ -62,9 +88,15 @@ module _ (seed : Seed) (key_words : ℕ) (book left : BookView) (index : List (O
   linked_within chunk some = led_within index chunk (led_some (led_at index chunk) (linked_at book.part chunk)
       (is.agrees.leads chunk) some)
 
-  -- and one of the class
-  pub linked_owned : (chunk : ℕ) → IsSome (linked_at book.part chunk) → owns chunk book.part ≡ true
-  linked_owned chunk some = within_owned book.part index is.first is.count chunk (linked_within chunk some)
+  -- and nothing is before the class's first chunk
+  pub linked_from : (chunk : ℕ) → chunk < book.part.first → linked_at book.part chunk ≡ None
+  linked_from chunk low = by (linked_at book.part chunk) refl
+    where
+      by : (at : Option ℕ) → linked_at book.part chunk ≡ at → linked_at book.part chunk ≡ None
+      by None e = e
+      by (Some generation) e =
+          let from = owned_from book.part chunk (is.own chunk (subst IsSome (sym e) refl)) in
+          absurd (omega (arith, low, from))
 
 -- the same chunks are a Book's still behind two changes
 pub class_then : (book between left : BookView) → IsSameClass book between → IsSameClass between left
@@ -78,6 +110,11 @@ class_then book between left one other = record {
 pub cursor_kept : (cursor : ℕ) (book left : BookView) → IsSameClass book left → cursor ≤ book.part.count - 1
     → cursor ≤ left.part.count - 1
 cursor_kept cursor book left class low = subst (λ n. cursor ≤ n - 1) (sym class.count) low
+
+-- and the index's first chunk is theirs
+pub first_kept : (first : ℕ) (book left : BookView) → IsSameClass book left → first ≡ book.part.first
+    → first ≡ left.part.first
+first_kept first book left class is = is ∙ sym class.first
 
 -- the key of a chunk behind the beginning of an item
 pub key_begun : (book begun : BookView) (chunk label key_words : ℕ) (row : List ℕ)
@@ -128,11 +165,11 @@ item_linked key_words key item class is chunk same =
     let has : HasKey key_words key class chunk = subst P same is in has.linked
 
 -- nothing is linked in a class whose history is empty, and a part of it has an index that leads to nothing
-pub part_new : (seed : Seed) (key_words : ℕ) (book : BookView) (index : List (Option Led)) → book.part.first ≡ 0
-    → book.part.history ≡ [] → index ≡ replicate book.part.count None → IsPart seed key_words book.part index
-part_new seed key_words book index first none is = record {
-  first = first;
-  count = sym (length-replicate book.part.count None) ∙ ap length (sym is);
+pub part_new : (seed : Seed) (key_words : ℕ) (book : BookView) (index : List (Option Led)) → book.part.history ≡ []
+    → index ≡ replicate (book.part.first + book.part.count) None → IsPart seed key_words book.part index
+part_new seed key_words book index none is = record {
+  count = sym (length-replicate (book.part.first + book.part.count) None) ∙ ap length (sym is);
+  own = λ c some. let no : IsSome {T = ℕ} None = subst IsSome (not_linked c) some in absurd (cc no);
   agrees = record {
     leads = λ c. ap generation_led (nothing c) ∙ sym (not_linked c);
     hashes = λ c led at. absurd (cc (sym (nothing c) ∙ at));
@@ -146,7 +183,7 @@ part_new seed key_words book index first none is = record {
     read (suc n) (suc c) = read n c
 
     nothing : (c : ℕ) → led_at index c ≡ None
-    nothing c = ap (λ i. led_at i c) is ∙ read book.part.count c
+    nothing c = ap (λ i. led_at i c) is ∙ read (book.part.first + book.part.count) c
 
     not_linked : (c : ℕ) → linked_at book.part c ≡ None
     not_linked c = ap (λ h. linked_standing (standing_in book.part.fresh h c)) none

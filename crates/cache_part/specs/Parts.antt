@@ -1,6 +1,7 @@
 -- What contracts see of a part, and what every part keeps.
-use Rattle.std.specs.Prelude.{◌≡◌, ℕ, List, length, Option, Some, IsSome, option_map}
+use Rattle.std.specs.Prelude.{◌≡◌, ℕ, ◌+◌, true, List, length, Option, Some, IsSome, option_map}
 use Rattle.bump_steps.specs.declared.views.ClassPart.{ClassPart}
+use Rattle.bump_steps.specs.Views.{owns}
 use Rattle.bump_class.specs.Books.{BookView}
 use Rattle.cache_lists.specs.declared.flow.Flow.{Flow}
 use Rattle.cache_lists.specs.declared.evictions.Evictions.{Evictions}
@@ -13,7 +14,8 @@ use Rattle.cache_part.specs.Keys.{key_at, HasKey, IsItemOf}
 
 -- The Book, how its items went from list to list, and what was evicted; what the index leads to, by chunk; the seed of
 -- the keys' hashes, how many words a key and a value have, how many items there may be, and within how many ticks an
--- item expires that is linked in TEMP; and the chunk at which the next turn of looks for expired items begins.
+-- item expires that is linked in TEMP; and at which of the class's chunks, numbered from 0 on, the next turn of looks
+-- for expired items begins.
 pub record PartView : Type 0 where
   pub book : BookView
   pub flow : Flow
@@ -40,10 +42,11 @@ pub record Agrees (seed : Seed) (linked : ℕ → Option ℕ) (keys : ℕ → Li
   pub hashes : (chunk : ℕ) (led : Led) → led_at index chunk ≡ Some led → led.hash ≡ hash_of seed (keys chunk)
   pub once : (chunk other : ℕ) → IsSome (linked chunk) → IsSome (linked other) → keys chunk ≡ keys other → chunk ≡ other
 
--- What every part keeps: the class's chunks are those of the index, from 0 on, and both agree.
+-- What every part keeps: the class's last chunk is that of the index, all that is linked is the class's own, and both
+-- agree. So the index leads to no chunk before the class's first.
 pub record IsPart (seed : Seed) (key_words : ℕ) (class : ClassPart) (index : List (Option Led)) : Type 0 where
-  pub first : class.first ≡ 0
-  pub count : class.count ≡ length index
+  pub count : class.first + class.count ≡ length index
+  pub own : (chunk : ℕ) → IsSome (linked_at class chunk) → owns chunk class ≡ true
   pub agrees : Agrees seed (linked_at class) (key_at key_words class) index
 
 -- an item is linked at this chunk, and its key is this

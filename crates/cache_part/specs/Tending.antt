@@ -46,8 +46,8 @@ pub record BalancesOften (bounds : Bounds) (now : ℕ) (before after : BookView)
   pub often : most ≡ looks
   pub balances : BalancesByAge most bounds now before after
 
--- The lanes have their turns; chunks are looked at in turn, from this one on, and items that have expired end; ended
--- items are swept; and then HOT and WARM are looked at.
+-- The lanes have their turns; chunks of the class are looked at in turn, from that with this number on, and items that
+-- have expired end; ended items are swept; and then HOT and WARM are looked at.
 pub record Tends (most now : ℕ) (bounds : Bounds) (looks cursor : ℕ) (before : CountedView) (from : List LaneView)
     (after : CountedView) (to : List LaneView) : Type 0 where
   pub drained : CountedView

@@ -19,13 +19,16 @@ pub(crate) fn clear<N: Name, L: RowLaw>(
     _settings: Settings,
 )
     requires part { IsPart _settings.seed _settings.key_words lists.old.book.part index.old.table }
+    requires first { index.old.first ≡ lists.old.book.part.first }
     ensures part { IsPart _settings.seed _settings.key_words lists.new.book.part index.new.table }
     ensures empty { (chunk : ℕ) → linked_at lists.new.book.part chunk ≡ None }
     ensures words { (i c : ℕ) → last_word i lists.new.book.part c ≡ last_word i lists.old.book.part c }
     ensures class { IsSameClass lists.old.book lists.new.book }
     ensures evictions { lists.new.evictions ≡ lists.old.evictions }
+    ensures first { index.new.first ≡ index.old.first }
 {
-    for chunk in 0..index.chunks() {
+    let chunks = index.range();
+    for chunk in chunks.start..chunks.end {
         if index.leads(chunk) {
             ending::end_led(lists, index, chunk);
         }

@@ -47,6 +47,7 @@ pub(crate) fn end_led<N: Name, L: RowLaw>(
     ensures others { SameSegments (all_without chunk lists.old.book.lists) lists.new.book.lists }
     ensures evictions { lists.new.evictions ≡ lists.old.evictions }
     ensures table { index.new.table ≡ slice_set index.old.table chunk None }
+    ensures first { index.new.first ≡ index.old.first }
 {
     index.clear(chunk);
     end_unled(lists, index, chunk);
@@ -74,6 +75,7 @@ pub(crate) fn remove<N: Name, L: RowLaw>(
     ensures looks { IfNone result (LooksOnly lists.old.book lists.new.book) }
     ensures rest { IfNone result (lists.new ≡ record lists.old { book = lists.new.book }) }
     ensures index { IfNone result (index.new ≡ index.old) }
+    ensures first { index.new.first ≡ index.old.first }
 {
     let found = finding::find(lists, index, seed, key_words, key);
     let Some(chunk) = found.chunk else {

@@ -1,7 +1,7 @@
 //! Items end that have expired.
-ghost use Rattle.std.specs.Prelude.{◌≡◌, ℕ, ◌<◌, ◌≤◌, ◌-◌, length};
+ghost use Rattle.std.specs.Prelude.{◌≡◌, ℕ, ◌+◌, ◌<◌, ◌≤◌, ◌-◌, length};
 ghost use Rattle.cache_part.specs.Expiring.{HasNoneExpired, IsInTurn, KeepsUnexpired, LooksAround, LooksAt};
-ghost use Rattle.cache_part.specs.Expiring.{chunk_behind, looks_of};
+ghost use Rattle.cache_part.specs.Expiring.{looks_of, number_behind};
 ghost use Rattle.cache_part.specs.Parts.{IsPart};
 
 use crate::putting::Settings;
@@ -20,8 +20,11 @@ fn end_where_expired<N: Name, L: RowLaw>(
     now: u64,
 ) -> bool
     requires part { IsPart _settings.seed _settings.key_words lists.old.book.part index.old.table }
+    requires first { index.old.first ≡ lists.old.book.part.first }
+    requires from { lists.old.book.part.first ≤ chunk }
     requires within { chunk < length index.old.table }
     ensures part { IsPart _settings.seed _settings.key_words lists.new.book.part index.new.table }
+    ensures first { index.new.first ≡ index.old.first }
     ensures looks { LooksAt chunk now result lists.old lists.new }
     ensures ended { HasNoneExpired now chunk lists.new.book }
     ensures kept { KeepsUnexpired now lists.old.book lists.new.book }
@@ -36,12 +39,12 @@ fn end_where_expired<N: Name, L: RowLaw>(
     lists.end_expired(chunk, now)
 }
 
-// The chunk behind this one, around and around.
-fn next_chunk(chunk: u32, chunks: u32) -> u32
-    requires { chunk < chunks }
-    ensures { result ≡ chunk_behind chunk 1 chunks }
+// The number behind this one, around and around.
+fn next_number(number: u32, count: u32) -> u32
+    requires { number < count }
+    ensures { result ≡ number_behind number 1 count }
 {
-    if chunk + 1 < chunks { chunk + 1 } else { 0 }
+    if number + 1 < count { number + 1 } else { 0 }
 }
 
 // What a turn of looks came to.
@@ -50,11 +53,11 @@ pub(crate) struct Turn {
     // so many items ended
     pub(crate) ended: u32,
 
-    // the chunk at which the next turn begins
+    // the number of the chunk at which the next turn begins
     pub(crate) cursor: u32,
 }
 
-// Looks at so many chunks in turn, from this one on, and ends each item that has expired.
+// Looks at so many chunks of the class in turn, from that with this number on, and ends each item that has expired.
 pub(crate) fn end_expired<N: Name, L: RowLaw>(
     lists: &mut CountedBook<N, L>,
     index: &mut Index,
@@ -64,27 +67,30 @@ pub(crate) fn end_expired<N: Name, L: RowLaw>(
     now: u64,
 ) -> Turn
     requires part { IsPart settings.seed settings.key_words lists.old.book.part index.old.table }
+    requires first { index.old.first ≡ lists.old.book.part.first }
     requires cursor { cursor ≤ lists.old.book.part.count - 1 }
     ensures part { IsPart settings.seed settings.key_words lists.new.book.part index.new.table }
+    ensures first { index.new.first ≡ index.old.first }
     ensures looks { LooksAround (looks_of most lists.old.book) cursor now result.ended lists.old lists.new }
-    ensures ended { (chunk : ℕ) → IsInTurn cursor (looks_of most lists.old.book) lists.old.book.part.count chunk
+    ensures ended { (chunk : ℕ) → IsInTurn cursor (looks_of most lists.old.book) lists.old.book.part chunk
         → HasNoneExpired now chunk lists.new.book }
     ensures kept { KeepsUnexpired now lists.old.book lists.new.book }
     ensures cursor { result.cursor
-        ≡ chunk_behind cursor (looks_of most lists.old.book) lists.old.book.part.count }
+        ≡ number_behind cursor (looks_of most lists.old.book) lists.old.book.part.count }
     ensures within { result.cursor ≤ lists.new.book.part.count - 1 }
 {
-    let chunks = index.chunks();
+    let chunks = index.range();
+    let count = chunks.end - chunks.start;
     let mut ended = 0;
-    let mut chunk = cursor;
-    for _look in 0..most.min(chunks) {
-        if end_where_expired(lists, index, settings, chunk, now) {
+    let mut number = cursor;
+    for _look in 0..most.min(count) {
+        if end_where_expired(lists, index, settings, chunks.start + number, now) {
             ended += 1;
         }
-        chunk = next_chunk(chunk, chunks);
+        number = next_number(number, count);
     }
     Turn {
         ended,
-        cursor: chunk,
+        cursor: number,
     }
 }

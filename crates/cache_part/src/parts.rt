@@ -9,8 +9,7 @@ ghost use Rattle.cache_lists.specs.Counts.{IsFlow, SegmentsAddUp, no_flow, no_ev
 ghost use Rattle.cache_lists.specs.Items.{EndsAt, KeepsItems, HasRow, IsSameClass};
 ghost use Rattle.cache_lists.specs.Linked.{linked_at};
 ghost use Rattle.cache_lists.specs.Segments.{SameSegments};
-ghost use Rattle.cache_part.specs.Expiring.{HasNoneExpired, IsInTurn, KeepsUnexpired, LooksAround};
-ghost use Rattle.cache_part.specs.Expiring.{chunk_behind, looks_of};
+ghost use Rattle.cache_part.specs.Expiring.{KeepsUnexpired, LooksAround, LooksInTurn, looks_of};
 ghost use Rattle.cache_part.specs.Keys.{value_at, words_from};
 ghost use Rattle.cache_part.specs.Looks.{LooksOnly};
 ghost use Rattle.cache_part.specs.Parts.{PartView as ThePartView, IsPart, IsUnder, IsUnknown, IsItem, counted};
@@ -36,7 +35,7 @@ pub struct Part<N: Name, L: RowLaw = AnyRow> {
     pub(crate) index: Index,
     pub(crate) settings: Settings,
 
-    // the chunk at which the next turn of looks for expired items begins
+    // at which of the class's chunks, numbered from 0 on, the next turn of looks for expired items begins
     cursor: u32,
 }
 
@@ -58,14 +57,14 @@ impl<N: Name, L: RowLaw> Model for Part<N, L> {
 
     ghost invariant = { λ p. IsPart p.settings.seed p.settings.key_words p.lists.book.part p.index.table
         × (p.settings.key_words + p.settings.value_words ≤ N.table.slots)
-        × (p.cursor ≤ p.lists.book.part.count - 1) };
+        × (p.cursor ≤ p.lists.book.part.count - 1) × (p.index.first ≡ p.lists.book.part.first) };
 }
 
 impl<N: Name, L: RowLaw> Part<N, L> {
-    /// A part of a class that has all chunks from 0 on, and in which no item was linked yet, and of an index of as many
-    /// chunks that leads to none. A key has `key_words` words and a value `value_words`, together at most as many as a
-    /// chunk has further words. Where `items` are linked, one is evicted before another key gets its first. What
-    /// expires within `temporary` ticks from its put on is linked in TEMP; nothing is where that is None.
+    /// A part of a class in which no item was linked yet, and of an index of the same chunks that leads to none. A key
+    /// has `key_words` words and a value `value_words`, together at most as many as a chunk has further words. Where
+    /// `items` are linked, one is evicted before another key gets its first. What expires within `temporary` ticks from
+    /// its put on is linked in TEMP; nothing is where that is None.
     pub fn new(
         book: Book<N, L>,
         index: Index,
@@ -75,9 +74,9 @@ impl<N: Name, L: RowLaw> Part<N, L> {
         items: u32,
         temporary: Option<u64>,
     ) -> Part<N, L>
-        requires first { book.part.first ≡ 0 }
+        requires first { index.first ≡ book.part.first }
         requires history { book.part.history ≡ [] }
-        requires index { index.table ≡ replicate book.part.count None }
+        requires index { index.table ≡ replicate (book.part.first + book.part.count) None }
         requires words { key_words + value_words ≤ N.table.slots }
         ensures { result ≡ record {
           book = book;
@@ -320,11 +319,8 @@ impl<N: Name, L: RowLaw> Part<N, L> {
     pub fn end_expired(&mut self, most: u32, now: u64) -> u32
         ensures looks { LooksAround (looks_of most self.old.book) self.old.cursor now result (counted self.old)
             (counted self.new) }
-        ensures ended { (chunk : ℕ) → IsInTurn self.old.cursor (looks_of most self.old.book) self.old.book.part.count chunk
-            → HasNoneExpired now chunk self.new.book }
+        ensures looked { LooksInTurn most now self.old self.new }
         ensures unexpired { KeepsUnexpired now self.old.book self.new.book }
-        ensures cursor { self.new.cursor
-            ≡ chunk_behind self.old.cursor (looks_of most self.old.book) self.old.book.part.count }
         ensures rest { self.new ≡ record self.old {
           book = self.new.book;
           flow = self.new.flow;
@@ -359,11 +355,8 @@ impl<N: Name, L: RowLaw> Part<N, L> {
     )
         ensures tends { Tends most now bounds looks self.old.cursor (counted self.old) lanes.old (counted self.new)
             lanes.new }
-        ensures ended { (chunk : ℕ) → IsInTurn self.old.cursor (looks_of looks self.old.book) self.old.book.part.count chunk
-            → HasNoneExpired now chunk self.new.book }
+        ensures looked { LooksInTurn looks now self.old self.new }
         ensures unexpired { KeepsUnexpired now self.old.book self.new.book }
-        ensures cursor { self.new.cursor
-            ≡ chunk_behind self.old.cursor (looks_of looks self.old.book) self.old.book.part.count }
         ensures rest { self.new ≡ record self.old {
           book = self.new.book;
           flow = self.new.flow;

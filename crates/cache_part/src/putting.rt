@@ -112,6 +112,7 @@ pub(crate) fn make_room<N: Name, L: RowLaw>(
     ensures another { IfSome result.evicted (λ c. IsSome (linked_at lists.old.book.part c)
         × (result.found.chunk ≡ None)) }
     ensures gone { IfSome result.evicted (λ c. linked_at lists.new.book.part c ≡ None) }
+    ensures first { index.new.first ≡ index.old.first }
 {
     let found = find_key_of(lists, index, settings, row);
     let evicted = room::evict_where_full(lists, index, settings, found.chunk, told, now);

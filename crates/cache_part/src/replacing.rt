@@ -1,5 +1,5 @@
 //! An item is linked, and the index leads to it in place of the key's old one.
-ghost use Rattle.std.specs.Prelude.{◌≡◌, ℕ, ◌<◌, ◌≤◌, IfSome, IfNone, IsSome, None, true, length};
+ghost use Rattle.std.specs.Prelude.{◌≡◌, ℕ, ◌+◌, ◌<◌, ◌≤◌, IfSome, IfNone, IsSome, None, true, length};
 ghost use Rattle.bump_class.specs.Links.{MayHave};
 ghost use Rattle.bump_links.specs.Lists.{first_of};
 ghost use Rattle.bump_rules.specs.Lists.{all_without};
@@ -31,12 +31,14 @@ fn replace<N: Name, L: RowLaw>(
     requires own { owns old lists.old.book.part ≡ true }
     requires linked { IsSome (linked_at lists.old.book.part old) }
     requires led { generation_led (led_at index.old.table old) ≡ linked_at lists.old.book.part old }
+    requires first { index.old.first ≤ id.chunk }
     requires chunk { id.chunk < length index.old.table }
     requires anew { led_at index.old.table id.chunk ≡ None }
     ensures ends { EndsAt old lists.old.book lists.new.book }
     ensures others { SameSegments (all_without old lists.old.book.lists) lists.new.book.lists }
     ensures evictions { lists.new.evictions ≡ lists.old.evictions }
     ensures table { (hash : ℕ) → index.new.table ≡ leads_anew hash (Some old) id index.old.table }
+    ensures first { index.new.first ≡ index.old.first }
 {
     // First the index leads to the new item: a reader that comes by finds the one or the other.
     index.lead(old, id);
@@ -65,8 +67,9 @@ pub(crate) fn link<N: Name, L: RowLaw>(
     expires: u64,
     now: u64,
 ) -> Option<ItemId>
-    requires count { lists.old.book.part.count ≡ length index.old.table }
-    requires first { lists.old.book.part.first ≡ 0 }
+    requires first { index.old.first ≡ lists.old.book.part.first }
+    requires count { lists.old.book.part.first + lists.old.book.part.count ≡ length index.old.table }
+    requires own { (chunk : ℕ) → IsSome (linked_at lists.old.book.part chunk) → owns chunk lists.old.book.part ≡ true }
     requires leads { (chunk : ℕ) → generation_led (led_at index.old.table chunk) ≡ linked_at lists.old.book.part chunk }
     requires old { (chunk : ℕ) → found.chunk ≡ Some chunk → IsSome (linked_at lists.old.book.part chunk) }
     requires few { length row.now ≤ N.table.slots }
@@ -78,6 +81,7 @@ pub(crate) fn link<N: Name, L: RowLaw>(
     ensures free { IfNone result (first_of lists.old.book.lists.unused ≡ None) }
     ensures none { IfNone result (lists.new ≡ lists.old) }
     ensures index { IfNone result (index.new ≡ index.old) }
+    ensures first { index.new.first ≡ index.old.first }
 {
     let start = start(temporary, expires, now);
     let Some(id) = lists.begin(start, expires, row, now) else {

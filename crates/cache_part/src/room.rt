@@ -35,14 +35,13 @@ pub(crate) fn evict_where_full<N: Name, L: RowLaw>(
     told: &mut [u64],
     now: u64,
 ) -> Option<u32>
-    requires count { lists.old.book.part.count ≡ length index.old.table }
-    requires first { lists.old.book.part.first ≡ 0 }
     requires leads { (chunk : ℕ) → generation_led (led_at index.old.table chunk) ≡ linked_at lists.old.book.part chunk }
     requires told { length told.old ≡ suc (settings.key_words + settings.value_words) }
     requires few { settings.key_words + settings.value_words ≤ N.table.slots }
     ensures evicts { EvictsWhereFull settings.items now old result lists.old lists.new }
     ensures table { IfSome result (λ chunk. index.new.table ≡ slice_set index.old.table chunk None) }
     ensures index { IfNone result (index.new ≡ index.old) }
+    ensures first { index.new.first ≡ index.old.first }
     ensures told { TellsWords (settings.key_words + settings.value_words) result told.old told.new
         lists.old.book.part }
 {

@@ -1,7 +1,7 @@
 //! A part is tended: the bumps that wait are applied, and its lists are looked at.
 ghost use Rattle.std.specs.Prelude.{◌≡◌, ℕ, ◌≤◌, ◌-◌};
 ghost use Rattle.cache_lists.specs.Items.{KeepsItems};
-ghost use Rattle.cache_part.specs.Expiring.{HasNoneExpired, IsInTurn, KeepsUnexpired, chunk_behind, looks_of};
+ghost use Rattle.cache_part.specs.Expiring.{HasNoneExpired, IsInTurn, KeepsUnexpired, looks_of, number_behind};
 ghost use Rattle.cache_part.specs.Parts.{IsPart};
 ghost use Rattle.cache_part.specs.Tending.{BalancesByAge, BalancesOften, BalancesUpTo, DrainsEach, Tends};
 
@@ -86,13 +86,15 @@ pub(crate) fn tend<N: Name, L: RowLaw>(
     cursor: u32,
 ) -> u32
     requires part { IsPart settings.seed settings.key_words lists.old.book.part index.old.table }
+    requires first { index.old.first ≡ lists.old.book.part.first }
     requires cursor { cursor ≤ lists.old.book.part.count - 1 }
     ensures part { IsPart settings.seed settings.key_words lists.new.book.part index.new.table }
+    ensures first { index.new.first ≡ index.old.first }
     ensures tends { Tends most now bounds looks cursor lists.old lanes.old lists.new lanes.new }
-    ensures ended { (chunk : ℕ) → IsInTurn cursor (looks_of looks lists.old.book) lists.old.book.part.count chunk
+    ensures ended { (chunk : ℕ) → IsInTurn cursor (looks_of looks lists.old.book) lists.old.book.part chunk
         → HasNoneExpired now chunk lists.new.book }
     ensures kept { KeepsUnexpired now lists.old.book lists.new.book }
-    ensures cursor { result ≡ chunk_behind cursor (looks_of looks lists.old.book) lists.old.book.part.count }
+    ensures cursor { result ≡ number_behind cursor (looks_of looks lists.old.book) lists.old.book.part.count }
     ensures within { result ≤ lists.new.book.part.count - 1 }
 {
     drain(lists, lanes, most, now);

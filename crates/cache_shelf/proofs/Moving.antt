@@ -8,7 +8,7 @@ use Rattle.bump_steps.specs.Views.{last_label, last_word}
 use Rattle.cache_lists.specs.Items.{KeepsItems}
 use Rattle.cache_part.specs.Keys.{key_at, value_at}
 use Rattle.cache_part.specs.Parts.{PartView, IsItem, IsUnknown}
-use Rattle.cache_part.proofs.LookLemmas.{looks_keep}
+use Rattle.cache_part.proofs.LookLemmas.{looks_keep, looks_then}
 use Rattle.cache_part.specs.Tending.{DrainsEach}
 use Rattle.cache_shelf.specs.Entries.{Keeps, AllKept, Evicted, Had, OnlyReads, OthersKept, key_of_evicted}
 use Rattle.cache_shelf.specs.Limits.{put_bumps}
@@ -29,6 +29,14 @@ reads_move before after reads = record {
     value_words = ap (λ p. p.value_words) reads.rest;
   };
   items = looks_keep before.book after.book reads.looks;
+}
+
+-- loads, and then more of them
+pub reads_then : (before between after : PartView) → OnlyReads before between → OnlyReads between after
+    → OnlyReads before after
+reads_then before between after one other = record {
+  looks = looks_then before.book between.book after.book one.looks other.looks;
+  rest = other.rest ∙ ap (λ (p : PartView). record p { book = after.book }) one.rest;
 }
 
 -- and so do moves from list to list

@@ -17,14 +17,14 @@ use Rattle.cache_shelf.specs.Shelves.{IsLawful}
 use Rattle.cache_shelf.proofs.Keeping.{IsAlike, key_stays, moved_unknown}
 use Rattle.cache_shelf.proofs.Putting.{refused_others, refused_lawful}
 
+-- the key's item, or none
+pub found_item : (key : List ℕ) (part : PartView) (told : Option ℕ) → IfSome told (λ c. IsUnder key c part)
+    → IfNone told (IsUnknown key part) → IsItem key told part
+found_item key part None found none = none
+found_item key part (Some c) found none = found
+
 module _ (key : List ℕ) (before after : PartView) (alike : IsAlike before after)
     (is : IsPart before.seed before.key_words before.book.part before.index) where
-  -- the key's item, or none
-  pub removed_item : (told : Option ℕ) → IfSome told (λ c. IsUnder key c before) → IfNone told (IsUnknown key before)
-      → IsItem key told before
-  removed_item None found none = none
-  removed_item (Some c) found none = found
-
   -- each other item stays
   stay : (told : Option ℕ) → IfSome told (λ c. EndsAt c before.book after.book)
       → IfNone told (LooksOnly before.book after.book) → OthersStay None None told before.book after.book

@@ -10,7 +10,7 @@ use Rattle.cache_part.specs.Looks.{LooksOnly}
 use Rattle.cache_part.specs.Parts.{PartView, IsItem, IsUnder, IsUnknown, counted}
 use Rattle.cache_part.specs.Putting.{MakesRoom, Puts, row_at}
 use Rattle.entry_times.specs.Times.{has_expired}
-use Rattle.cache_shelf.specs.Shelves.{Obeys}
+use Rattle.cache_shelf.specs.Shelves.{Obeys, ShelfView}
 
 -- An item with this key is linked, this is its value, and it expires at this time.
 pub record Keeps (key words : List ℕ) (expires : ℕ) (part : PartView) : Type 0 where
@@ -68,6 +68,11 @@ key_of_evicted evicted part = option_map (key_at part.key_words part.book.part) 
 pub record OnlyReads (before after : PartView) : Type 0 where
   pub looks : LooksOnly before.book after.book
   pub rest : after ≡ record before { book = after.book }
+
+-- so it is of a shelf: nothing changed but these notes
+pub record ReadsShelf (before after : ShelfView) : Type 0 where
+  pub part : OnlyReads before.part after.part
+  pub rest : after ≡ record before { part = after.part }
 
 -- the part put an item, and then the time and the value of the key's old one were read
 pub record PutsEntry (old evicted : Option ℕ) (row : List ℕ) (expires now chunk : ℕ) (before after : PartView) : Type 0

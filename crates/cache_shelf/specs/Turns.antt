@@ -1,7 +1,6 @@
 -- What a put and a tend do to a shelf, one after the other.
 use Rattle.std.specs.Prelude.{◌≡◌, ℕ, ◌+◌, ◌<◌, ◌⊎◌}
 use Rattle.cache_lists.specs.Items.{KeepsItems}
-use Rattle.cache_part.specs.Expiring.{HasNoneExpired, IsInTurn, chunk_behind, looks_of}
 use Rattle.cache_part.specs.Parts.{PartView, counted}
 use Rattle.cache_part.specs.Tending.{BalancesByAge, DrainsEach, Tends}
 use Rattle.cache_shelf.specs.declared.limits.Limits.{Limits}
@@ -46,10 +45,3 @@ pub record PutsInTurn (Does : PartView → PartView → Type 0) (now : ℕ) (bef
 abbrev pub TendsShelf : ℕ → ShelfView → ShelfView → Type 0
 TendsShelf now before after = Tends before.limits.most now before.limits.bounds before.limits.looks before.part.cursor
     (counted before.part) before.lanes (counted after.part) after.lanes
-
--- Of so many chunks whose turn it was, none has an item any more that has expired at this time, and the next turn
--- begins behind them.
-pub record LooksInTurn (looks now : ℕ) (before after : PartView) : Type 0 where
-  pub ended : (chunk : ℕ) → IsInTurn before.cursor (looks_of looks before.book) before.book.part.count chunk
-      → HasNoneExpired now chunk after.book
-  pub cursor : after.cursor ≡ chunk_behind before.cursor (looks_of looks before.book) before.book.part.count

@@ -121,3 +121,23 @@ pub(crate) fn remove_entry<N: Name, L: RowLaw>(
     read_old(part, chunk, old);
     chunk
 }
+
+// Reads the time and the value of the item of a key, where there is one.
+pub(crate) fn look_entry<N: Name, L: RowLaw>(
+    part: &mut Part<N, L>,
+    key: &[u64],
+    told: &mut [u64],
+) -> Option<u32>
+    requires lawful { IsLawful L.law part.old }
+    requires key { length key.now ≡ part.old.key_words }
+    requires told { length told.old ≡ suc part.old.value_words }
+    ensures lawful { IsLawful L.law part.new }
+    ensures had { Had L.law key.now result told.old told.new part.old }
+    ensures reads { OnlyReads part.old part.new }
+    ensures length { length told.new ≡ length told.old }
+{
+    part.promise();
+    let chunk = part.find(key);
+    read_old(part, chunk, told);
+    chunk
+}

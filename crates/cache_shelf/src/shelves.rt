@@ -9,14 +9,14 @@ ghost use Rattle.cache_lists.specs.Items.{EndsAt};
 ghost use Rattle.cache_lists.specs.Segments.{SameSegments};
 ghost use Rattle.cache_part.specs.Parts.{IsPart, IsUnknown};
 ghost use Rattle.cache_part.specs.Stats.{stats_of};
-ghost use Rattle.cache_part.specs.Expiring.{KeepsUnexpired};
+ghost use Rattle.cache_part.specs.Expiring.{KeepsUnexpired, LooksInTurn};
 ghost use Rattle.cache_part.specs.Looks.{LooksOnly};
 ghost use Rattle.cache_shelf.specs.Limits.{put_rounds};
 ghost use Rattle.cache_shelf.specs.Shelves.{ShelfView as TheShelfView, IsLawful, with_ended, with_put, with_tended};
-ghost use Rattle.cache_shelf.specs.Entries.{AllKept, AllUnexpiredKept, Evicted, FindsNoRoom, Had, Keeps, OthersKept, PutsEntry, key_of_evicted};
-ghost use Rattle.cache_shelf.specs.Turns.{LooksInTurn, PutsInTurn, TendsShelf};
+ghost use Rattle.cache_shelf.specs.Entries.{AllKept, AllUnexpiredKept, Evicted, FindsNoRoom, Had, Keeps, OthersKept, PutsEntry, ReadsShelf, key_of_evicted};
+ghost use Rattle.cache_shelf.specs.Turns.{PutsInTurn, TendsShelf};
 
-use crate::entries::{put_entry, remove_entry};
+use crate::entries::{look_entry, put_entry, remove_entry};
 use crate::limits::{Limits, PUT_BUMPS};
 use crate::turns::take_turn;
 use bump_class::RawLane;
@@ -138,6 +138,19 @@ impl<N: Name, L: RowLaw> Shelf<N, L> {
         ensures same { self.new ≡ with_ended self.new self.old }
     {
         remove_entry(&mut self.part, key, old)
+    }
+
+    /// Looks for the item of this key, and tells its chunk, and when it expires and its value in `told`, which has one
+    /// word more than a value; or None exactly where no item has the key, and then the words of `told` stay. It is told
+    /// also where it has expired. It isn't touched, and nothing changes but what the class's seat notes of its loads.
+    pub fn look(&mut self, key: &[u64], told: &mut [u64]) -> Option<u32>
+        requires key { length key.now ≡ self.old.part.key_words }
+        requires told { length told.old ≡ suc self.old.part.value_words }
+        ensures had { Had L.law key.now result told.old told.new self.old.part }
+        ensures reads { ReadsShelf self.old self.new }
+        ensures length { length told.new ≡ length told.old }
+    {
+        look_entry(&mut self.part, key, told)
     }
 
     /// Tends the part, as `Part::tend` does: the bumps that wait are applied, at most as many of each lane as the

@@ -1,8 +1,10 @@
-//! Tests of a cache: random calls beside a plain map, the order in which items are evicted beside a model of its lists,
-//! puts that find no room, items that expire, gets of many keys, keys of one hash, refused memory, and readers on
-//! threads.
+//! Tests of a cache: random calls beside a plain map, also those that look and then put, the order in which items are
+//! evicted beside a model of its lists, puts that find no room, items that expire, gets of many keys, keys of one hash,
+//! keys as text, memory that is counted or refused, and readers on threads.
 #![tactic(auto)]
 
+#[cfg(test)]
+mod changes;
 #[cfg(test)]
 mod expiry;
 #[cfg(test)]
@@ -13,6 +15,8 @@ mod held_items;
 mod lists;
 #[cfg(test)]
 mod many;
+#[cfg(test)]
+mod memory;
 #[cfg(test)]
 mod model;
 #[cfg(test)]
@@ -27,5 +31,7 @@ mod random_calls;
 mod refused_memory;
 #[cfg(test)]
 mod stands;
+#[cfg(test)]
+mod text;
 #[cfg(test)]
 mod threads;

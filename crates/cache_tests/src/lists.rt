@@ -154,14 +154,23 @@ fn calm(items: &mut Items, at: usize) {
     }
 }
 
+// At most so many items are in HOT and in WARM of the first part.
+fn shares(config: &CacheConfig) -> (usize, usize) {
+    if config.parts == 0 {
+        return (0, 0);
+    }
+    (config.hot_items(0) as usize, config.warm_items(0) as usize)
+}
+
 impl Lists {
-    /// Those of a cache of this configuration, without items.
+    /// Those of the first part of a cache of this configuration, without items.
     pub fn new(alloc: Global, config: &CacheConfig) -> Lists {
+        let (hot_most, warm_most) = shares(config);
         Lists {
             room: config.items as usize,
             ring: config.ring as usize,
-            hot_most: config.hot_items() as usize,
-            warm_most: config.warm_items() as usize,
+            hot_most,
+            warm_most,
             hot_age: config.hot_age,
             warm_age: config.warm_age,
             temporary: config.temporary,

@@ -269,6 +269,35 @@ fn a_thousand_items(rt: HostRuntime) -> Result<(), Fail> {
 }
 
 #[test]
+fn keys_of_several_parts(rt: HostRuntime) -> Result<(), Fail> {
+    for parts in [2u32, 5, 16] {
+        // no part evicts: each has room for all keys
+        let config = CacheConfig {
+            parts,
+            readers: 2,
+            temporary: Some(16),
+            ..config_of(
+                parts.saturating_mul(100),
+                parts.saturating_mul(40),
+                20,
+                40,
+                16,
+            )
+        };
+        let calls = Calls {
+            keys: 90,
+            count: CALLS,
+            tends: true,
+            clears: 200,
+            expires: true,
+        };
+        let wrong = wrong_calls::<u64, u64, _>(&rt, rt.alloc(), &config, calls)?;
+        assert_eq!(rt; wrong, 0, "of {parts} parts");
+    }
+    Ok(())
+}
+
+#[test]
 fn a_million_items(rt: HostRuntime) -> Result<(), Fail> {
     let config = CacheConfig {
         ring: 16,

@@ -2,12 +2,13 @@
 ghost use Rattle.std.specs.Prelude.{◌≡◌, ◌<◌, length};
 
 use bump_cache::{
-    Cache, CacheBlank, CacheConfig, CacheReader, CacheState, Caller, LogName, Name, NoRoom, Opened,
-    Packed, Put, Seed, Stats, open,
+    Bytes, Cache, CacheBlank, CacheConfig, CacheReader, CacheState, Caller, LogName, Name, NoRoom,
+    Opened, Packed, Put, Seed, Stats, open,
 };
 use std::alloc::{AllocError, Global};
 use std::sync::Wait;
 use std::sync::atomic::{AtomicBool, AtomicU64};
+use std::time::{Clock, Duration};
 
 /// A key and its value.
 #[derive(Clone, Copy, Drop)]
@@ -68,6 +69,28 @@ impl<N: Name + LogName> Changer<N> {
         cache.remove(rt, &mut self.me, key, now)
     }
 
+    /// Ends the item of a text.
+    pub fn remove_text<V: Packed, W: Wait, const B: usize>(
+        &mut self,
+        rt: &W,
+        cache: &Cache<N, Bytes<B>, V>,
+        key: &str,
+        now: u64,
+    ) -> Option<V> {
+        cache.remove_text(rt, &mut self.me, key, now)
+    }
+
+    /// Ends the item of a string of bytes.
+    pub fn remove_bytes<V: Packed, W: Wait, const B: usize>(
+        &mut self,
+        rt: &W,
+        cache: &Cache<N, Bytes<B>, V>,
+        key: &[u8],
+        now: u64,
+    ) -> Option<V> {
+        cache.remove_bytes(rt, &mut self.me, key, now)
+    }
+
     /// Tends the cache.
     pub fn tend<K: Packed, V: Packed, W: Wait>(
         &mut self,
@@ -88,6 +111,18 @@ impl<N: Name + LogName> Changer<N> {
     ) {
         let Changer { mut me } = self;
         cache.tend_until(rt, &mut me, clock, stop);
+    }
+
+    /// The same, and sleeps for a millisecond behind each tend.
+    pub fn tend_each<K: Packed, V: Packed, R: Wait + Clock>(
+        self,
+        rt: &R,
+        cache: &Cache<N, K, V>,
+        clock: &AtomicU64,
+        stop: &AtomicBool,
+    ) {
+        let Changer { mut me } = self;
+        cache.tend_each(rt, &mut me, rt, Duration::from_millis(1), clock, stop);
     }
 
     /// Ends each item.

@@ -1,4 +1,5 @@
 pub mod Beginnings
+pub mod Calling
+pub mod Seeing
 pub mod States
 pub mod Steps
-pub mod Whole

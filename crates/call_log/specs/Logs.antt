@@ -1,26 +1,39 @@
 -- What contracts see of a log.
-use Rattle.std.specs.Prelude.{ℕ, zero, suc, List, [], ◌∷◌, length, slice_index_or}
+use Rattle.std.specs.Prelude.{ℕ, zero, suc, ◌≡◌, ◌+◌, ◌==◌, if◌then◌else◌, List, [], ◌∷◌, ◌++◌}
+use mathlib.Core.List.{IsPrefix}
 
--- the state that a log begins with, and the state behind each of its calls, in order
+-- the log of one of several values, with the states of all of them
 pub record LogView (S : Type 0) : Type 0 where
+  -- stands for nothing: a value has it before its first call
   pub first : S
+  -- the state behind each call, of whichever value, in order
   pub log : List S
+  -- which value it is the log of
+  pub number : ℕ
+  -- how many values there are: their numbers are those below
+  pub values : ℕ
 
--- the first, or else what is given
-abbrev pub first_of : {S : Type 0} → S → List S → S
-first_of any [] = any
-first_of any (first ∷ log) = first
+-- the state of the value of this number: the last of the log's states that has it, or else the first
+unfoldable pub state_of : {S : Type 0} → (S → ℕ) → ℕ → S → List S → S
+state_of number_of i first [] = first
+state_of number_of i first (s ∷ log) = state_of number_of i (if number_of s == i then s else first) log
 
--- all but the first
-abbrev pub behind_first : {S : Type 0} → List S → List S
-behind_first [] = []
-behind_first (first ∷ log) = log
+-- how many calls the value of this number had
+unfoldable pub calls_of : {S : Type 0} → (S → ℕ) → ℕ → List S → ℕ
+calls_of number_of i [] = zero
+calls_of number_of i (s ∷ log) = if number_of s == i then suc (calls_of number_of i log) else calls_of number_of i log
 
--- the state behind so many calls
-unfoldable pub state_at : {S : Type 0} → S → List S → ℕ → S
-state_at first log zero = first
-state_at first log (suc n) = slice_index_or log n first
+-- the state of the value that it is the log of
+abbrev pub last_state : {S : Type 0} → (S → ℕ) → LogView S → S
+last_state number_of log = state_of number_of log.number log.first log.log
 
--- the state behind all calls
-abbrev pub last_state : {S : Type 0} → LogView S → S
-last_state log = state_at log.first log.log (length log.log)
+-- One call of the log's value was noted, which left this state. Behind what the log had may stand states of other
+-- values, and behind them stands this one.
+pub record Notes {S : Type 0} (number_of : S → ℕ) (state : S) (log log' : LogView S) : Type 0 where
+  pub first : log'.first ≡ log.first
+  pub number : log'.number ≡ log.number
+  pub values : log'.values ≡ log.values
+  pub seen : IsPrefix log.log log'.log
+  pub last : last_state number_of log' ≡ state
+  pub once : calls_of number_of log.number log'.log ≡ calls_of number_of log.number log.log + 1
+  pub alone : log.values ≡ 1 → log'.log ≡ log.log ++ state ∷ []

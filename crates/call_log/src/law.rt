@@ -1,16 +1,16 @@
-//! The rule of a log: its word counts the calls.
+//! The rule of a log: it has a word for each value, which counts the value's calls.
 use crate::names::{Shows, State};
 use logbook::{Gain, Opening, Plain, Play, Rule};
 
-/// The log begins from a state, and its word is how many more states it has: one for each call.
+/// The log begins from a state, and each of its words is how many of the states behind that one are of its value.
 pub(crate) struct Law;
 
-impl<E> Rule<E, u64> for Law {
+impl<E: State> Rule<(E, u64), u64> for Law {
     ghost use Rattle.std.specs.Prelude.{[]};
     ghost use base.Fml.{ftrue};
     ghost use Rattle.call_log.specs.Laws.{IsKept};
 
-    ghost holds = { λ cells log. IsKept cells log };
+    ghost holds = { λ cells log. IsKept E.number cells log };
 
     ghost first = { [] };
 
@@ -26,53 +26,54 @@ impl<E> Rule<E, u64> for Law {
 /// Callers trade nothing.
 pub(crate) struct Nothing;
 
-impl<E> Gain<E, u64> for Nothing {
+impl<E> Gain<(E, u64), u64> for Nothing {
     ghost use base.Fml.{ftrue};
 
     ghost after = { λ names about answer. ftrue };
 }
 
-/// A log begins with one state, which stands for nothing: there is no value then.
+/// A log begins with one state, which stands for nothing: there is no value then. Beside it stands how many there will
+/// be.
 pub(crate) struct Begin;
 
-impl<E: State> Opening<u64, E> for Begin {
+impl<E: State> Opening<u32, (E, u64)> for Begin {
     ghost use Rattle.std.specs.Prelude.{[], ◌∷◌};
 
-    ghost log = { λ count about. E.some_state ∷ [] };
+    ghost log = { λ count about. (E.some_state, count) ∷ [] };
 }
 
-/// A step that counts the states.
+/// A step that counts a value's states.
 pub(crate) struct Look;
 
-impl<E> Play<E, u64> for Look {
+impl<E: State> Play<(E, u64), u64> for Look {
     ghost use Rattle.call_log.specs.Laws.{Looks};
 
-    ghost then = { Looks };
+    ghost then = { Looks E.number };
 }
 
 /// A step that adds a state.
 pub(crate) struct Add;
 
-impl<E> Play<E, u64> for Add {
+impl<E: State> Play<(E, u64), u64> for Add {
     ghost use Rattle.call_log.specs.Laws.{Adds};
 
-    ghost then = { Adds };
+    ghost then = { Adds E.number };
 }
 
 /// What a step asks for: the state that the value shows.
-impl<E, V: Shows<E>> Plain<V, E, u64> for Add {
+impl<E: State, V: Shows<E>> Plain<V, (E, u64), u64> for Add {
     ghost use Rattle.std.specs.Prelude.{None};
 
-    ghost ask = { λ value. V.shown value };
+    ghost ask = { λ value. (V.shown value, 0) };
 
     ghost state = { λ value. None };
 }
 
 /// What a step that looks asks for: nothing that is heard.
-impl<E: State> Plain<u64, E, u64> for Look {
+impl<E: State> Plain<u64, (E, u64), u64> for Look {
     ghost use Rattle.std.specs.Prelude.{None};
 
-    ghost ask = { λ count. E.some_state };
+    ghost ask = { λ count. (E.some_state, 0) };
 
     ghost state = { λ count. None };
 }

@@ -1,115 +1,116 @@
-//! The log that lies under a lock, beside the value.
-ghost use Rattle.std.specs.Prelude.{◌≡◌, ◌+◌, ◌<◌, [], ◌∷◌, ◌++◌, length};
+//! The log of a value, which lies under the value's lock, beside the value.
+ghost use Rattle.std.specs.Prelude.{◌≡◌, ◌+◌, ◌<◌, [], length, true};
 ghost use mathlib.Core.List.{IsPrefix};
 ghost use Rattle.std.specs.Bool.{OnTrue, OnFalse};
-ghost use Rattle.call_log.specs.Logs.{last_state};
-ghost use Rattle.call_log.specs.Calls.{MakesOne, OnlyLooks, from_of, to_of};
+ghost use Rattle.call_log.specs.Logs.{Notes, calls_of, last_state};
+ghost use Rattle.call_log.specs.Calls.{MakesOne, NotesCall, OnlyLooks, ShowsCalls, from_of, now_of, to_of};
 
 use crate::callers::Caller;
+use crate::counts::Count;
 use crate::fronts::{Front, Head};
 use crate::names::{LogName, Shows, State};
 use std::marker::Model;
 use std::sync::Wait;
-use std::sync::ledger::Book;
 
-/// The log of a value: the states that it showed. It has all of them where it lies under the value's lock, as in
-/// `Logged`. At run time it is two numbers.
+/// The log of a value: the states that it showed, between those of the other values of the log. It has all of its own
+/// where it lies under the value's lock, as in `Logged`. At run time it is two numbers, and whether there are other
+/// values.
 #[derive(Drop)]
 pub struct Log<N: LogName, E: State> {
     head: Head<N, E>,
-    // how many calls it has
-    count: u64,
+    count: Count<N>,
     front: Front<N, E>,
-    calls: Book<N>,
 }
 
 impl<N: LogName, E: State> Model for Log<N, E> {
-    ghost use Rattle.std.specs.Prelude.{◌≡◌, length};
-    ghost use Rattle.call_log.specs.Logs.{LogView};
+    ghost use Rattle.std.specs.Prelude.{◌≡◌, ◌<◌, true};
+    ghost use Rattle.call_log.specs.Fronts.{AreNumbered};
+    ghost use Rattle.call_log.specs.Logs.{LogView, calls_of};
 
     ghost Value = { LogView E };
 
-    ghost view = { λ l. l.front };
+    ghost view = { λ l. record {
+      first = l.front.first;
+      log = l.front.log;
+      number = l.head;
+      values = l.front.values;
+    } };
 
-    ghost invariant = { λ l. (l.count ≡ length l.front.log) × (l.calls.total ≡ length l.front.log) };
+    ghost invariant = { λ l. (l.head < l.front.values) × (l.count.calls ≡ calls_of E.number l.head l.front.log)
+        × AreNumbered E.number l.front.values l.front.log × (l.front.values ≡ 1 → l.count.alone ≡ true) };
 }
 
 impl<N: LogName, E: State> Log<N, E> {
-    pub(crate) fn new(head: Head<N, E>, front: Front<N, E>, calls: Book<N>) -> Log<N, E>
+    pub(crate) fn new(head: Head<N, E>, front: Front<N, E>, count: Count<N>) -> Log<N, E>
+        requires number { head < front.values }
         requires log { front.log ≡ [] }
-        requires calls { calls.total ≡ 0 }
-        ensures { result ≡ front }
+        requires calls { count.calls ≡ 0 }
+        requires alone { front.values ≡ 1 → count.alone ≡ true }
+        ensures { result ≡ record { first = front.first; log = []; number = head; values = front.values } }
     {
-        Log {
-            head,
-            count: 0,
-            front,
-            calls,
-        }
+        Log { head, count, front }
     }
 
-    /// How many calls it has.
+    /// How many calls its value had.
     pub fn calls(&self) -> u64
-        ensures { result ≡ length self.now.log }
+        ensures calls { result ≡ calls_of E.number self.now.number self.now.log }
+        ensures alone { self.now.values ≡ 1 → result ≡ length self.now.log }
     {
-        self.count
+        self.count.calls()
     }
 
-    // Notes a call, if the log can be seen to be whole.
+    // Notes a call, if the log can be seen to have all of its value's states.
     fn try_to_note<V: Shows<E>>(&mut self, me: &mut Caller<N, E>, value: &V) -> bool
         requires part { 0 < me.old.parts }
-        ensures log { OnTrue result (self.new ≡ record self.old { log = self.old.log ++ V.shown value.now ∷ [] }) }
-        ensures caller { OnTrue result (me.new ≡ record me.old { log = self.new.log; calls = me.old.calls + 1 }) }
-        ensures first { OnTrue result (me.old.first ≡ self.old.first) }
-        ensures seen { OnTrue result (IsPrefix me.old.log self.old.log) }
-        ensures whole { OnTrue result (me.old.parts ≡ N.parts → length self.new.log ≡ me.new.calls) }
+        requires number { E.number (V.shown value.now) ≡ self.old.number }
+        ensures noted { OnTrue result (NotesCall E.number (V.shown value.now) self.old self.new me.old me.new) }
+        ensures whole { OnTrue result (self.old.values ≡ 1 → me.old.parts + 1 ≡ N.parts
+            → length me.new.log ≡ me.new.calls) }
         ensures unchanged { OnFalse result ((self.new ≡ self.old) × (me.new ≡ me.old)) }
     {
-        let Some(next) = self.count.checked_add(1) else {
-            return false;
-        };
-        let Some(front) = self.front.add(&me.front, &self.head, self.count, value) else {
-            return false;
-        };
-        self.calls.add(&mut me.share, 1);
-        self.calls.audit(&mut me.share);
-        me.front = front.again();
-        self.front = front;
-        self.count = next;
-        true
-    }
-
-    // Shows a caller the whole log, if it can be seen to be whole.
-    fn try_to_show(&mut self, me: &mut Caller<N, E>) -> bool
-        ensures log { self.new ≡ self.old }
-        ensures caller { OnTrue result (me.new ≡ record me.old { log = self.old.log }) }
-        ensures first { OnTrue result (me.old.first ≡ self.old.first) }
-        ensures seen { OnTrue result (IsPrefix me.old.log self.old.log) }
-        ensures whole { me.old.parts ≡ N.parts → length self.old.log ≡ me.old.calls }
-        ensures unchanged { OnFalse result (me.new ≡ me.old) }
-    {
-        self.calls.audit(&mut me.share);
-        if !self.front.is_whole(&me.front, &self.head, self.count) {
+        let count = self.count.calls();
+        if count == u64::MAX {
             return false;
         }
-        me.front = self.front.again();
+        let Some(front) = self.front.add(&me.front, &self.head, count, value) else {
+            return false;
+        };
+        self.count.pay(&mut me.share);
+        self.count.audit(&mut me.share);
+        me.front = front.again();
+        self.front = front;
         true
     }
 
-    /// Notes a call that a caller made: `value` is what the call left, and the log has the state that it shows. Whoever changes a logged value notes it before it
-    /// lets the lock go, once for each call.
+    // Shows a caller the log, if it can be seen to have all of its value's states.
+    fn try_to_show(&mut self, me: &mut Caller<N, E>) -> bool
+        ensures log { self.new ≡ self.old }
+        ensures shown { OnTrue result (ShowsCalls E.number self.old me.old me.new) }
+        ensures whole { self.old.values ≡ 1 → me.old.parts + 1 ≡ N.parts → length self.old.log ≡ me.old.calls }
+        ensures unchanged { OnFalse result (me.new ≡ me.old) }
+    {
+        self.count.audit(&mut me.share);
+        let Some(front) = self.front.look(&me.front, &self.head, self.count.calls()) else {
+            return false;
+        };
+        me.front = front;
+        true
+    }
+
+    /// Notes a call that a caller made: `value` is what the call left, and the log has the state that it shows, which
+    /// is of the log's value. Whoever changes a logged value notes it before it lets the lock go, once for each call.
     ///
-    /// It waits for nobody: `rt` stands there since the proof can't see that what lies under a lock is the whole log. It
-    /// wouldn't return behind 2^64 - 1 calls.
-    #[tactic(auto, using(crate::proofs::States::to_added, crate::proofs::States::from_added, crate::proofs::States::begins_added))]
+    /// It waits for nobody: `rt` stands there since the proof can't see that what lies under a lock has all of the
+    /// value's states. It wouldn't return behind 2^64 - 1 calls.
     pub fn note<W: Wait, V: Shows<E>>(&mut self, rt: &W, me: &mut Caller<N, E>, value: &V)
         requires part { 0 < me.old.parts }
-        ensures log { self.new ≡ record self.old { log = self.old.log ++ V.shown value.now ∷ [] } }
+        requires number { E.number (V.shown value.now) ≡ self.old.number }
+        ensures log { Notes E.number (V.shown value.now) self.old self.new }
         ensures call { MakesOne me.old me.new }
-        ensures from { from_of me.new ≡ last_state self.old }
+        ensures from { from_of E.number me.new ≡ last_state E.number self.old }
         ensures to { to_of me.new ≡ V.shown value.now }
         ensures all { (me.new.first ≡ self.new.first) × (me.new.log ≡ self.new.log) }
-        ensures whole { me.old.parts ≡ N.parts → length me.new.log ≡ me.new.calls }
+        ensures whole { self.old.values ≡ 1 → me.old.parts + 1 ≡ N.parts → length me.new.log ≡ me.new.calls }
     {
         for _ in rt.forever() {
             if self.try_to_note(me, value) {
@@ -119,15 +120,18 @@ impl<N: LogName, E: State> Log<N, E> {
         unreachable!()
     }
 
-    /// Shows a caller what the log has now: all calls up to now, and none that it made itself.
+    /// Shows a caller what the log has now: all calls of its value up to now, and none that it made itself. Of the
+    /// other values it has those that came before, and maybe more.
     ///
     /// It waits for nobody: `rt` stands there as in `note`.
     pub fn show<W: Wait>(&mut self, rt: &W, me: &mut Caller<N, E>)
         ensures log { self.new ≡ self.old }
         ensures look { OnlyLooks me.old me.new }
-        ensures to { to_of me.new ≡ last_state self.old }
-        ensures all { (me.new.first ≡ self.old.first) × (me.new.log ≡ self.old.log) }
-        ensures whole { me.old.parts ≡ N.parts → length me.new.log ≡ me.old.calls }
+        ensures to { now_of E.number self.old.number me.new ≡ last_state E.number self.old }
+        ensures calls { calls_of E.number self.old.number me.new.log ≡ calls_of E.number self.old.number self.old.log }
+        ensures seen { (me.new.first ≡ self.old.first) × IsPrefix self.old.log me.new.log }
+        ensures alone { self.old.values ≡ 1 → me.new.log ≡ self.old.log }
+        ensures whole { self.old.values ≡ 1 → me.old.parts + 1 ≡ N.parts → length me.new.log ≡ me.old.calls }
     {
         for _ in rt.forever() {
             if self.try_to_show(me) {

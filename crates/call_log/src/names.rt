@@ -20,9 +20,14 @@ impl LogName for Brand {
 /// It is another type than the one of the value that the log lies beside. That one may have the log's name in it, and a
 /// log begins before it has a name.
 pub trait State {
+    ghost use Rattle.std.specs.Prelude.{ℕ};
+
     /// Some state. A log begins with it, and it stands for nothing there. It is also what a list of states gives where it
     /// has none.
     ghost some_state: { Self };
+
+    /// The number of the value that a state is of: 0 where the log has one value.
+    ghost number: { Self → ℕ };
 }
 
 /// A value that shows a state of itself to a log with such states.

@@ -34,6 +34,8 @@ impl Model for ShelfState {
 
 impl State for ShelfState {
     ghost some_state = { [] };
+
+    ghost number = { λ s. 0 };
 }
 
 impl<N: LogName> Shows<ShelfState> for Shelf<N> {

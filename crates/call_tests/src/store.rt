@@ -1,10 +1,11 @@
 //! A shelf that threads share.
-ghost use Rattle.std.specs.Prelude.{◌≡◌, ◌<◌, [], ◌∷◌, None, Some, length, replicate, slice_get};
-ghost use Rattle.call_log.specs.Calls.{MakesOne, OnlyLooks, from_of, to_of};
-ghost use Rattle.call_tests.specs.Shelves.{Puts, Takes, number_in};
+ghost use Rattle.std.specs.Prelude.{◌≡◌, ◌+◌, ◌-◌, ◌<◌, [], ◌∷◌, None, Some, length, replicate, slice_get};
+ghost use Rattle.call_log.specs.Calls.{MakesOne, OnlyLooks, to_of};
+ghost use Rattle.call_tests.specs.Shelves.{Puts, Takes, from_of, now_of, number_in};
 
 use crate::shelf::{Shelf, ShelfState};
 use call_log::{Caller, LogBlank, LogName, Logged};
+use std::marker::Model;
 use std::sync::{Mutex, Wait};
 
 /// What a store tells of itself.
@@ -17,10 +18,27 @@ pub struct Stats {
     pub number: usize,
 }
 
+// What lies under the lock: the only value of its log.
+#[derive(Drop)]
+struct Alone<N: LogName> {
+    logged: Logged<N, Shelf<N>, ShelfState>,
+}
+
+impl<N: LogName> Model for Alone<N> {
+    ghost use Rattle.std.specs.Prelude.{◌≡◌, ℕ, List, Option};
+    ghost use Rattle.call_log.specs.Logs.{LogView};
+
+    ghost Value = { LogView (List (Option ℕ)) };
+
+    ghost view = { λ a. a.logged };
+
+    ghost invariant = { λ a. a.logged.values ≡ 1 };
+}
+
 /// A shelf under a lock.
 #[derive(Drop)]
 pub struct Store<N: LogName> {
-    shelf: Mutex<Logged<N, Shelf<N>, ShelfState>>,
+    shelf: Mutex<Alone<N>>,
 }
 
 impl<N: LogName> Store<N> {
@@ -29,12 +47,13 @@ impl<N: LogName> Store<N> {
         requires book { blank.book ≡ N.book }
         requires name { blank.name ≡ N.name }
         requires parts { blank.parts ≡ N.parts }
-        requires part { 0 < N.parts }
-        ensures { result.1 ≡ record { first = []; log = replicate 64 None ∷ []; calls = 1; parts = N.parts } }
+        requires one { blank.values ≡ 1 }
+        requires part { 1 < N.parts }
+        ensures { result.1 ≡ record { first = []; log = replicate 64 None ∷ []; calls = 1; parts = N.parts - 1 } }
     {
-        let (log, mut me) = blank.open::<N>();
-        let logged = Logged::new(rt, log, &mut me, Shelf::<N>::new());
-        let shelf = Mutex::new(logged);
+        let (mut logs, mut me) = blank.open::<N>();
+        let logged = Logged::new(rt, logs.take(), &mut me, Shelf::<N>::new());
+        let shelf = Mutex::new(Alone { logged });
         (Store { shelf }, me)
     }
 
@@ -52,7 +71,7 @@ impl<N: LogName> Store<N> {
         ensures put { Puts place number (from_of me.new) result (to_of me.new) }
     {
         let mut guard = self.shelf.lock(rt);
-        let logged = &mut *guard;
+        let logged = &mut guard.logged;
         let had = logged.value.put(place, number);
         logged.log.note(rt, me, &logged.value);
         had
@@ -66,7 +85,7 @@ impl<N: LogName> Store<N> {
         ensures taken { Takes place (from_of me.new) result (to_of me.new) }
     {
         let mut guard = self.shelf.lock(rt);
-        let logged = &mut *guard;
+        let logged = &mut guard.logged;
         let had = logged.value.take(place);
         logged.log.note(rt, me, &logged.value);
         had
@@ -76,24 +95,24 @@ impl<N: LogName> Store<N> {
     pub fn get<W: Wait>(&self, rt: &W, me: &mut Caller<N, ShelfState>, place: usize) -> Option<u64>
         requires place { place < 64 }
         ensures look { OnlyLooks me.old me.new }
-        ensures held { slice_get (to_of me.new) place ≡ Some result }
+        ensures held { slice_get (now_of me.new) place ≡ Some result }
     {
         let mut guard = self.shelf.lock(rt);
-        let logged = &mut *guard;
+        let logged = &mut guard.logged;
         logged.log.show(rt, me);
         logged.value.get(place)
     }
 
-    /// What the store tells of itself: exactly, at one moment, which isn't before the caller looked last. Whoever has all
-    /// parts knows how many calls there were.
+    /// What the store tells of itself: exactly, at one moment, which isn't before the caller looked last. Whoever has the
+    /// parts of all callers knows how many calls there were.
     pub fn stats<W: Wait>(&self, rt: &W, me: &mut Caller<N, ShelfState>) -> Stats
         ensures look { OnlyLooks me.old me.new }
         ensures calls { result.calls ≡ length me.new.log }
-        ensures number { result.number ≡ number_in (to_of me.new) }
-        ensures whole { me.old.parts ≡ N.parts → result.calls ≡ me.old.calls }
+        ensures number { result.number ≡ number_in (now_of me.new) }
+        ensures whole { me.old.parts + 1 ≡ N.parts → result.calls ≡ me.old.calls }
     {
         let mut guard = self.shelf.lock(rt);
-        let logged = &mut *guard;
+        let logged = &mut guard.logged;
         logged.log.show(rt, me);
         Stats {
             calls: logged.log.calls(),

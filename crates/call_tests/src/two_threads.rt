@@ -1,8 +1,9 @@
 //! Two threads put.
 ghost use Rattle.std.specs.Prelude.{◌≡◌, ◌+◌, ◌<◌, length};
-ghost use Rattle.call_log.specs.Calls.{MakesOne, to_of};
-ghost use Rattle.call_tests.specs.Shelves.{number_in};
+ghost use Rattle.call_log.specs.Calls.{MakesOne};
+ghost use Rattle.call_tests.specs.Shelves.{now_of, number_in};
 
+use crate::pairs::{Pair, PairState};
 use crate::shelf::ShelfState;
 use crate::store::{Stats, Store};
 use call_log::{Caller, LogName};
@@ -36,13 +37,13 @@ pub fn both<N: LogName + Send + Sync, R: Threads + Wait + Sync>(
     second: (usize, u64),
 ) -> (Stats, Caller<N, ShelfState>)
     requires fresh { me.calls ≡ 1 }
-    requires parts { me.parts ≡ N.parts }
-    requires two { 1 < N.parts }
+    requires parts { me.parts + 1 ≡ N.parts }
+    requires two { 1 < me.parts }
     requires places { (first.0 < 64) × (second.0 < 64) }
     ensures calls { result.0.calls ≡ 3 }
     ensures log { length result.1.log ≡ 3 }
-    ensures parts { result.1.parts ≡ N.parts }
-    ensures number { result.0.number ≡ number_in (to_of result.1) }
+    ensures parts { result.1.parts ≡ me.parts }
+    ensures number { result.0.number ≡ number_in (now_of result.1) }
 {
     let mut me = me;
     let other = me.another();
@@ -60,4 +61,55 @@ pub fn both<N: LogName + Send + Sync, R: Threads + Wait + Sync>(
     one.absorb(two);
     let stats = store.stats(rt, &mut one);
     (stats, one)
+}
+
+// Puts a number into a shelf, and gives the caller back.
+fn put_half_by<N: LogName, R: Wait>(
+    rt: &R,
+    pair: &Pair<N>,
+    me: Caller<N, PairState>,
+    shelf: usize,
+    place: usize,
+    number: u64,
+) -> Caller<N, PairState>
+    requires part { 0 < me.parts }
+    requires shelf { shelf < 2 }
+    requires place { place < 64 }
+    ensures { MakesOne me result }
+{
+    let mut me = me;
+    let _ = pair.put(rt, &mut me, shelf, place, number);
+    me
+}
+
+/// Two threads put a number each, into a shelf each, and neither waits for the other. The caller knows of both calls
+/// then, and made two more.
+pub fn both_halves<N: LogName + Send + Sync, R: Threads + Wait + Sync>(
+    rt: &R,
+    pair: &Pair<N>,
+    me: Caller<N, PairState>,
+    first: (usize, u64),
+    second: (usize, u64),
+) -> Caller<N, PairState>
+    requires two { 1 < me.parts }
+    requires places { (first.0 < 64) × (second.0 < 64) }
+    ensures calls { result.calls ≡ me.calls + 2 }
+    ensures log { length me.log < length result.log }
+    ensures parts { result.parts ≡ me.parts }
+{
+    let mut me = me;
+    let other = me.another();
+    let (mut one, two) = join(
+        rt,
+        move || -> Caller<N, PairState>
+            requires { (0 < me.parts) × (first.0 < 64) }
+            ensures { MakesOne me result }
+        { put_half_by(rt, pair, me, 0, first.0, first.1) },
+        move || -> Caller<N, PairState>
+            requires { (0 < other.parts) × (second.0 < 64) }
+            ensures { MakesOne other result }
+        { put_half_by(rt, pair, other, 1, second.0, second.1) },
+    );
+    one.absorb(two);
+    one
 }

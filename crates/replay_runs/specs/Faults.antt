@@ -1,5 +1,6 @@
 -- Which plans and runs are refused, and why.
-use Rattle.std.specs.Prelude.{ℕ, ◌≡◌, ◌<◌, ◌⊎◌, ⊤, true, List, length, Option, None, Some}
+use Rattle.std.specs.Prelude.{ℕ, ◌≡◌, ◌<◌, ◌⊎◌, ⊤, true, List, length, Option, None, Some, nat_lt, if◌then◌else◌}
+use Rattle.bump_cache.specs.Configs.{first_cache_fault}
 use Rattle.bump_cache.specs.declared.config.CacheFault.{CacheFault}
 use Rattle.bump_trace.specs.Meaning.{verdict_of}
 use Rattle.bump_trace.specs.Runs.{most_bytes}
@@ -9,17 +10,26 @@ use Rattle.bump_trace.specs.declared.runs.SimFault.TheVariants as sim
 use Rattle.replay_runs.specs.Writing.{IsTraceOf, HasTooLong}
 use Rattle.replay_runs.specs.declared.plans.Plan.{Plan}
 use Rattle.replay_runs.specs.declared.faults.ReplayFault.{ReplayFault}
-use Rattle.replay_runs.specs.declared.faults.ReplayFault.TheVariants.{Config, Memory, Long, Bumps, Refused, Run}
+use Rattle.replay_runs.specs.declared.faults.ReplayFault.TheVariants.{Config, Parts, Memory, Long, Bumps, Refused, Run}
 
--- why no store is made of a plan: for the fault that its configuration has, if it has one, and else for want of memory
-abbrev pub RefusesStore : Option CacheFault → ReplayFault → Type 0
+-- why no run of a plan is traced, by the fault that its configuration has and by its parts: a trace is of one part
+abbrev pub plan_fault_by : Option CacheFault → ℕ → Option ReplayFault
+plan_fault_by None parts = if nat_lt 1 parts then Some Parts else None
+plan_fault_by (Some own) parts = Some (Config own)
+
+abbrev pub plan_fault : Plan → Option ReplayFault
+plan_fault plan = plan_fault_by (first_cache_fault plan.config) plan.config.parts
+
+-- why no store is made of a plan: for its fault, if it has one, and else for want of memory
+abbrev pub RefusesStore : Option ReplayFault → ReplayFault → Type 0
 RefusesStore None fault = fault ≡ Memory
-RefusesStore (Some own) fault = fault ≡ Config own
+RefusesStore (Some own) fault = fault ≡ own
 
 -- Why no text is written: memory was refused, or the World refused a call, or the text would be too long, or a reader's
 -- ring had more bumps at a put than it applies.
 abbrev pub IsOfTraceWriting : Plan → List ℕ → ReplayFault → Type 0
 IsOfTraceWriting plan accesses (Config own) = ⊥
+IsOfTraceWriting plan accesses Parts = ⊥
 IsOfTraceWriting plan accesses Long = HasTooLong plan accesses
 IsOfTraceWriting plan accesses Bumps = put_bumps < plan.config.ring
 IsOfTraceWriting plan accesses Memory = ⊤
@@ -41,6 +51,7 @@ fault_of sim.Gate = Run sim.Gate
 -- why a text doesn't run: it has a fault, it couldn't be read, it is too long, or memory was refused
 abbrev pub IsOfText : List ℕ → ReplayFault → Type 0
 IsOfText text (Config own) = ⊥
+IsOfText text Parts = ⊥
 IsOfText text Long = most_bytes < length text
 IsOfText text Bumps = ⊥
 IsOfText text Memory = ⊤
@@ -59,8 +70,7 @@ abbrev pub IsOfTracing : Plan → List ℕ → ReplayFault → Type 0
 IsOfTracing plan accesses fault = IsOfTraceWriting plan accesses fault
     ⊎ ((text : List ℕ) × IsTraceOf plan accesses text × IsOfText text fault)
 
--- A plan whose configuration has a fault is refused by it, and one whose configuration has none is traced, but for those
--- reasons.
-abbrev pub Refuses : Option CacheFault → Plan → List ℕ → ReplayFault → Type 0
+-- a plan that has a fault is refused by it, and one that has none is traced, but for those reasons
+abbrev pub Refuses : Option ReplayFault → Plan → List ℕ → ReplayFault → Type 0
 Refuses None plan accesses fault = IsOfTracing plan accesses fault
-Refuses (Some own) plan accesses fault = fault ≡ Config own
+Refuses (Some own) plan accesses fault = fault ≡ own

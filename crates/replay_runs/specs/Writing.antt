@@ -90,6 +90,7 @@ HasTooLong plan accesses = (count : ℕ) × (run : List ℕ) × TellsFirst plan 
 -- a fault of the calls that are made: memory was refused, or the World refused a call
 abbrev pub IsOfCalls : ReplayFault → Type 0
 IsOfCalls (fault.Config own) = ⊥
+IsOfCalls fault.Parts = ⊥
 IsOfCalls fault.Long = ⊥
 IsOfCalls fault.Bumps = ⊥
 IsOfCalls fault.Memory = ⊤
@@ -99,6 +100,7 @@ IsOfCalls (fault.Run own) = ⊥
 -- A fault of a put: one of its calls, or a reader's ring had more bumps than a put applies.
 abbrev pub IsOfPut : Plan → ReplayFault → Type 0
 IsOfPut plan (fault.Config own) = ⊥
+IsOfPut plan fault.Parts = ⊥
 IsOfPut plan fault.Long = ⊥
 IsOfPut plan fault.Bumps = put_bumps < plan.config.ring
 IsOfPut plan fault.Memory = ⊤

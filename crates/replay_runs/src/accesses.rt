@@ -89,6 +89,7 @@ fn make_room(scribe: &mut Scribe, plan: &Plan) -> Result<(), ReplayFault>
 
 // Puts an item for a key that has none.
 fn place(scribe: &mut Scribe, plan: &Plan, key: u32) -> Result<(), ReplayFault>
+    requires part { 0 < plan.now.config.parts }
     ensures text { OnOk result (AddsPut key 16 scribe.old.text.items scribe.new.text.items) }
     ensures fault { IfErr result (IsOfPut plan.now) }
 {
@@ -114,10 +115,11 @@ fn look(scribe: &mut Scribe, hot: Bound, warm: Bound) -> Result<bool, ReplayFaul
 // Looks at them so many times, by the bounds that the age of COLD makes. A look that finds nothing to do changes nothing,
 // nor do those behind it.
 fn balance(scribe: &mut Scribe, plan: &Plan, count: u32) -> Result<(), ReplayFault>
+    requires part { 0 < plan.now.config.parts }
     ensures text { OnOk result (Adds IsUpkeep (2 * count) scribe.old.text.items scribe.new.text.items) }
     ensures fault { IfErr result IsOfCalls }
 {
-    let bounds = plan.config.bounds();
+    let bounds = plan.config.bounds(0);
     let age = scribe.cold_age();
     let (hot, warm) = (bounds.of_hot(age), bounds.of_warm(age));
     for _ in 0..count {
@@ -130,6 +132,7 @@ fn balance(scribe: &mut Scribe, plan: &Plan, count: u32) -> Result<(), ReplayFau
 
 // Tends the cache.
 fn tend(scribe: &mut Scribe, plan: &Plan) -> Result<(), ReplayFault>
+    requires part { 0 < plan.now.config.parts }
     ensures text { OnOk result (Adds IsUpkeep 202 scribe.old.text.items scribe.new.text.items) }
     ensures fault { IfErr result IsOfCalls }
 {
@@ -141,6 +144,7 @@ fn tend(scribe: &mut Scribe, plan: &Plan) -> Result<(), ReplayFault>
 
 // A key is got, and put where it has no item.
 fn get_or_put(scribe: &mut Scribe, plan: &Plan, worker: u32, key: u32) -> Result<(), ReplayFault>
+    requires part { 0 < plan.now.config.parts }
     ensures text { OnOk result (AddsAccess worker key 16 scribe.old.text.items scribe.new.text.items) }
     ensures fault { IfErr result (IsOfPut plan.now) }
 {
@@ -153,6 +157,7 @@ fn get_or_put(scribe: &mut Scribe, plan: &Plan, worker: u32, key: u32) -> Result
 
 // Writes the lines of an access, and tends the cache behind it where it is time for it.
 fn write_access(scribe: &mut Scribe, plan: &Plan, place: usize, key: u32) -> Result<(), ReplayFault>
+    requires part { 0 < plan.now.config.parts }
     ensures text { OnOk result (AddsAccess (place % max plan.now.config.readers 1) key most_behind
         scribe.old.text.items scribe.new.text.items) }
     ensures fault { IfErr result (IsOfPut plan.now) }
@@ -177,6 +182,7 @@ pub(crate) fn write_trace(
     accesses: &[u32],
 ) -> Result<Vec<u8>, ReplayFault>
     requires some { 0 < length config.now.classes }
+    requires part { 0 < plan.now.config.parts }
     ensures text { IfOk result (λ text. IsTraceOf plan.now accesses.now text.items) }
     ensures fault { IfErr result (IsOfTraceWriting plan.now accesses.now) }
 {

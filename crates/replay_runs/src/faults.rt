@@ -14,6 +14,10 @@ pub enum ReplayFault {
     #[error("{0}")]
     Config(CacheFault),
 
+    /// A trace was to be of a cache of several parts.
+    #[error("a trace is of a cache of one part")]
+    Parts,
+
     /// Memory was refused.
     #[error("memory was refused")]
     Memory,

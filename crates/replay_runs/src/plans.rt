@@ -1,7 +1,6 @@
 //! How an access log is run.
 ghost use Rattle.std.specs.Prelude.{◌≡◌, ◌+◌, ◌%◌, ◌<◌, None, IfOk, OnOk, IfErr, length, max};
-ghost use Rattle.bump_cache.specs.Configs.{first_cache_fault};
-ghost use Rattle.replay_runs.specs.Faults.{RefusesStore};
+ghost use Rattle.replay_runs.specs.Faults.{RefusesStore, plan_fault, plan_fault_by};
 
 use crate::faults::ReplayFault;
 use bump_cache::{CacheConfig, Config};
@@ -37,14 +36,37 @@ impl Plan {
         u64::from(self.config.items) + u64::from(self.config.spare)
     }
 
-    // The configuration of the store that the plan's cache is made over.
-    pub(crate) fn store(&self, alloc: Global) -> Result<Config, ReplayFault>
-        ensures some { IfOk result (λ store. 0 < length store.classes) }
-        ensures allowed { OnOk result (first_cache_fault self.now.config ≡ None) }
-        ensures refused { IfErr result (RefusesStore (first_cache_fault self.now.config)) }
+    // That it has several parts, where it has.
+    fn parts_fault(&self) -> Option<ReplayFault>
+        ensures { result ≡ plan_fault_by None self.now.config.parts }
+    {
+        if self.config.parts > 1 {
+            Some(ReplayFault::Parts)
+        } else {
+            None
+        }
+    }
+
+    // Why no run of it is traced, if it has such a fault.
+    fn fault(&self) -> Option<ReplayFault>
+        ensures { result ≡ plan_fault self.now }
     {
         match self.config.fault() {
-            Some(fault) => Err(ReplayFault::Config(fault)),
+            Some(fault) => Some(ReplayFault::Config(fault)),
+            None => self.parts_fault(),
+        }
+    }
+
+    // The configuration of the store that the plan's cache is made over, which has one part.
+    #[tactic(auto, using(crate::proofs::FaultLemmas::no_config_fault, crate::proofs::FaultLemmas::some_part))]
+    pub(crate) fn store(&self, alloc: Global) -> Result<Config, ReplayFault>
+        ensures some { IfOk result (λ store. 0 < length store.classes) }
+        ensures part { OnOk result (0 < self.now.config.parts) }
+        ensures allowed { OnOk result (plan_fault self.now ≡ None) }
+        ensures refused { IfErr result (RefusesStore (plan_fault self.now)) }
+    {
+        match self.fault() {
+            Some(fault) => Err(fault),
             None => Ok(self.config.store(alloc)?),
         }
     }

@@ -1,10 +1,9 @@
 //! The trace of an access log's run.
 ghost use Rattle.std.specs.Prelude.{◌≡◌, ◌<◌, ◌≤◌, false, length, None, IfOk, OnOk, IfErr};
-ghost use Rattle.bump_cache.specs.Configs.{first_cache_fault};
 ghost use Rattle.bump_trace.specs.Meaning.{verdict_of};
 ghost use Rattle.bump_trace.specs.Runs.{most_bytes};
 ghost use Rattle.replay_runs.specs.Counting.{hits_told};
-ghost use Rattle.replay_runs.specs.Faults.{fault_of, IsOfText, IsOfTracing, Refuses};
+ghost use Rattle.replay_runs.specs.Faults.{fault_of, plan_fault, IsOfText, IsOfTracing, Refuses};
 ghost use Rattle.replay_runs.specs.Writing.{IsTraceOf};
 
 use crate::accesses::write_trace;
@@ -61,6 +60,7 @@ fn write_and_run(
     accesses: &[u32],
 ) -> Result<ReplayTrace, ReplayFault>
     requires some { 0 < length config.now.classes }
+    requires part { 0 < plan.now.config.parts }
     ensures no_fault { IfOk result (λ it. (verdict_of it.text.items).is_fault ≡ false) }
     ensures size { IfOk result (λ it. length it.text.items ≤ most_bytes) }
     ensures hits { IfOk result (λ it. it.hits ≡ hits_told (verdict_of it.text.items).text) }
@@ -80,7 +80,8 @@ fn write_and_run(
 /// and else put. A key's item has the name `k` and the key's number, and the label 0.
 ///
 /// The trace is run on a World before it is given to anybody, so it has no fault. `keys` hash the keys and the names. It
-/// is refused as `Config` exactly where the plan's configuration has a fault, as `Long` where the trace would have more
+/// is refused as `Config` exactly where the plan's configuration has a fault, as `Parts` exactly where it has none and
+/// several parts, as `Long` where the trace would have more
 /// than 16,777,216 bytes, as `Bumps` where more than 16 bumps of a reader wait at a put, which its ring must have room
 /// for, and as `Memory` for want of memory. `Refused` and `Run` are of no log that is known.
 #[tactic(auto, using(crate::proofs::FaultLemmas::store_refused, crate::proofs::FaultLemmas::trace_refused))]
@@ -94,8 +95,8 @@ pub fn trace_of(
     ensures size { IfOk result (λ it. length it.text.items ≤ most_bytes) }
     ensures hits { IfOk result (λ it. it.hits ≡ hits_told (verdict_of it.text.items).text) }
     ensures accesses { IfOk result (λ it. IsTraceOf plan.now accesses.now it.text.items) }
-    ensures allowed { OnOk result (first_cache_fault plan.now.config ≡ None) }
-    ensures refused { IfErr result (Refuses (first_cache_fault plan.now.config) plan.now accesses.now) }
+    ensures allowed { OnOk result (plan_fault plan.now ≡ None) }
+    ensures refused { IfErr result (Refuses (plan_fault plan.now) plan.now accesses.now) }
 {
     let config = match plan.store(alloc) {
         Ok(config) => config,

@@ -97,6 +97,18 @@ fn plan_of_no_items_is_refused(rt: HostRuntime) -> Result<(), Fail> {
     Ok(())
 }
 
+#[test]
+fn trace_of_two_parts_is_refused(rt: HostRuntime) -> Result<(), Fail> {
+    let mut two = plan(4, 20, 40, 1);
+    two.config.parts = 2;
+    let refused = trace_of(rt.alloc(), RandomState::new(&rt)?, &two, &[1]).err();
+    assert!(rt; refused == Some(ReplayFault::Parts));
+    two.config.items = 0;
+    let refused = trace_of(rt.alloc(), RandomState::new(&rt)?, &two, &[1]).err();
+    assert!(rt; refused == Some(ReplayFault::Config(CacheFault::Items)));
+    Ok(())
+}
+
 // A log of so many keys below the bound, in an order that looks random, small ones most.
 fn shuffled(alloc: Global, count: u32, bound: u32) -> Result<Vec<u32>, AllocError> {
     let mut state = 88_172_645_463_325_252u64;

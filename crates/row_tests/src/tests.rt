@@ -1,4 +1,5 @@
-//! A part of four chunks, in which a key has two words and a value one, and two items may be; and its reader.
+//! A part of four chunks, in which a key has two words and a value one, and two items may be; and its reader. Its class
+//! is the only one of its store, or the second.
 ghost use Rattle.std.specs.Prelude.{◌≡◌, ◌∷◌, [], IfOk, IfSome, Some, slice_get};
 
 use bump_class::{Book, RawLane};
@@ -21,6 +22,13 @@ const CLASS: ClassConfig = ClassConfig {
     warm: 1,
 };
 
+// One that comes before it.
+const CLASS_BEFORE: ClassConfig = ClassConfig {
+    chunks: 3,
+    hot: 1,
+    warm: 1,
+};
+
 const BOUNDS: Bounds = Bounds {
     hot: 1,
     warm: 1,
@@ -38,6 +46,15 @@ fn first_book<N: Name>(books: Vec<Book<N>>) -> Option<Book<N>>
     ensures { IfSome result (λ book. slice_get books.items 0 ≡ Some book) }
 {
     let mut left = books.into_iter();
+    left.next()
+}
+
+// The second of some Books.
+fn second_book<N: Name>(books: Vec<Book<N>>) -> Option<Book<N>>
+    ensures { IfSome result (λ book. slice_get books.items 1 ≡ Some book) }
+{
+    let mut left = books.into_iter();
+    let _first = left.next();
     left.next()
 }
 
@@ -215,6 +232,23 @@ fn reclaim<N: Name>(rt: &impl Abort, part: &mut Part<N, AnyRow>)
     assert!(rt; part.stats().expired_unfetched == 1);
 }
 
+// All of that.
+fn call_all<N: Name>(
+    rt: &impl Abort,
+    part: &mut Part<N, AnyRow>,
+    lanes: &mut [RawLane<N>],
+    reader: &mut WordReader<N, AnyRow>,
+)
+    requires slots { N.table.slots ≡ 3 }
+    requires key { part.old.key_words ≡ 2 }
+    requires value { part.old.value_words ≡ 1 }
+{
+    call_each(rt, part, lanes, reader);
+    clear_all(rt, part, lanes, reader);
+    expire(rt, part, lanes, reader);
+    reclaim(rt, part);
+}
+
 fn run<N: Name, R: Abort>(rt: &R, alloc: Global, blank: Blank, config: &Config) -> Result<(), Fail>
     requires name { blank.table ≡ N.table }
     requires config { blank.config ≡ config.now }
@@ -233,13 +267,56 @@ fn run<N: Name, R: Abort>(rt: &R, alloc: Global, blank: Blank, config: &Config) 
     };
     let mut workers = workers;
     let worker = workers.pop().expect(rt, "there is a worker");
-    let index = Index::new(alloc, 4)?;
+    let index = Index::new(alloc, 0, 4)?;
     let mut reader = WordReader::new(worker, heads, index.reader()?);
     let mut part = Part::new(book, index, SEED, 2, 1, 2, Some(10));
-    call_each(rt, &mut part, &mut lanes, &mut reader);
-    clear_all(rt, &mut part, &mut lanes, &mut reader);
-    expire(rt, &mut part, &mut lanes, &mut reader);
-    reclaim(rt, &mut part);
+    call_all(rt, &mut part, &mut lanes, &mut reader);
+    Ok(())
+}
+
+// What is put comes into a chunk of the second class, and is found there.
+fn use_second<N: Name>(rt: &impl Abort, part: &mut Part<N, AnyRow>)
+    requires key { part.old.key_words ≡ 2 }
+    requires value { part.old.value_words ≡ 1 }
+    ensures key { part.new.key_words ≡ 2 }
+    ensures value { part.new.value_words ≡ 1 }
+{
+    let chunk = put(rt, part, [9, 9, 9], 0, &mut [0; 4], 1).chunk;
+    assert!(rt; 3 <= chunk && chunk < 7);
+    assert!(rt; part.find(&[9, 9]) == Some(chunk));
+    assert!(rt; part.remove(&[9, 9]) == Some(chunk));
+}
+
+// The same on the second class of a store.
+fn run_second<N: Name, R: Abort>(
+    rt: &R,
+    alloc: Global,
+    blank: Blank,
+    config: &Config,
+) -> Result<(), Fail>
+    requires name { blank.table ≡ N.table }
+    requires config { blank.config ≡ config.now }
+    requires slots { N.table.slots ≡ 3 }
+    requires classes { config.now.classes ≡ (record { chunks = 3; hot = 1; warm = 1 })
+        ∷ (record { chunks = 4; hot = 1; warm = 1 }) ∷ [] }
+{
+    let StoreParts {
+        heads,
+        books,
+        starts: _,
+        workers,
+        mut lanes,
+    } = StoreParts::<N>::open(alloc, blank, config)?;
+    let Some(book) = second_book(books) else {
+        panic!(rt; "there is a second class")
+    };
+    let mut workers = workers;
+    let worker = workers.pop().expect(rt, "there is a worker");
+    let index = Index::new(alloc, 3, 4)?;
+    let mut reader = WordReader::new(worker, heads, index.reader()?);
+    let mut part = Part::new(book, index, SEED, 2, 1, 2, Some(10));
+    use_second(rt, &mut part);
+    call_all(rt, &mut part, &mut lanes, &mut reader);
     Ok(())
 }
 
@@ -270,7 +347,7 @@ fn use_up<N: Name, R: Abort>(
     let Some(book) = first_book(opened.books) else {
         panic!(rt; "there is a class")
     };
-    let index = Index::new(alloc, 4)?;
+    let index = Index::new(alloc, 0, 4)?;
     let mut part = Part::new(book, index, SEED, 2, 1, 2, Some(10));
     use_up_one(rt, &mut part, 1);
     use_up_one(rt, &mut part, 2);
@@ -290,6 +367,16 @@ fn a_reader_sees_what_is_put(rt: HostRuntime) -> Result<(), Fail> {
     };
     let blank = Blank::with_words(alloc, &config, 3)?;
     run::<Brand, HostRuntime>(&rt, alloc, blank, &config)
+}
+
+#[test]
+fn a_reader_sees_what_is_put_in_a_second_class(rt: HostRuntime) -> Result<(), Fail> {
+    let alloc = rt.alloc();
+    let Ok(config) = Config::new(1, 8, 4, 1, vec![in alloc; CLASS_BEFORE, CLASS]?) else {
+        panic!(rt; "the configuration")
+    };
+    let blank = Blank::with_words(alloc, &config, 3)?;
+    run_second::<Brand, HostRuntime>(&rt, alloc, blank, &config)
 }
 
 #[test]

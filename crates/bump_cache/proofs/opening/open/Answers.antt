@@ -1,38 +1,41 @@
-use Rattle.std.proofs.Common.{refl, sym, ap, ◌∙◌, subst}
-use Rattle.call_log.specs.Calls.{to_of}
-use Rattle.bump_class.specs.Books.{BookView}
-use Rattle.cache_part.specs.Parts.{PartView}
-use Rattle.bump_cache.proofs.Openings.{one_book, opened_readers, rings_of_readers}
-use Rattle.bump_cache.specs.Opening.{CacheBlankView, IsNewShelf, reader_rings}
+use Rattle.std.proofs.Common.{ℕ, ◌<◌, subst, arith}
+use Rattle.bump_cache.specs.Opening.{CacheBlankView, IsNewPart}
+use Rattle.bump_cache.proofs.NewParts.{opened_readers, part_new}
+use Rattle.bump_cache.proofs.Openings.{books_new}
+use Rattle.bump_cache.proofs.Soundness.{sound}
 use Rattle.bump_cache.proofs.opening.open.Goals as goal
 
 pub returns-clause-readers : goal.returns-clause-readers
 returns-clause-readers g c =
     let e = c.in_ok-heads.ensures in
     opened_readers _ _ c.blank.inside.store _ c.in_ok-heads.field-0.workers.items _ c.blank.view_is
-    c.blank.invariant.0.store_of e.heads c.in_ok-readers.ensures e.workers e.capacity
+    c.blank.invariant.0.store_of e.heads c.in_ok-readers.ensures.made e.workers e.capacity
 
-pub returns-clause-shelf : goal.returns-clause-shelf
-returns-clause-shelf g c =
-    let e = c.in_ok-heads.ensures in let part = c.new-part.ensures in
-    let book = one_book _ _ _ _ _ c.only_book.result c.blank.invariant.0.store_of.classes e.books c.only_book.ensures in
-    let rings = reader_rings c.in_ok-readers.readers.items in
-    subst (λ (blank : CacheBlankView). IsNewShelf blank.config g.K.Packed.width g.V.Packed.width rings
-    (to_of c.new-logged.new.me)) c.blank.view_is
-    (subst (IsNewShelf c.blank.inside.config g.K.Packed.width g.V.Packed.width rings)
-    (sym (c.new-logged.ensures.to ∙ (c.in_ok-pairs.ensures ∙ c.new-2.ensures))) (record {
-      chunks = ap (λ (p : PartView). p.book.part.count) part ∙ ap (λ (b : BookView). b.part.count) (sym book);
-      unused = ap (λ (p : PartView). p.book.part.history) part ∙ ap (λ (b : BookView). b.part.history) (sym book);
-      index = ap (λ (p : PartView). p.index) part ∙ c.in_ok-index.ensures;
-      flow = ap (λ (p : PartView). p.flow) part;
-      evictions = ap (λ (p : PartView). p.evictions) part;
-      seed = ap (λ (p : PartView). p.seed) part;
-      key_words = ap (λ (p : PartView). p.key_words) part ∙ c.words.ensures;
-      value_words = ap (λ (p : PartView). p.value_words) part ∙ c.words-2.ensures;
-      items = ap (λ (p : PartView). p.items) part;
-      temporary = ap (λ (p : PartView). p.temporary) part;
-      cursor = ap (λ (p : PartView). p.cursor) part;
-      limits = c.limits.ensures;
-      puts = refl;
-      lanes = sym (ap reader_rings c.in_ok-readers.ensures ∙ (rings_of_readers _ _ ∙ e.rings));
-    }))
+pub returns-clause-shelves : goal.returns-clause-shelves
+returns-clause-shelves g c =
+    let e = c.in_ok-heads.ensures in
+    subst (λ (blank : CacheBlankView). (part : ℕ) → part < blank.config.parts → IsNewPart blank.config part
+    g.K.Packed.width g.V.Packed.width c.in_ok-readers.readers.items c.make_locks.new.me) c.blank.view_is
+    (part_new c.blank.inside.config _ c.in_ok-heads.field-0.workers.items c.in_ok-heads.field-0.lanes.items
+    c.in_ok-readers.readers.items e.rings c.in_ok-readers.ensures.made c.in_ok-readers.ensures.count
+    g.K.Packed.width g.V.Packed.width c.in_ok-shelves.shelves.items _ c.in_ok-shelves.ensures
+    c.in_ok-parts.ensures.begins)
+
+pub make_shelves-requires-clause-books : goal.make_shelves-requires-clause-books
+make_shelves-requires-clause-books g c =
+    let e = c.in_ok-heads.ensures in
+    books_new _ c.blank.inside.store _ _ _ c.blank.invariant.0.store_of e.books
+
+pub make_locks-requires-clause-few : goal.make_locks-requires-clause-few
+make_locks-requires-clause-few g c =
+    let is = sound c.blank.inside.config c.blank.invariant.0.no_fault in
+    omega (arith, c.in_ok-shelves.ensures.count_is, is.parts_most)
+
+pub invariant_of-cache : goal.invariant_of-cache
+invariant_of-cache g c =
+    let is = sound c.blank.inside.config c.blank.invariant.0.no_fault in
+    let count = c.in_ok-parts.ensures.count in
+    let all = c.in_ok-shelves.ensures.count_is in (
+      (omega (arith, count, all, is.parts_least), omega (arith, count, all, is.parts_most)),
+      c.blank.invariant.2,
+    )

@@ -3,7 +3,7 @@ use Rattle.cache_nests.specs.Views.{ahead}
 use Rattle.cache_nests.proofs.tests.times.Given as goal
 
 abbrev pub invariant-loop-life : goal.invariant-loop-life
-invariant-loop-life l = l.search.nests ≡ l.reader
+invariant-loop-life l = l.search.nests ≡ l.reader.nests
 
 abbrev pub decreases-loop-life : goal.decreases-loop-life
 decreases-loop-life l = ahead l.search

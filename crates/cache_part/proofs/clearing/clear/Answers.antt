@@ -3,14 +3,24 @@ use Rattle.cache_lists.specs.Counts.{CountedView}
 use Rattle.cache_nests.specs.Views.{led_at, IndexView}
 use Rattle.cache_part.proofs.ClearLemmas.{ClearedTo, cleared_more, cleared_still, empty_all}
 use Rattle.cache_part.proofs.FindLemmas.{led_linked}
-use Rattle.cache_part.proofs.PartLemmas.{within_owned}
+use Rattle.cache_part.proofs.PartLemmas.{linked_from, within_owned}
 use Rattle.cache_part.proofs.clearing.clear.Goals as goal
 use Rattle.cache_part.proofs.clearing.clear.Goals.{then-leads, else-leads}
 
 pub leads-requires : goal.leads-requires
 leads-requires g c =
-    let so_far = c.loop-chunk.invariant in
-    omega (arith, c.loop-chunk-test.true, c.chunks-chunk-end.ensures, so_far.part.count, so_far.class.count, c.requires.part.count)
+    let so_far = c.loop-chunk.invariant in record {
+      first = omega (arith, so_far.first, so_far.from);
+      chunk = omega (
+        arith,
+        c.loop-chunk-test.true,
+        c.range-chunks.ensures.end,
+        so_far.part.count,
+        so_far.class.first,
+        so_far.class.count,
+        c.requires.part.count,
+      );
+    }
 
 pub end_led-requires : goal.end_led-requires
 end_led-requires g c =
@@ -19,8 +29,9 @@ end_led-requires g c =
     let within : chunk < length table = omega (
       arith,
       c.loop-chunk-test.true,
-      c.chunks-chunk-end.ensures,
+      c.range-chunks.ensures.end,
       so_far.part.count,
+      so_far.class.first,
       so_far.class.count,
       c.requires.part.count,
     ) in
@@ -28,7 +39,7 @@ end_led-requires g c =
     sym c.leads.ensures ∙ c.if-leads.true in
     record {
       within = within;
-      own = within_owned book.part table so_far.part.first so_far.part.count chunk within;
+      own = within_owned book.part table so_far.part.count chunk so_far.from within;
       linked = led_linked c.args._settings.seed c.args._settings.key_words book.part table so_far.part chunk some;
       led = so_far.part.agrees.leads chunk;
     }
@@ -36,7 +47,11 @@ end_led-requires g c =
 pub loop-chunk-init : goal.loop-chunk-init
 loop-chunk-init g c = record {
   part = c.requires.part;
-  empty = λ c low. absurd (omega (arith, low));
+  first = c.requires.first;
+  from = omega (arith, c.range-chunks.ensures.start, c.requires.first);
+  empty = λ chunk low. linked_from c.args._settings.seed c.args._settings.key_words c.args.lists.now.book
+      c.args.lists.now.book c.args.index.now.table c.requires.part chunk
+      (omega (arith, low, c.range-chunks.ensures.start, c.requires.first));
   words = λ i c. refl;
   class = record { first = refl; count = refl };
   evictions = refl;
@@ -51,7 +66,7 @@ loop-chunk-preserved g c =
       | then-leads w ↦ subst (λ v. P v c.if-leads.index) (sym w.lists-is)
           (subst (P w.end_led.new.lists) (sym w.index-is)
           (cleared_more seed kw chunk c.args.lists.now now index so_far w.end_led.new.lists w.end_led.new.index
-          w.end_led.ensures.ends w.end_led.ensures.table w.end_led.ensures.evictions))
+          w.end_led.ensures.ends w.end_led.ensures.table w.end_led.ensures.first w.end_led.ensures.evictions))
       | else-leads w ↦ subst (λ v. P v c.if-leads.index) (sym w.lists-is)
           (subst (P now) (sym w.index-is) (cleared_still seed kw chunk c.args.lists.now now index so_far
           (sym c.leads.ensures ∙ w.if-leads.false)))
@@ -65,8 +80,13 @@ returns-clause-empty g c =
       arith,
       low,
       c.loop-chunk-test.false,
-      c.chunks-chunk-end.ensures,
+      c.range-chunks.ensures.end,
       loop.invariant.part.count,
+      loop.invariant.class.first,
       loop.invariant.class.count,
       c.requires.part.count,
     )))
+
+pub returns-clause-first : goal.returns-clause-first
+returns-clause-first g c =
+    let so_far = c.loop-chunk.invariant in so_far.first ∙ (so_far.class.first ∙ sym c.requires.first)

@@ -5,7 +5,7 @@ use Rattle.cache_lists.proofs.Standings.{kept_ends}
 use Rattle.cache_part.specs.Keys.{IsItemOf}
 use Rattle.cache_part.specs.Parts.{IsPart}
 use Rattle.cache_part.proofs.LookLemmas.{looks_keep}
-use Rattle.cache_part.proofs.PartLemmas.{class_then, part_looked, part_ended, linked_within, linked_owned}
+use Rattle.cache_part.proofs.PartLemmas.{class_then, part_looked, part_ended, linked_within}
 use Rattle.cache_part.proofs.ending.remove.Goals as goal
 
 pub end_led-requires : goal.end_led-requires
@@ -19,7 +19,7 @@ end_led-requires g c =
     has.linked in
     record {
       within = linked_within c.args.seed c.args.key_words found found index.table is c.in-Some.chunk linked;
-      own = linked_owned c.args.seed c.args.key_words found found index.table is c.in-Some.chunk linked;
+      own = is.own c.in-Some.chunk linked;
       linked = linked;
       led = is.agrees.leads c.in-Some.chunk;
     }
@@ -61,3 +61,6 @@ returns-clause-class g c = class_then c.args.lists.now.book c.find-found.new.lis
 pub returns-in_default-clause-class : goal.returns-in_default-clause-class
 returns-in_default-clause-class g c =
     (looks_keep c.args.lists.now.book c.find-found.new.lists.book c.find-found.ensures.looks).class
+
+pub returns-clause-first : goal.returns-clause-first
+returns-clause-first g c = c.end_led.ensures.first ∙ ap (λ i. i.first) c.find-found.ensures.index

@@ -1,5 +1,5 @@
-use Rattle.std.proofs.Common.{◌≡◌, ℕ, ◌≤◌}
-use Rattle.cache_part.specs.Expiring.{HasNoneExpired, IsInTurn, KeepsUnexpired, LooksAround, chunk_behind}
+use Rattle.std.proofs.Common.{◌≡◌, ℕ, ◌+◌, ◌≤◌}
+use Rattle.cache_part.specs.Expiring.{HasNoneExpired, IsNumberInTurn, KeepsUnexpired, LooksAround, number_behind}
 use Rattle.cache_part.specs.Parts.{IsPart}
 use Rattle.cache_part.proofs.expiring.end_expired.Given as goal
 
@@ -7,9 +7,11 @@ use Rattle.cache_part.proofs.expiring.end_expired.Given as goal
 abbrev pub invariant-loop-look : goal.invariant-loop-look
 invariant-loop-look g l = record {
   part : IsPart l.fn.settings.seed l.fn.settings.key_words l.lists.book.part l.index.table;
+  first : l.index.first ≡ l.fn.index.first;
   looks : LooksAround l._look l.fn.cursor l.fn.now l.ended l.fn.lists l.lists;
-  none : (c : ℕ) → IsInTurn l.fn.cursor l._look l.fn.lists.book.part.count c → HasNoneExpired l.fn.now c l.lists.book;
+  none : (n : ℕ) → IsNumberInTurn l.fn.cursor l._look l.fn.lists.book.part.count n
+      → HasNoneExpired l.fn.now (l.fn.lists.book.part.first + n) l.lists.book;
   kept : KeepsUnexpired l.fn.now l.fn.lists.book l.lists.book;
-  at : l.chunk ≡ chunk_behind l.fn.cursor l._look l.fn.lists.book.part.count;
+  at : l.number ≡ number_behind l.fn.cursor l._look l.fn.lists.book.part.count;
   few : l.ended ≤ l._look;
 }

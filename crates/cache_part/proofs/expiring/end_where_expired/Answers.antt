@@ -1,4 +1,4 @@
-use Rattle.std.proofs.Common.{◌≡◌, ℕ, None, true, false, inl, inr, IsSome, is_some, refl, sym, ap, ◌∙◌, subst}
+use Rattle.std.proofs.Common.{◌≡◌, ◌≤◌, ℕ, None, true, false, inl, inr, IsSome, is_some, refl, sym, ap, ◌∙◌, subst}
 use Rattle.bump_steps.specs.Views.{owns}
 use Rattle.cache_lists.specs.Expiring.{expired_at, EndsFound}
 use Rattle.cache_lists.proofs.Standings.{keeps_still}
@@ -13,10 +13,16 @@ use Rattle.cache_part.proofs.LookLemmas.{looks_keep, label_looks, seen_rest}
 use Rattle.cache_part.proofs.PartLemmas.{part_ended, part_kept, within_owned}
 use Rattle.cache_part.proofs.expiring.end_where_expired.Goals as goal
 
+pub leads-requires : goal.leads-requires
+leads-requires g c = record {
+  first = subst (λ f. f ≤ c.args.chunk) (sym c.requires.first) c.requires.from;
+  chunk = c.requires.within;
+}
+
 pub label-requires : goal.label-requires
 label-requires g c = record {
-  own = within_owned c.args.lists.now.book.part c.args.index.now.table c.requires.part.first c.requires.part.count
-      c.args.chunk c.requires.within;
+  own = within_owned c.args.lists.now.book.part c.args.index.now.table c.requires.part.count c.args.chunk
+      c.requires.from c.requires.within;
 }
 
 pub clear-requires : goal.clear-requires
@@ -28,7 +34,7 @@ end_expired-requires g c =
     let looks = label_looks before seen c.args.chunk c.label.result c.label.ensures.seen in
     record {
       own = ap (λ b. owns c.args.chunk b.part) looks
-          ∙ within_owned before.book.part c.args.index.now.table c.requires.part.first c.requires.part.count c.args.chunk
+          ∙ within_owned before.book.part c.args.index.now.table c.requires.part.count c.args.chunk c.requires.from
           c.requires.within;
     }
 
@@ -56,6 +62,7 @@ returns g c =
       part = subst (IsPart seed kw left.book.part) (sym c.clear.ensures.table)
           (part_ended seed kw seen.book left.book table
           (part_kept seed kw before.book seen.book table c.requires.part keeps) chunk ends);
+      first = c.clear.ensures.first;
       looks = subst (λ did. LooksAt chunk now did before left) (sym found.0) (record {
         seen = seen.book;
         looks = looks;
@@ -73,6 +80,7 @@ returns-then-not-leads g c =
     c.requires.part c.args.chunk (sym c.leads.ensures ∙ c.if-not-leads.true) in
     record {
       part = c.requires.part;
+      first = refl;
       looks = record { none = inl none; looks = refl; rest = refl };
       ended = λ some. let no : IsSome {T = ℕ} None = subst IsSome none some in absurd (cc no);
       kept = kept_unexpired c.args.now before.book before.book (keeps_still before.book);
@@ -90,6 +98,7 @@ returns-then-not-has_expired g c =
     record {
       part = part_kept c.args._settings.seed c.args._settings.key_words before.book seen.book c.args.index.now.table
           c.requires.part keeps;
+      first = refl;
       looks = record {
         none = inr unexpired;
         looks = looks;

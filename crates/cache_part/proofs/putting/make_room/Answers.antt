@@ -1,4 +1,4 @@
-use Rattle.std.proofs.Common.{arith, take}
+use Rattle.std.proofs.Common.{ap, ◌∙◌, arith, take}
 use Rattle.cache_part.proofs.LookLemmas.{looks_keep}
 use Rattle.cache_part.proofs.PartLemmas.{part_looked, part_kept}
 use Rattle.cache_part.proofs.RoomLemmas.{part_evicted, room_class, room_stays, room_another, room_gone, item_stays, told_same}
@@ -17,8 +17,6 @@ evict_where_full-evicted-requires g c =
     c.find_key_of-found.new.lists.book c.args.index.now c.find_key_of-found.new.index c.requires.part
     c.find_key_of-found.ensures.looks c.find_key_of-found.ensures.index in
     record {
-      count = one.count;
-      first = one.first;
       leads = one.agrees.leads;
       told = c.requires.told;
       few = omega (arith, c.requires.words, c.requires.few);
@@ -57,5 +55,6 @@ returns g c =
       told = told_same _ evicted c.args.told.now c.evict_where_full-evicted.new.told before.book.part seen.book.part
           (looks_keep before.book seen.book found.looks).words evicts.told;
       another = room_another items now at evicted before.book between.book seen left found.looks evicts.evicts frees.kept;
+      first = evicts.first ∙ ap (λ i. i.first) found.index;
       gone = room_gone items now at evicted before.book between.book seen left found.looks evicts.evicts frees.kept;
     }

@@ -1,4 +1,4 @@
-use Rattle.std.proofs.Common.{◌≡◌, ℕ, Option, Some, IsSome, sym, ap, ◌∙◌, subst, ne_eqb, if◌then◌else◌}
+use Rattle.std.proofs.Common.{◌≡◌, ◌≤◌, ℕ, Option, Some, IsSome, sym, ap, ◌∙◌, subst, ne_eqb, if◌then◌else◌}
 use Rattle.bump_class.specs.Changes.{book_with_words}
 use Rattle.cache_lists.specs.Linked.{linked_at}
 use Rattle.cache_lists.proofs.Standings.{owns_same}
@@ -6,7 +6,7 @@ use Rattle.cache_nests.specs.Views.{led_at}
 use Rattle.cache_part.specs.Putting.{Links, leads_anew}
 use Rattle.cache_part.proofs.Agreements.{led_some, led_within}
 use Rattle.cache_part.proofs.LinkLemmas.{begun_elsewhere, led_nothing}
-use Rattle.cache_part.proofs.PartLemmas.{owned_within, within_owned}
+use Rattle.cache_part.proofs.PartLemmas.{owned_from, owned_within}
 use Rattle.cache_part.proofs.replacing.link.Goals as goal
 
 pub replace-requires : goal.replace-requires
@@ -20,10 +20,11 @@ replace-requires g c =
     (ne_eqb id.chunk old (begun_elsewhere before begun id old begins was)) in
     record {
       within = within;
-      own = owns_same before begun begins.class old ∙ within_owned before.part table c.requires.first c.requires.count old within;
+      own = owns_same before begun begins.class old ∙ c.requires.own old was;
       linked = subst IsSome (sym same) was;
       led = c.requires.leads old ∙ sym same;
-      chunk = owned_within before.part table c.requires.first c.requires.count id.chunk begins.own;
+      first = subst (λ f. f ≤ id.chunk) (sym c.requires.first) (owned_from before.part id.chunk begins.own);
+      chunk = owned_within before.part table c.requires.count id.chunk begins.own;
       anew = led_nothing (led_at table id.chunk) (linked_at before.part id.chunk) (c.requires.leads id.chunk) begins.free;
     }
 
@@ -32,7 +33,8 @@ put-requires g c =
     let before = c.args.lists.now.book in let table = c.args.index.now.table in
     let begins = c.in-Some.ensures.begins in let id = c.in-Some.id in
     record {
-      chunk = owned_within before.part table c.requires.first c.requires.count id.chunk begins.own;
+      first = subst (λ f. f ≤ id.chunk) (sym c.requires.first) (owned_from before.part id.chunk begins.own);
+      chunk = owned_within before.part table c.requires.count id.chunk begins.own;
       anew = led_nothing (led_at table id.chunk) (linked_at before.part id.chunk) (c.requires.leads id.chunk) begins.free;
     }
 

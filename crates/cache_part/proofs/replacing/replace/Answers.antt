@@ -9,6 +9,7 @@ pub lead-requires : goal.lead-requires
 lead-requires g c = record {
   old = led_some (led_at c.args.index.now.table c.args.old) (linked_at c.args.lists.now.book.part c.args.old)
       c.requires.led c.requires.linked;
+  first = c.requires.first;
   chunk = c.requires.chunk;
   anew = inl c.requires.anew;
 }

@@ -7,5 +7,5 @@ abbrev pub decreases-loop-id : goal.decreases-loop-id
 decreases-loop-id g l = ahead l.search
 
 abbrev pub invariant-loop-id : goal.invariant-loop-id
-invariant-loop-id g l = FindsNothing l.fn.heads l.fn.key l.fn.now l.fn.worker l.worker × (l.search.nests ≡ l.fn.index)
-    × (l.worker.sender.ring ≡ l.fn.worker.sender.ring)
+invariant-loop-id g l = FindsNothing l.fn.heads l.fn.key l.fn.now l.fn.worker l.worker
+    × (l.search.nests ≡ l.fn.index.nests) × (l.worker.sender.ring ≡ l.fn.worker.sender.ring)

@@ -1,6 +1,6 @@
 use Rattle.cache_shelf.proofs.Keeping.{alike_removed, at_told, moved_lawful, moved_unknown}
 use Rattle.cache_shelf.proofs.Moving.{had_read, others_then, reads_move}
-use Rattle.cache_shelf.proofs.Removing.{lists_then, removed_item, removed_lawful, removed_others, removed_unknown}
+use Rattle.cache_shelf.proofs.Removing.{found_item, lists_then, removed_lawful, removed_others, removed_unknown}
 use Rattle.cache_shelf.proofs.entries.remove_entry.Goals as goal
 
 pub returns-clause-lawful : goal.returns-clause-lawful
@@ -18,7 +18,7 @@ returns-clause-had g c =
     let alike = alike_removed c.args.part.now mid e.rest in
     had_read g.L.RowLaw.law _ c.remove-chunk.result c.args.old.now c.read_old.new.old c.args.part.now mid
     c.requires.lawful
-    (removed_item _ c.args.part.now mid alike c.promise.ensures.part c.remove-chunk.result e.found e.none) alike
+    (found_item _ c.args.part.now c.remove-chunk.result e.found e.none) alike
     (λ d at i. (at_told c.remove-chunk.result _ e.ends d at).words i d) c.read_old.ensures.none
     (at_told c.remove-chunk.result _ c.read_old.ensures.some)
 

@@ -1,8 +1,11 @@
-use Rattle.std.proofs.Common.{sym, ◌∙◌}
-use Rattle.cache_shelf.specs.Entries.{AllUnexpiredKept}
-use Rattle.bump_cache.proofs.Noting.{of_both}
+use Rattle.std.proofs.Common.{◌∙◌, arith}
+use Rattle.bump_cache.proofs.Rounds.{tends_more}
 use Rattle.bump_cache.proofs.caches.Cache.tend.Goals as goal
 
-pub returns-clause-kept : goal.returns-clause-kept
-returns-clause-kept g c = of_both (λ before after. AllUnexpiredKept c.args.now before.part after.part) _ _ _ _
-    (c.logged.invariant ∙ sym c.note.ensures.from) (sym c.note.ensures.to) c.tend.ensures.kept
+pub loop-part-preserved : goal.loop-part-preserved
+loop-part-preserved g c =
+    let so_far = c.loop-part.invariant in let did = c.tend_part.ensures in record {
+      did = tends_more _ _ _ _ _ so_far.did did;
+      calls = omega (arith, did.call.once, so_far.calls);
+      parts = did.call.parts ∙ so_far.parts;
+    }

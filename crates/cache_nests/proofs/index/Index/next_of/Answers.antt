@@ -1,72 +1,15 @@
-use Rattle.std.proofs.Common.{refl, sym, ap, ◌∙◌, arith}
-use Rattle.std.specs.Arc.{arc_value}
-use Rattle.pen_words.specs.Known.{PenView}
-use Rattle.cache_nests.specs.Views.{NestsView, index_view}
-use Rattle.cache_nests.proofs.AnswerLemmas.{found_from, life_found, answer_anew, answer_led, answer_answered, end_all}
+use Rattle.std.proofs.Common.{◌≡◌, ◌==◌, ◌||◌, ℕ, ap, subst}
+use Rattle.bump_rules.specs.declared.items.ItemId.{ItemId}
+use Rattle.cache_nests.specs.Views.{IndexView, has_answered, numbered_from}
+use Rattle.cache_nests.proofs.NumberLemmas.{answered_more}
 use Rattle.cache_nests.proofs.index.Index.next_of.Goals as goal
-
-pub returns-in_default-clause-all : goal.returns-in_default-clause-all
-returns-in_default-clause-all c =
-    let nests_is = ap (λ (v : NestsView). v.nests) c.deref.ensures in
-    end_all c.args.self.now c.args.search.now (arc_value c.self.inside.nests).nests c.deref.result.now.nests
-    c.self.inside.pen.words
-    c.self.inside.ways.items c.search.inside.hash c.search.inside.looked (sym c.self.view_is) (sym c.search.view_is)
-    nests_is
-    c.self.invariant.1 c.self.invariant.2 (omega arith) c.in_default.ensures.none
-
-pub returns-clause-anew : goal.returns-clause-anew
-returns-clause-anew c =
-    let nests_is = ap (λ (v : NestsView). v.nests) c.deref.ensures in
-    let it = found_from (arc_value c.self.inside.nests).nests c.deref.result.now.nests c.self.inside.pen.words
-    c.self.inside.ways.items
-    c.search.inside.hash c.search.inside.looked c.in-Some.at nests_is c.self.invariant.1 c.self.invariant.2 (omega
-    arith)
-    c.in-Some.ensures.within c.in-Some.ensures.found c.in-Some.ensures.first in
-    let number = life_found (arc_value c.self.inside.nests).nests c.deref-2.result.now.nests c.nest-nest.result
-    c.life.result
-    c.search.inside.hash c.in-Some.at c.self.inside.pen.words c.look.new.pen.words (ap (λ (v : NestsView). v.nests)
-    c.deref-2.ensures)
-    c.nest-nest.ensures.nest (ap (λ (p : PenView). p.words) c.look.ensures.pen) c.life.ensures.life in
-    answer_anew c.args.self.now c.args.search.now (arc_value c.self.inside.nests).nests c.self.inside.pen.words
-    c.self.inside.ways.items
-    c.search.inside.hash c.search.inside.looked c.in-Some.at c.life_of.result.chunk c.life.result
-    (sym c.self.view_is) (sym c.search.view_is) it number c.life_of.ensures.chunk
-
-pub returns-clause-led : goal.returns-clause-led
-returns-clause-led c =
-    let nests_is = ap (λ (v : NestsView). v.nests) c.deref.ensures in
-    let it = found_from (arc_value c.self.inside.nests).nests c.deref.result.now.nests c.self.inside.pen.words
-    c.self.inside.ways.items
-    c.search.inside.hash c.search.inside.looked c.in-Some.at nests_is c.self.invariant.1 c.self.invariant.2 (omega
-    arith)
-    c.in-Some.ensures.within c.in-Some.ensures.found c.in-Some.ensures.first in
-    let number = life_found (arc_value c.self.inside.nests).nests c.deref-2.result.now.nests c.nest-nest.result
-    c.life.result
-    c.search.inside.hash c.in-Some.at c.self.inside.pen.words c.look.new.pen.words (ap (λ (v : NestsView). v.nests)
-    c.deref-2.ensures)
-    c.nest-nest.ensures.nest (ap (λ (p : PenView). p.words) c.look.ensures.pen) c.life.ensures.life in
-    answer_led c.args.self.now c.args.search.now (arc_value c.self.inside.nests).nests c.self.inside.pen.words
-    c.self.inside.ways.items
-    c.search.inside.hash c.search.inside.looked c.in-Some.at c.life_of.result.chunk c.life.result
-    (sym c.self.view_is) (sym c.search.view_is) it number c.life_of.ensures.chunk c.life_of.result.generation
-    c.life_of.ensures.generation
 
 pub returns-clause-answered : goal.returns-clause-answered
 returns-clause-answered c =
-    let nests_is = ap (λ (v : NestsView). v.nests) c.deref.ensures in
-    let it = found_from (arc_value c.self.inside.nests).nests c.deref.result.now.nests c.self.inside.pen.words
-    c.self.inside.ways.items
-    c.search.inside.hash c.search.inside.looked c.in-Some.at nests_is c.self.invariant.1 c.self.invariant.2 (omega
-    arith)
-    c.in-Some.ensures.within c.in-Some.ensures.found c.in-Some.ensures.first in
-    let number = life_found (arc_value c.self.inside.nests).nests c.deref-2.result.now.nests c.nest-nest.result
-    c.life.result
-    c.search.inside.hash c.in-Some.at c.self.inside.pen.words c.look.new.pen.words (ap (λ (v : NestsView). v.nests)
-    c.deref-2.ensures)
-    c.nest-nest.ensures.nest (ap (λ (p : PenView). p.words) c.look.ensures.pen) c.life.ensures.life in
-    answer_answered c.args.self.now c.args.search.now (arc_value c.self.inside.nests).nests c.self.inside.pen.words
-    c.self.inside.ways.items
-    c.search.inside.hash c.search.inside.looked c.in-Some.at c.life_of.result.chunk c.life.result
-    (sym c.self.view_is) (sym c.search.view_is) it number c.life_of.ensures.chunk _ _
-    (ap (λ (p : PenView). index_view (arc_value c.self.inside.nests).nests p.words c.self.inside.ways.items)
-    (c.life.ensures.pen ∙ c.look.ensures.pen)) refl
+    let first = c.self.inside.first in
+    let u = c.next_of.new.self in
+    let next = c.next_of.new.search in
+    subst (λ (w : IndexView). (chunk : ℕ) → has_answered (numbered_from first u) next chunk
+    ≡ (has_answered w c.args.search.now chunk || (chunk == c.numbered.result.chunk))) c.self.view_is
+    (answered_more first c.self.inside.from_zero u c.args.search.now next c.in-Some.life.chunk
+    c.numbered.result.chunk (ap (λ (i : ItemId). i.chunk) c.numbered.ensures) c.in-Some.ensures.answered)

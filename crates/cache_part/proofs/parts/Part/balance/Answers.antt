@@ -1,7 +1,7 @@
 use Rattle.std.proofs.Common.{refl, subst}
 use Rattle.cache_lists.specs.Items.{KeepsItems}
 use Rattle.cache_part.specs.Tending.{BalancesByAge}
-use Rattle.cache_part.proofs.PartLemmas.{cursor_kept, part_kept}
+use Rattle.cache_part.proofs.PartLemmas.{cursor_kept, first_kept, part_kept}
 use Rattle.cache_part.proofs.ViewLemmas.{index_stays}
 use Rattle.cache_part.proofs.parts.Part.balance.Goals as goal
 
@@ -11,6 +11,8 @@ invariant_of-self g c = (
       c.balance.new.lists.book c.self.inside.index.table c.self.invariant.0 c.balance.ensures.kept,
   c.self.invariant.1,
   cursor_kept c.self.inside.cursor c.self.inside.lists.book c.balance.new.lists.book c.balance.ensures.kept.class c.self.invariant.2,
+  first_kept c.self.inside.index.first c.self.inside.lists.book c.balance.new.lists.book c.balance.ensures.kept.class
+      c.self.invariant.3,
 )
 
 pub returns : goal.returns

@@ -1,9 +1,12 @@
-use Rattle.std.proofs.Common.{◌≡◌, ℕ, subst}
+use Rattle.std.proofs.Common.{◌∙◌, ◌≡◌, ℕ, subst}
 use Rattle.bump_steps.specs.Views.{last_word}
 use Rattle.cache_lists.specs.Items.{IsSameClass}
-use Rattle.cache_part.proofs.PartLemmas.{cursor_kept}
+use Rattle.cache_part.proofs.PartLemmas.{cursor_kept, first_kept}
 use Rattle.cache_part.proofs.ViewLemmas.{evictions_stay}
 use Rattle.cache_part.proofs.parts.Part.clear.Goals as goal
+
+pub clear-requires : goal.clear-requires
+clear-requires g c = record { part = c.self.invariant.0; first = c.self.invariant.3 }
 
 pub invariant_of-self : goal.invariant_of-self
 invariant_of-self g c = (
@@ -11,6 +14,8 @@ invariant_of-self g c = (
   c.self.invariant.1,
   cursor_kept c.self.inside.cursor c.self.inside.lists.book c.clear.new.lists.book c.clear.ensures.class
       c.self.invariant.2,
+  c.clear.ensures.first ∙ first_kept c.self.inside.index.first c.self.inside.lists.book c.clear.new.lists.book
+      c.clear.ensures.class c.self.invariant.3,
 )
 
 pub returns : goal.returns

@@ -1,7 +1,7 @@
 use Rattle.std.proofs.Common.{refl, subst}
 use Rattle.cache_part.specs.Looks.{LooksOnly}
 use Rattle.cache_part.proofs.LookLemmas.{looks_keep, label_looks, seen_rest}
-use Rattle.cache_part.proofs.PartLemmas.{cursor_kept, part_kept}
+use Rattle.cache_part.proofs.PartLemmas.{cursor_kept, first_kept, part_kept}
 use Rattle.cache_part.proofs.ViewLemmas.{book_alone}
 use Rattle.cache_part.proofs.parts.Part.expires.Goals as goal
 
@@ -13,6 +13,7 @@ invariant_of-self g c =
           c.self.invariant.0 keeps,
       c.self.invariant.1,
       cursor_kept c.self.inside.cursor from.book left.book keeps.class c.self.invariant.2,
+      first_kept c.self.inside.index.first from.book left.book keeps.class c.self.invariant.3,
     )
 
 pub returns-clause-looks : goal.returns-clause-looks

@@ -2,7 +2,7 @@ use Rattle.std.proofs.Common.{IfSome, IfNone, sym, ap, ◌∙◌, subst, arith}
 use Rattle.cache_part.specs.Looks.{LooksOnly}
 use Rattle.cache_part.specs.Parts.{IsUnder, IsUnknown}
 use Rattle.cache_part.proofs.LookLemmas.{looks_keep}
-use Rattle.cache_part.proofs.PartLemmas.{cursor_kept, part_looked, item_some, item_none}
+use Rattle.cache_part.proofs.PartLemmas.{cursor_kept, first_kept, part_looked, item_some, item_none}
 use Rattle.cache_part.proofs.ViewLemmas.{book_alone}
 use Rattle.cache_part.proofs.parts.Part.find.Goals as goal
 
@@ -21,6 +21,9 @@ invariant_of-self g c = (
   c.self.invariant.1,
   cursor_kept c.self.inside.cursor c.self.inside.lists.book c.find.new.lists.book
       (looks_keep c.self.inside.lists.book c.find.new.lists.book c.find.ensures.looks).class c.self.invariant.2,
+  ap (λ i. i.first) c.find.ensures.index
+      ∙ first_kept c.self.inside.index.first c.self.inside.lists.book c.find.new.lists.book
+      (looks_keep c.self.inside.lists.book c.find.new.lists.book c.find.ensures.looks).class c.self.invariant.3,
 )
 
 pub returns-clause-found : goal.returns-clause-found

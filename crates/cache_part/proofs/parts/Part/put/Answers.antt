@@ -8,7 +8,7 @@ use Rattle.cache_part.specs.Keys.{value_at, HasKey}
 use Rattle.cache_part.specs.Parts.{IsItem, IsPart, counted}
 use Rattle.cache_part.specs.Putting.{MakesRoom, Puts, OthersStay, TellsRow, WasAnother, IsFresh}
 use Rattle.cache_part.proofs.LinkLemmas.{part_linked, links_class, links_under, links_row, links_value, links_ended, links_stay, stay_then, gone_then, first_fact}
-use Rattle.cache_part.proofs.PartLemmas.{class_then, cursor_kept, item_linked}
+use Rattle.cache_part.proofs.PartLemmas.{class_then, cursor_kept, first_kept, item_linked}
 use Rattle.cache_part.proofs.ViewLemmas.{both_stay}
 use Rattle.cache_part.proofs.parts.Part.put.Goals as goal
 
@@ -28,8 +28,10 @@ link-requires g c =
     let all : length c.args.row.now ≡ c.self.inside.settings.key_words + c.self.inside.settings.value_words =
     c.requires.words ∙ sym (ap (λ v. v.key_words + v.value_words) c.self.view_is) in
     let made = c.make_room-room.ensures in let kw = c.self.inside.settings.key_words in record {
+      first = made.first ∙ first_kept c.self.inside.index.first c.self.inside.lists.book c.make_room-room.new.lists.book
+          made.class c.self.invariant.3;
       count = made.part.count;
-      first = made.part.first;
+      own = made.part.own;
       leads = made.part.agrees.leads;
       old = item_linked kw (take kw c.args.row.now) c.make_room-room.result.found.chunk
           c.make_room-room.new.lists.book.part made.item;
@@ -48,6 +50,8 @@ invariant_of-self g c =
       c.self.invariant.1,
       cursor_kept c.self.inside.cursor c.self.inside.lists.book c.link.new.lists.book (subst R (sym none.none) made.class)
           c.self.invariant.2,
+      none.first ∙ (made.first ∙ first_kept c.self.inside.index.first c.self.inside.lists.book c.link.new.lists.book
+          (subst R (sym none.none) made.class) c.self.invariant.3),
     )
 
 pub returns-in_default : goal.returns-in_default
@@ -93,17 +97,19 @@ invariant_of-self-2 g c =
     let seed = c.self.inside.settings.seed in let kw = c.self.inside.settings.key_words in
     let after = c.link.new.lists in
     let all : length c.args.row.now ≡ c.self.inside.settings.key_words + c.self.inside.settings.value_words =
-    c.requires.words ∙ sym (ap (λ v. v.key_words + v.value_words) c.self.view_is) in (
+    c.requires.words ∙ sym (ap (λ v. v.key_words + v.value_words) c.self.view_is) in
+    let class = class_then c.self.inside.lists.book c.make_room-room.new.lists.book after.book made.class
+    (links_class c.self.inside.settings.temporary c.make_room-room.result.found.chunk c.args.row.now c.args.expires
+    c.args.now c.in-Some.id c.make_room-room.new.lists.book after.book did.links) in (
       subst (IsPart seed kw after.book.part) (sym did.table)
           (part_linked seed kw c.make_room-room.new.lists.book after.book c.make_room-room.new.index.table made.part
           c.args.row.now c.args.expires (omega (arith, all)) c.self.inside.settings.temporary
           c.make_room-room.result.found.chunk c.in-Some.id c.make_room-room.result.found.hash c.args.now did.links made.hash
           made.item),
       c.self.invariant.1,
-      cursor_kept c.self.inside.cursor c.self.inside.lists.book after.book
-          (class_then c.self.inside.lists.book c.make_room-room.new.lists.book after.book made.class
-          (links_class c.self.inside.settings.temporary c.make_room-room.result.found.chunk c.args.row.now c.args.expires
-          c.args.now c.in-Some.id c.make_room-room.new.lists.book after.book did.links)) c.self.invariant.2,
+      cursor_kept c.self.inside.cursor c.self.inside.lists.book after.book class c.self.invariant.2,
+      did.first ∙ (made.first ∙ first_kept c.self.inside.index.first c.self.inside.lists.book after.book class
+          c.self.invariant.3),
     )
 
 pub returns : goal.returns

@@ -4,7 +4,7 @@ use Rattle.cache_lists.specs.Items.{EndsAt}
 use Rattle.cache_lists.specs.Segments.{SameSegments}
 use Rattle.cache_part.specs.Looks.{LooksOnly}
 use Rattle.cache_part.specs.Parts.{IsUnder, IsUnknown}
-use Rattle.cache_part.proofs.PartLemmas.{cursor_kept}
+use Rattle.cache_part.proofs.PartLemmas.{cursor_kept, first_kept}
 use Rattle.cache_part.proofs.ViewLemmas.{evictions_stay, none_changes}
 use Rattle.cache_part.proofs.parts.Part.remove.Goals as goal
 
@@ -21,6 +21,8 @@ invariant_of-self g c = (
   c.self.invariant.1,
   cursor_kept c.self.inside.cursor c.self.inside.lists.book c.remove.new.lists.book c.remove.ensures.class
       c.self.invariant.2,
+  c.remove.ensures.first ∙ first_kept c.self.inside.index.first c.self.inside.lists.book c.remove.new.lists.book
+      c.remove.ensures.class c.self.invariant.3,
 )
 
 pub returns : goal.returns

@@ -1,7 +1,7 @@
 use Rattle.std.proofs.Common.{subst}
+use Rattle.cache_part.specs.Expiring.{LooksInTurn}
 use Rattle.cache_shelf.specs.Entries.{AllUnexpiredKept}
 use Rattle.cache_shelf.specs.Shelves.{ShelfView}
-use Rattle.cache_shelf.specs.Turns.{LooksInTurn}
 use Rattle.cache_shelf.proofs.Keeping.{alike_tended, unexpired_all, unexpired_lawful}
 use Rattle.cache_shelf.proofs.shelves.Shelf.tend.Goals as goal
 
@@ -16,7 +16,7 @@ invariant_of-self g c =
 pub returns-clause-looked : goal.returns-clause-looked
 returns-clause-looked g c =
     subst (λ (from : ShelfView). LooksInTurn from.limits.looks c.args.now from.part c.tend.new.self) c.self.view_is
-    (record { ended = c.tend.ensures.ended; cursor = c.tend.ensures.cursor })
+    c.tend.ensures.looked
 
 pub returns-clause-kept : goal.returns-clause-kept
 returns-clause-kept g c =

@@ -1,0 +1,91 @@
+-- The reader of a key's part, and what it leaves of the readers.
+use Rattle.std.proofs.Common.{◌≡◌, ℕ, ◌*◌, ◌/◌, ◌%◌, ◌<◌, ◌≤◌, List, length, set, get_or, map, Option, Some, None, IfSome, IfNone, sym, ap, ◌∙◌, subst, arith}
+use Rattle.std.specs.List.{slice_get}
+use Rattle.std.specs.Prelude.{Vec}
+use Rattle.std.specs.Vec.{with_items}
+use Rattle.std.proofs.lemmas.List.{with_items_is}
+use Rattle.std.proofs.Math.Nat.{div-lt_iff_lt-mul, mod-lt, mul-le-mul_right}
+use Rattle.std.proofs.Math.Seq.{map-set_same}
+use Rattle.std.proofs.lemmas.Option.{get_or_from_slice_get, slice_get_read}
+use Rattle.keyed_hash.specs.declared.seed.Seed.{Seed}
+use Rattle.keyed_hash.specs.Hashes.{hash_of}
+use Rattle.bump_ring.specs.Ends.{Ring}
+use Rattle.cache_readers.specs.Readers.{KeepsRing, ReaderView}
+use Rattle.bump_cache.specs.Choosing.{part_of}
+use Rattle.bump_cache.specs.Readers.{CacheReaderView, InPart, KeepsRings, readers_by}
+
+-- The reader at this place is that of the key's part, and another one stands in its place now.
+pub record IsChosen (seed : Seed) (key : List ℕ) (befores afters : List ReaderView) (from to : ReaderView) : Type 0
+  where
+    pub was : slice_get befores (part_of (length befores) (hash_of seed key)) ≡ Some from
+    pub is : afters ≡ set befores (part_of (length befores) (hash_of seed key)) to
+
+-- so it is, where the place was reckoned by the hash of the key's words
+pub chosen : (seed : Seed) (key words : List ℕ) (befores afters : List ReaderView) (from to : ReaderView)
+    (hash count part : ℕ) → words ≡ key → hash ≡ hash_of seed words → count ≡ length befores
+    → part ≡ part_of count hash → part < count → get_or befores part from ≡ from → afters ≡ set befores part to
+    → IsChosen seed key befores afters from to
+chosen seed key words befores afters from to hash count part packed hashed counted is within read written =
+    let place : part ≡ part_of (length befores) (hash_of seed key) =
+    is ∙ (ap (λ n. part_of n hash) counted ∙ ap (part_of (length befores)) (hashed ∙ ap (hash_of seed) packed)) in
+    record {
+      was = ap (slice_get befores) (sym place) ∙ slice_get_read befores count part from counted within (sym read);
+      is = written ∙ ap (λ n. set befores n to) place;
+    }
+
+-- a part chosen by 8 bits is one of the parts
+pub below_parts : (parts hash : ℕ) → 1 ≤ parts → parts ≤ 16 → hash / 256 % 256 * parts / 256 < parts
+below_parts parts hash some few =
+    let eight : hash / 256 % 256 < 256 = mod-lt (hash / 256) (omega arith) in
+    let most : hash / 256 % 256 * parts ≤ 255 * parts = mul-le-mul_right parts (omega (arith, eight)) in
+    (div-lt_iff_lt-mul (omega arith)).1 (omega (arith, most, some))
+
+module _ (seed : Seed) (key : List ℕ) (befores afters : List ReaderView) (from to : ReaderView)
+    (choice : IsChosen seed key befores afters from to) where
+  -- what it does is done in the key's part
+  pub in_part : (Does : ReaderView → ReaderView → Type 0) → Does from to
+      → InPart Does key (readers_by seed befores) (readers_by seed afters)
+  in_part Does does = record {
+    from = from;
+    to = to;
+    was = choice.was;
+    does = does;
+    others = ap (readers_by seed) choice.is;
+  }
+
+  -- and so is what it does where it answers something
+  pub in_part_some : {A : Type 0} (told : Option A) (Does : A → ReaderView → ReaderView → Type 0)
+      → IfSome told (λ it. Does it from to)
+      → IfSome told (λ it. InPart (Does it) key (readers_by seed befores) (readers_by seed afters))
+  in_part_some None Does does = tt
+  in_part_some (Some it) Does does = in_part (Does it) does
+
+  -- or nothing
+  pub in_part_none : {A : Type 0} (told : Option A) (Does : ReaderView → ReaderView → Type 0)
+      → IfNone told (Does from to)
+      → IfNone told (InPart Does key (readers_by seed befores) (readers_by seed afters))
+  in_part_none None Does does = in_part Does does
+  in_part_none (Some it) Does does = tt
+
+  -- where it keeps its ring, all keep theirs
+  pub keeps_rings : KeepsRing from to → KeepsRings (readers_by seed befores) (readers_by seed afters)
+  keeps_rings keeps = ap (map ring) choice.is
+      ∙ map-set_same ring befores place to from (keeps ∙ ap ring (sym (get_or_from_slice_get befores place from from
+      choice.was)))
+    where
+      ring : ReaderView → Ring
+      ring reader = reader.worker.sender.ring
+
+      place : ℕ
+      place = part_of (length befores) (hash_of seed key)
+
+-- what was done in a part of views is done in that of ones that are the same
+pub in_same : (Does : ReaderView → ReaderView → Type 0) (key : List ℕ) (before from to after : CacheReaderView)
+    → from ≡ before → to ≡ after → InPart Does key from to → InPart Does key before after
+in_same Does key before from to after same end did =
+    subst (λ view. InPart Does key view after) same (subst (λ view. InPart Does key from view) end did)
+
+-- readers that were written into a vector are those that it has
+pub written : {Z : Type 0} (seed : Seed) (held : Vec ReaderView Z) (parts : List ReaderView) → length parts ≡ held.len
+    → readers_by seed parts ≡ readers_by seed (with_items held parts).items
+written seed held parts long = sym (ap (readers_by seed) (with_items_is held parts long))

@@ -1,0 +1,22 @@
+use Rattle.std.proofs.Common.{rules, ◌≡◌, sym, ◌∙◌, ap}
+use Rattle.std.specs.Sync.Mutex.{mutex_guard_value}
+use Rattle.bump_cache.specs.States.{number_of}
+use Rattle.bump_cache.specs.Tending.{TendsInTurn}
+use Rattle.bump_cache.proofs.Noting.{of_both, same_shelf}
+use Rattle.bump_cache.proofs.caches.Cache.tend_part.Goals as goal
+
+pub returns : goal.returns
+returns g c =
+    let guarded : c.logged.inside.log.number ≡ (mutex_guard_value c.lock_part-guard.result).number = search rules in
+    let did = c.tend.ensures in record {
+      call = c.note.ensures.call;
+      part = ap number_of c.note.ensures.to ∙ (c.logged.invariant.1 ∙ (guarded ∙ c.lock_part-guard.ensures));
+      tends = of_both (TendsInTurn c.args.now) _ _ _ _
+          (same_shelf (c.logged.invariant.0 ∙ sym c.note.ensures.from)) (same_shelf (sym c.note.ensures.to)) (record {
+            tends = did.tends;
+            looked = did.looked;
+            unexpired = did.unexpired;
+            kept = did.kept;
+            same = did.same;
+          });
+    }

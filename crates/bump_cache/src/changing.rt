@@ -1,0 +1,383 @@
+//! Calls that look first, and put where it is due: under one lock, as one call.
+ghost use Rattle.std.specs.Prelude.{◌≡◌, ◌<◌, IfSome, IfNone, IfOk, IfErr, None, Some, IsSome, false, is_some};
+ghost use Rattle.std.specs.Fn.{FnOnceReturnsAt};
+ghost use Rattle.cache_shelf.specs.Entries.{AllKept, Keeps, OthersKept, ReadsShelf};
+ghost use Rattle.cache_shelf.specs.Shelves.{with_put};
+ghost use Rattle.call_log.specs.Calls.{MakesOne};
+ghost use Rattle.bump_cache.specs.Caches.{part_in};
+ghost use Rattle.bump_cache.specs.Changing.{Adds, BehindLook, Changes, ChangesWhereSome, GetsOrPuts, HadSome, IfAdded, IfGot, IfHas, IfMade, RefusesAnew, RefusesNew, ReplacesWhereSome, TouchesWhereSome};
+ghost use Rattle.bump_cache.specs.Putting.{HadValue, PutsRow, RefusesRow, WasEvicted, evicted_key};
+ghost use Rattle.bump_cache.specs.States.{from_of, part_called, to_of};
+
+use crate::answers::{Added, GotOrPut, NoRoom, Put};
+use crate::caches::Cache;
+use crate::pairs::Pairs;
+use crate::states::CacheState;
+use bump_heads::Name;
+use call_log::{Caller, LogName};
+use packed_words::Packed;
+use std::sync::Wait;
+
+// What a closure makes of a value.
+fn changed_by<V: Packed, F: FnOnce(&V) -> V>(had: V, change: F) -> V
+    requires callable { F.IsAlwaysCallable change }
+    ensures { FnOnceReturnsAt F.FnOnce change had result }
+{
+    change(&had)
+}
+
+impl<N: Name, K: Packed, V: Packed> Pairs<N, K, V> {
+    /// Puts a value under a key that has nothing, or what has expired.
+    pub(crate) fn add(
+        &mut self,
+        key: &K,
+        value: &V,
+        expires: u64,
+        now: u64,
+    ) -> Result<Added<K, V>, NoRoom<K, V>>
+        ensures adds { IfOk result (λ did. Adds K.as_words V.as_words (K.as_words key.now) (V.as_words value.now)
+            expires now did self.old self.new) }
+        ensures refuses { IfErr result (λ why. RefusesNew K.as_words V.as_words (K.as_words key.now) now why self.old
+            self.new) }
+        ensures same { self.new ≡ with_put self.new self.old }
+    {
+        if let Some((has, _)) = self.look(key, now) {
+            return Ok(Added::Has(has));
+        }
+        match self.put(key, value, expires, now) {
+            Ok(did) => {
+                let evicted = did.evicted;
+                Ok(Added::Put { evicted })
+            }
+            Err(why) => Err(why),
+        }
+    }
+
+    /// Puts a value in the place of what a key has that hasn't expired.
+    pub(crate) fn replace(
+        &mut self,
+        key: &K,
+        value: &V,
+        expires: u64,
+        now: u64,
+    ) -> Result<Option<Put<K, V>>, NoRoom<K, V>>
+        ensures replaces { IfOk result (λ told. ReplacesWhereSome V.as_words (K.as_words key.now) (V.as_words value.now)
+            expires now told self.old self.new) }
+        ensures refuses { IfErr result (λ why. RefusesAnew (K.as_words key.now) now why self.old self.new) }
+        ensures same { self.new ≡ with_put self.new self.old }
+    {
+        let Some(_) = self.look(key, now) else {
+            return Ok(None);
+        };
+        match self.put(key, value, expires, now) {
+            Ok(did) => Ok(Some(did)),
+            Err(why) => Err(why),
+        }
+    }
+
+    /// Puts what a key has that hasn't expired anew, so that it expires then.
+    pub(crate) fn touch(
+        &mut self,
+        key: &K,
+        expires: u64,
+        now: u64,
+    ) -> Result<Option<V>, NoRoom<K, V>>
+        ensures touches { IfOk result (λ told. TouchesWhereSome V.as_words (K.as_words key.now) expires now told
+            self.old self.new) }
+        ensures refuses { IfErr result (λ why. RefusesAnew (K.as_words key.now) now why self.old self.new) }
+        ensures same { self.new ≡ with_put self.new self.old }
+    {
+        let Some((value, _)) = self.look(key, now) else {
+            return Ok(None);
+        };
+        match self.put(key, &value, expires, now) {
+            Ok(_) => Ok(Some(value)),
+            Err(why) => Err(why),
+        }
+    }
+
+    /// Puts what a closure makes of what a key has that hasn't expired in its place.
+    pub(crate) fn update<F: FnOnce(&V) -> V>(
+        &mut self,
+        key: &K,
+        now: u64,
+        change: F,
+    ) -> Result<Option<V>, NoRoom<K, V>>
+        requires callable { F.IsAlwaysCallable change }
+        ensures changes { IfOk result (λ told. ChangesWhereSome V.fits V.as_words (FnOnceReturnsAt F.FnOnce change)
+            (K.as_words key.now) now told self.old self.new) }
+        ensures refuses { IfErr result (λ why. RefusesAnew (K.as_words key.now) now why self.old self.new) }
+        ensures same { self.new ≡ with_put self.new self.old }
+    {
+        let Some((had, expires)) = self.look(key, now) else {
+            return Ok(None);
+        };
+        let changed = changed_by(had, change);
+        match self.put(key, &changed, expires, now) {
+            Ok(_) => Ok(Some(changed)),
+            Err(why) => Err(why),
+        }
+    }
+
+    /// What a key has; or else what a closure makes, which is put under it.
+    pub(crate) fn get_or_put<F: FnOnce() -> V>(
+        &mut self,
+        key: &K,
+        expires: u64,
+        now: u64,
+        make: F,
+    ) -> Result<GotOrPut<K, V>, NoRoom<K, V>>
+        requires callable { F.IsAlwaysCallable make }
+        ensures puts { IfOk result (λ did. GetsOrPuts K.as_words V.as_words (F.post make) (K.as_words key.now) expires
+            now did self.old self.new) }
+        ensures refuses { IfErr result (λ why. RefusesNew K.as_words V.as_words (K.as_words key.now) now why self.old
+            self.new) }
+        ensures same { self.new ≡ with_put self.new self.old }
+    {
+        if let Some((value, _)) = self.look(key, now) {
+            return Ok(GotOrPut::Got(value));
+        }
+        let made = make();
+        match self.put(key, &made, expires, now) {
+            Ok(did) => Ok(GotOrPut::Put {
+                value: made,
+                evicted: did.evicted,
+            }),
+            Err(why) => Err(why),
+        }
+    }
+}
+
+impl<N: Name + LogName, K: Packed, V: Packed> Cache<N, K, V> {
+    /// Puts a value under a key that has nothing, or what has expired at `now`, as memcached's `add`; where it has
+    /// something, it answers that, and puts nothing. It looks and puts as one call, so of many that add one key at a
+    /// time one alone puts. The value expires at `expires`, and 0 is never; times are in the caller's ticks. What it
+    /// looks at isn't touched: a get does that. It waits until no other thread changes the key's part.
+    ///
+    /// Where it puts it does what `put_until` does, and is refused, as `NoRoom`, exactly where that is; the key has
+    /// nothing then.
+    pub fn add<W: Wait>(
+        &self,
+        rt: &W,
+        me: &mut Caller<N, CacheState>,
+        key: &K,
+        value: &V,
+        expires: u64,
+        now: u64,
+    ) -> Result<Added<K, V>, NoRoom<K, V>>
+        requires part { 0 < me.old.parts }
+        ensures call { MakesOne me.old me.new }
+        ensures part { part_called me.new ≡ part_in self.now (K.as_words key.now) }
+        ensures has { IfOk result (λ did. IfHas did (λ has. HadValue (K.as_words key.now) (Some (V.as_words has)) now
+            (from_of me.new).part)) }
+        ensures unchanged { IfOk result (λ did. IfHas did (λ has. ReadsShelf (from_of me.new) (to_of me.new))) }
+        ensures free { IfOk result (λ did. IfAdded did (λ evicted. HadValue (K.as_words key.now) None now
+            (from_of me.new).part)) }
+        ensures kept { IfOk result (λ did. IfAdded did (λ evicted. Keeps (K.as_words key.now) (V.as_words value.now)
+            expires (to_of me.new).part)) }
+        ensures evicted { IfOk result (λ did. IfAdded did (λ evicted. IfSome evicted (λ it. WasEvicted K.as_words
+            V.as_words it now (from_of me.new).part (to_of me.new).part))) }
+        ensures others { IfOk result (λ did. IfAdded did (λ evicted. OthersKept (K.as_words key.now)
+            (evicted_key K.as_words evicted) (from_of me.new).part (to_of me.new).part)) }
+        ensures puts { IfOk result (λ did. IfAdded did (λ evicted. BehindLook (PutsRow (K.as_words key.now)
+            (V.as_words value.now) expires now (is_some evicted)) (from_of me.new) (to_of me.new))) }
+        ensures free_refused { IfErr result (λ why. HadValue (K.as_words key.now) None now (from_of me.new).part) }
+        ensures evicted_refused { IfErr result (λ why. IfSome why.evicted (λ it. WasEvicted K.as_words V.as_words it now
+            (from_of me.new).part (to_of me.new).part)) }
+        ensures stay { IfErr result (λ why. AllKept (evicted_key K.as_words why.evicted) (from_of me.new).part
+            (to_of me.new).part) }
+        ensures refuses { IfErr result (λ why. BehindLook (RefusesRow (K.as_words key.now) now (is_some why.evicted))
+            (from_of me.new) (to_of me.new)) }
+        ensures same { to_of me.new ≡ with_put (to_of me.new) (from_of me.new) }
+    {
+        let mut guard = self.lock_of(rt, key);
+        let logged = &mut *guard;
+        let added = logged.value.pairs.add(key, value, expires, now);
+        logged.log.note(rt, me, &logged.value);
+        added
+    }
+
+    /// Puts a value in the place of what a key has that hasn't expired at `now`, as memcached's `replace`; where it has
+    /// nothing, or what has expired, it answers None, and puts nothing. It looks and puts as one call. The value
+    /// expires at `expires`, and 0 is never; times are in the caller's ticks. It waits until no other thread changes
+    /// the cache.
+    ///
+    /// Where it puts it does what `put_until` does, and tells what the key had; nothing is evicted, since the key has
+    /// an item. It is refused, as `NoRoom`, exactly where that is; the key keeps what it had.
+    pub fn replace<W: Wait>(
+        &self,
+        rt: &W,
+        me: &mut Caller<N, CacheState>,
+        key: &K,
+        value: &V,
+        expires: u64,
+        now: u64,
+    ) -> Result<Option<Put<K, V>>, NoRoom<K, V>>
+        requires part { 0 < me.old.parts }
+        ensures call { MakesOne me.old me.new }
+        ensures part { part_called me.new ≡ part_in self.now (K.as_words key.now) }
+        ensures absent { IfOk result (λ told. IfNone told (HadValue (K.as_words key.now) None now
+            (from_of me.new).part)) }
+        ensures unchanged { IfOk result (λ told. IfNone told (ReadsShelf (from_of me.new) (to_of me.new))) }
+        ensures old { IfOk result (λ told. IfSome told (λ did. IfSome did.old (λ had. HadValue (K.as_words key.now)
+            (Some (V.as_words had)) now (from_of me.new).part))) }
+        ensures told { IfOk result (λ told. IfSome told (λ did. IsSome did.old)) }
+        ensures none_evicted { IfOk result (λ told. IfSome told (λ did. did.evicted ≡ None)) }
+        ensures kept { IfOk result (λ told. IfSome told (λ did. Keeps (K.as_words key.now) (V.as_words value.now)
+            expires (to_of me.new).part)) }
+        ensures others { IfOk result (λ told. IfSome told (λ did. OthersKept (K.as_words key.now) None
+            (from_of me.new).part (to_of me.new).part)) }
+        ensures puts { IfOk result (λ told. IfSome told (λ did. BehindLook (PutsRow (K.as_words key.now)
+            (V.as_words value.now) expires now false) (from_of me.new) (to_of me.new))) }
+        ensures had_refused { IfErr result (λ why. HadSome (K.as_words key.now) now (from_of me.new).part) }
+        ensures none_refused { IfErr result (λ why. why.evicted ≡ None) }
+        ensures stay { IfErr result (λ why. AllKept None (from_of me.new).part (to_of me.new).part) }
+        ensures refuses { IfErr result (λ why. BehindLook (RefusesRow (K.as_words key.now) now false) (from_of me.new)
+            (to_of me.new)) }
+        ensures same { to_of me.new ≡ with_put (to_of me.new) (from_of me.new) }
+    {
+        let mut guard = self.lock_of(rt, key);
+        let logged = &mut *guard;
+        let replaced = logged.value.pairs.replace(key, value, expires, now);
+        logged.log.note(rt, me, &logged.value);
+        replaced
+    }
+
+    /// Lets what a key has that hasn't expired at `now` expire at another time, and answers it, as memcached's `gat`
+    /// and `touch`; where it has nothing, or what has expired, it answers None, and changes nothing. 0 is never; times
+    /// are in the caller's ticks. It waits until no other thread changes the key's part.
+    ///
+    /// When an item expires is fixed for its life. So the same value is put anew, as `put_until` does it: it goes to
+    /// the front of HOT or TEMP, whatever its marks were, and needs a chunk, as a put does. It is refused, as `NoRoom`,
+    /// exactly where that is; the key keeps its value, which expires when it did. Nothing is evicted, since the key has
+    /// an item.
+    pub fn touch<W: Wait>(
+        &self,
+        rt: &W,
+        me: &mut Caller<N, CacheState>,
+        key: &K,
+        expires: u64,
+        now: u64,
+    ) -> Result<Option<V>, NoRoom<K, V>>
+        requires part { 0 < me.old.parts }
+        ensures call { MakesOne me.old me.new }
+        ensures part { part_called me.new ≡ part_in self.now (K.as_words key.now) }
+        ensures absent { IfOk result (λ told. IfNone told (HadValue (K.as_words key.now) None now
+            (from_of me.new).part)) }
+        ensures unchanged { IfOk result (λ told. IfNone told (ReadsShelf (from_of me.new) (to_of me.new))) }
+        ensures had { IfOk result (λ told. IfSome told (λ value. HadValue (K.as_words key.now) (Some (V.as_words value))
+            now (from_of me.new).part)) }
+        ensures kept { IfOk result (λ told. IfSome told (λ value. Keeps (K.as_words key.now) (V.as_words value) expires
+            (to_of me.new).part)) }
+        ensures others { IfOk result (λ told. IfSome told (λ value. OthersKept (K.as_words key.now) None
+            (from_of me.new).part (to_of me.new).part)) }
+        ensures puts { IfOk result (λ told. IfSome told (λ value. BehindLook (PutsRow (K.as_words key.now)
+            (V.as_words value) expires now false) (from_of me.new) (to_of me.new))) }
+        ensures had_refused { IfErr result (λ why. HadSome (K.as_words key.now) now (from_of me.new).part) }
+        ensures none_refused { IfErr result (λ why. why.evicted ≡ None) }
+        ensures stay { IfErr result (λ why. AllKept None (from_of me.new).part (to_of me.new).part) }
+        ensures refuses { IfErr result (λ why. BehindLook (RefusesRow (K.as_words key.now) now false) (from_of me.new)
+            (to_of me.new)) }
+        ensures same { to_of me.new ≡ with_put (to_of me.new) (from_of me.new) }
+    {
+        let mut guard = self.lock_of(rt, key);
+        let logged = &mut *guard;
+        let touched = logged.value.pairs.touch(key, expires, now);
+        logged.log.note(rt, me, &logged.value);
+        touched
+    }
+
+    /// Changes what a key has that hasn't expired at `now`, in the caller's ticks, and answers the new value, as
+    /// memcached's `incr`, `append` and the like; where the key has nothing, or what has expired, it answers None,
+    /// changes nothing and doesn't call `change`. No other thread changes the key's part in between, so no change is lost;
+    /// it waits until none does, and the others wait until `change` is done. `change` mustn't change this cache: it
+    /// would wait for itself.
+    ///
+    /// What `change` answers is put as `put_until` does it, and expires when the old value did: it goes to the front of
+    /// HOT or TEMP, and needs a chunk, as a put does. It is refused, as `NoRoom`, exactly where that is, behind the
+    /// call of `change`; the key keeps what it had. Nothing is evicted, since the key has an item.
+    pub fn update<W: Wait, F: FnOnce(&V) -> V>(
+        &self,
+        rt: &W,
+        me: &mut Caller<N, CacheState>,
+        key: &K,
+        now: u64,
+        change: F,
+    ) -> Result<Option<V>, NoRoom<K, V>>
+        requires part { 0 < me.old.parts }
+        requires callable { F.IsAlwaysCallable change }
+        ensures call { MakesOne me.old me.new }
+        ensures part { part_called me.new ≡ part_in self.now (K.as_words key.now) }
+        ensures absent { IfOk result (λ told. IfNone told (HadValue (K.as_words key.now) None now
+            (from_of me.new).part)) }
+        ensures unchanged { IfOk result (λ told. IfNone told (ReadsShelf (from_of me.new) (to_of me.new))) }
+        ensures changes { IfOk result (λ told. IfSome told (λ value. Changes V.fits V.as_words
+            (FnOnceReturnsAt F.FnOnce change) (K.as_words key.now) now value (from_of me.new) (to_of me.new))) }
+        ensures others { IfOk result (λ told. IfSome told (λ value. OthersKept (K.as_words key.now) None
+            (from_of me.new).part (to_of me.new).part)) }
+        ensures had_refused { IfErr result (λ why. HadSome (K.as_words key.now) now (from_of me.new).part) }
+        ensures none_refused { IfErr result (λ why. why.evicted ≡ None) }
+        ensures stay { IfErr result (λ why. AllKept None (from_of me.new).part (to_of me.new).part) }
+        ensures refuses { IfErr result (λ why. BehindLook (RefusesRow (K.as_words key.now) now false) (from_of me.new)
+            (to_of me.new)) }
+        ensures same { to_of me.new ≡ with_put (to_of me.new) (from_of me.new) }
+    {
+        let mut guard = self.lock_of(rt, key);
+        let logged = &mut *guard;
+        let updated = logged.value.pairs.update(key, now, change);
+        logged.log.note(rt, me, &logged.value);
+        updated
+    }
+
+    /// What a key has that hasn't expired at `now`; where it has nothing, or what has expired, what `make` answers is
+    /// put under it. So of many threads that miss one key one alone makes its value, where each of them calls this
+    /// behind its miss. Where something is there `make` isn't called, and nothing is touched: a get does that. The
+    /// value expires at `expires`, and 0 is never; times are in the caller's ticks. It waits until no other thread
+    /// changes the key's part, and the others wait until `make` is done. `make` mustn't change this cache: it would wait for
+    /// itself.
+    ///
+    /// Where it puts it does what `put_until` does, and is refused, as `NoRoom`, exactly where that is, behind the call
+    /// of `make`; the key has nothing then.
+    pub fn get_or_put<W: Wait, F: FnOnce() -> V>(
+        &self,
+        rt: &W,
+        me: &mut Caller<N, CacheState>,
+        key: &K,
+        expires: u64,
+        now: u64,
+        make: F,
+    ) -> Result<GotOrPut<K, V>, NoRoom<K, V>>
+        requires part { 0 < me.old.parts }
+        requires callable { F.IsAlwaysCallable make }
+        ensures call { MakesOne me.old me.new }
+        ensures part { part_called me.new ≡ part_in self.now (K.as_words key.now) }
+        ensures got { IfOk result (λ did. IfGot did (λ value. HadValue (K.as_words key.now) (Some (V.as_words value))
+            now (from_of me.new).part)) }
+        ensures unchanged { IfOk result (λ did. IfGot did (λ value. ReadsShelf (from_of me.new) (to_of me.new))) }
+        ensures made { IfOk result (λ did. IfMade did (λ value evicted. F.post make value)) }
+        ensures free { IfOk result (λ did. IfMade did (λ value evicted. HadValue (K.as_words key.now) None now
+            (from_of me.new).part)) }
+        ensures kept { IfOk result (λ did. IfMade did (λ value evicted. Keeps (K.as_words key.now) (V.as_words value)
+            expires (to_of me.new).part)) }
+        ensures evicted { IfOk result (λ did. IfMade did (λ value evicted. IfSome evicted (λ it. WasEvicted K.as_words
+            V.as_words it now (from_of me.new).part (to_of me.new).part))) }
+        ensures others { IfOk result (λ did. IfMade did (λ value evicted. OthersKept (K.as_words key.now)
+            (evicted_key K.as_words evicted) (from_of me.new).part (to_of me.new).part)) }
+        ensures puts { IfOk result (λ did. IfMade did (λ value evicted. BehindLook (PutsRow (K.as_words key.now)
+            (V.as_words value) expires now (is_some evicted)) (from_of me.new) (to_of me.new))) }
+        ensures free_refused { IfErr result (λ why. HadValue (K.as_words key.now) None now (from_of me.new).part) }
+        ensures evicted_refused { IfErr result (λ why. IfSome why.evicted (λ it. WasEvicted K.as_words V.as_words it now
+            (from_of me.new).part (to_of me.new).part)) }
+        ensures stay { IfErr result (λ why. AllKept (evicted_key K.as_words why.evicted) (from_of me.new).part
+            (to_of me.new).part) }
+        ensures refuses { IfErr result (λ why. BehindLook (RefusesRow (K.as_words key.now) now (is_some why.evicted))
+            (from_of me.new) (to_of me.new)) }
+        ensures same { to_of me.new ≡ with_put (to_of me.new) (from_of me.new) }
+    {
+        let mut guard = self.lock_of(rt, key);
+        let logged = &mut *guard;
+        let got = logged.value.pairs.get_or_put(key, expires, now, make);
+        logged.log.note(rt, me, &logged.value);
+        got
+    }
+}

@@ -1,0 +1,131 @@
+//! Look-ups by text and by bytes, a reader's counts as other threads read them, and a tend that sleeps.
+ghost use Rattle.std.specs.Prelude.{◌≡◌};
+
+use crate::stands::{Changer, Entry, config_of};
+use bump_cache::{
+    Bytes, Cache, CacheBlank, CacheReader, LogName, Name, Opened, ReaderCounts, open,
+};
+use std::alloc::Global;
+use std::marker::Brand;
+use std::process::Abort;
+use std::sync::Wait;
+use std::sync::atomic::{AtomicBool, AtomicU64, Ordering};
+use std::test::Fail;
+use std::thread;
+use std::thread::Threads;
+use std::time::Clock;
+
+// A string of 15 bytes: one more than a key has room for.
+const LONG: &str = "fifteen letters";
+
+// The counts that a reader published: hits, misses, accepted and dropped bumps.
+fn published(counts: &ReaderCounts) -> (u64, u64, u64, u64) {
+    (
+        counts.hits(),
+        counts.misses(),
+        counts.bumps_accepted(),
+        counts.bumps_dropped(),
+    )
+}
+
+// Each look-up finds what was put under the string, and nothing under one that is too long.
+fn look_up<N: Name, R: Abort>(
+    rt: &R,
+    alloc: Global,
+    reader: &mut CacheReader<N, Bytes<2>, u64>,
+) -> Result<(), Fail> {
+    let counts = ReaderCounts::new(alloc)?;
+    let others = counts.try_clone()?;
+    assert_eq!(rt; reader.get_text("fourteen bytes", 1), Some(14));
+    assert_eq!(rt; reader.get_text("fourteen byte", 1), None);
+    assert_eq!(rt; reader.get_bytes(&[0, 255, 0], 1), Some(3));
+    assert_eq!(rt; reader.get_bytes(&[0, 255], 1), None);
+    assert!(rt; reader.contains_text("fourteen bytes", 1));
+    assert!(rt; !reader.contains_text("", 1));
+    assert!(rt; reader.contains_bytes(&[0, 255, 0], 1));
+    assert!(rt; !reader.contains_bytes(&[0, 255, 0, 0], 1));
+    assert_eq!(rt; published(&others), (0, 0, 0, 0));
+    reader.publish(&counts);
+    assert_eq!(rt; published(&others), (2, 2, 0, 0));
+    assert_eq!(rt; reader.get_text(LONG, 1), None);
+    assert_eq!(rt; reader.get_bytes(LONG.as_bytes(), 1), None);
+    assert!(rt; !reader.contains_text(LONG, 1));
+    assert!(rt; !reader.contains_bytes(LONG.as_bytes(), 1));
+    reader.publish(&counts);
+    assert_eq!(rt; published(&others), (2, 2, 0, 0));
+    Ok(())
+}
+
+// Removes strings that are there, and others.
+fn remove_all<N: Name + LogName, R: Wait>(
+    rt: &R,
+    cache: &Cache<N, Bytes<2>, u64>,
+    mut changer: Changer<N>,
+) -> [Option<u64>; 5] {
+    [
+        changer.remove_text(rt, cache, "fourteen bytes", 2),
+        changer.remove_text(rt, cache, "fourteen bytes", 2),
+        changer.remove_text(rt, cache, LONG, 2),
+        changer.remove_bytes(rt, cache, &[0, 255, 0], 2),
+        changer.remove_bytes(rt, cache, LONG.as_bytes(), 2),
+    ]
+}
+
+// One thread tends and sleeps until the other, which removes, says that it is done.
+fn remove_beside_tends<N: Name + LogName + Send + Sync, R: Threads + Wait + Clock + Sync>(
+    rt: &R,
+    cache: &Cache<N, Bytes<2>, u64>,
+    changer: Changer<N>,
+    tender: Changer<N>,
+) -> [Option<u64>; 5] {
+    let done = AtomicBool::new(false);
+    let clock = AtomicU64::new(2);
+    let (removed, ()) = thread::join(
+        rt,
+        || {
+            let removed = remove_all(rt, cache, changer);
+            done.store(true, Ordering::SeqCst);
+            removed
+        },
+        || tender.tend_each(rt, cache, &clock, &done),
+    );
+    removed
+}
+
+fn run<N: Name + LogName + Send + Sync, R: Threads + Wait + Clock + Abort + Sync>(
+    rt: &R,
+    alloc: Global,
+    blank: CacheBlank<Bytes<2>, u64>,
+) -> Result<(), Fail>
+    requires table { blank.table ≡ N.table }
+    requires book { blank.log.book ≡ N.book }
+    requires name { blank.log.name ≡ N.name }
+    requires parts { blank.log.parts ≡ N.parts }
+{
+    let Opened {
+        cache,
+        caller: mut me,
+        mut readers,
+    } = open::<N, Bytes<2>, u64, R>(alloc, rt, blank)?;
+    let tender = Changer::new(me.another());
+    let mut changer = Changer::new(me);
+    for (key, value) in [("fourteen bytes".as_bytes(), 14), (&[0, 255, 0], 3)] {
+        let key = Bytes::new(key)?;
+        assert!(rt; changer.put(rt, &cache, &Entry { key, value }, 0).is_ok());
+    }
+    let Some(reader) = readers.first_mut() else {
+        panic!(rt; "there is a reader")
+    };
+    look_up(rt, alloc, reader)?;
+    let removed = remove_beside_tends(rt, &cache, changer, tender);
+    assert_eq!(rt; removed, [Some(14), None, None, Some(3), None]);
+    assert!(rt; !reader.contains_text("fourteen bytes", 3));
+    Ok(())
+}
+
+#[test]
+fn strings_are_looked_up_by_text_and_bytes(rt: HostRuntime) -> Result<(), Fail> {
+    let alloc = rt.alloc();
+    let blank = CacheBlank::new(alloc, &config_of(10, 2, 20, 40, 16))?;
+    run::<Brand, HostRuntime>(&rt, alloc, blank)
+}
