@@ -1,12 +1,12 @@
 -- The reader of a key's part, and what it leaves of the readers.
-use Rattle.std.proofs.Common.{◌≡◌, ℕ, ◌*◌, ◌/◌, ◌%◌, ◌<◌, ◌≤◌, List, length, set, get_or, map, Option, Some, None, IfSome, IfNone, sym, ap, ◌∙◌, subst, arith}
+use Rattle.std.proofs.Common.{◌≡◌, ℕ, ◌*◌, ◌/◌, ◌%◌, ◌<◌, ◌≤◌, List, length, set, map, Option, Some, None, IfSome, IfNone, sym, ap, ◌∙◌, subst, arith}
 use Rattle.std.specs.List.{slice_get}
 use Rattle.std.specs.Prelude.{Vec}
 use Rattle.std.specs.Vec.{with_items}
 use Rattle.std.proofs.lemmas.List.{with_items_is}
 use Rattle.std.proofs.Math.Nat.{div-lt_iff_lt-mul, mod-lt, mul-le-mul_right}
 use Rattle.std.proofs.Math.Seq.{map-set_same}
-use Rattle.std.proofs.lemmas.Option.{get_or_from_slice_get, slice_get_read}
+use Rattle.std.proofs.lemmas.Option.{get_or_from_slice_get}
 use Rattle.keyed_hash.specs.declared.seed.Seed.{Seed}
 use Rattle.keyed_hash.specs.Hashes.{hash_of}
 use Rattle.bump_ring.specs.Ends.{Ring}
@@ -20,17 +20,15 @@ pub record IsChosen (seed : Seed) (key : List ℕ) (befores afters : List Reader
     pub was : slice_get befores (part_of (length befores) (hash_of seed key)) ≡ Some from
     pub is : afters ≡ set befores (part_of (length befores) (hash_of seed key)) to
 
--- so it is, where the place was reckoned by the hash of the key's words
-pub chosen : (seed : Seed) (key words : List ℕ) (befores afters : List ReaderView) (from to : ReaderView)
-    (hash count part : ℕ) → words ≡ key → hash ≡ hash_of seed words → count ≡ length befores
-    → part ≡ part_of count hash → part < count → get_or befores part from ≡ from → afters ≡ set befores part to
-    → IsChosen seed key befores afters from to
-chosen seed key words befores afters from to hash count part packed hashed counted is within read written =
-    let place : part ≡ part_of (length befores) (hash_of seed key) =
-    is ∙ (ap (λ n. part_of n hash) counted ∙ ap (part_of (length befores)) (hashed ∙ ap (hash_of seed) packed)) in
+-- so it is, where the part of the hash of the key's words was lent
+pub chosen_in : (seed : Seed) (key words : List ℕ) (befores : List ReaderView) (from to : ReaderView) (hash : ℕ)
+    → words ≡ key → hash ≡ hash_of seed words → slice_get befores (part_of (length befores) hash) ≡ Some from
+    → IsChosen seed key befores (set befores (part_of (length befores) hash) to) from to
+chosen_in seed key words befores from to hash packed hashed read =
+    let same : hash ≡ hash_of seed key = hashed ∙ ap (hash_of seed) packed in
     record {
-      was = ap (slice_get befores) (sym place) ∙ slice_get_read befores count part from counted within (sym read);
-      is = written ∙ ap (λ n. set befores n to) place;
+      was = ap (λ h. slice_get befores (part_of (length befores) h)) (sym same) ∙ read;
+      is = ap (λ h. set befores (part_of (length befores) h) to) same;
     }
 
 -- a part chosen by 8 bits is one of the parts

@@ -16,3 +16,5 @@ pub mod ShelfLemmas
 pub mod NewParts
 pub mod MemoryLemmas
 pub mod ChangingLemmas
+pub mod VisitLemmas
+pub mod EndingLemmas

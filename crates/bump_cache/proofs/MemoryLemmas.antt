@@ -76,7 +76,7 @@ more_chunks few many readers more most = omega (arith, more, most)
 abbrev one_part_bytes : ℕ → ℕ → ℕ → ℕ → ℕ → ℕ
 one_part_bytes chunks readers ring key_words value_words =
     row_bytes chunks (key_words + value_words)
-    + (list_bytes chunks + index_bytes chunks + 80 + 96 * readers + packing_bytes key_words value_words + 1040 + 1)
+    + (list_bytes chunks + index_bytes chunks + 80 + 96 * readers + packing_bytes key_words value_words + 1168 + 1)
     + readers * reader_bytes 1 ring + shared_bytes
 
 -- the only part has all
@@ -97,7 +97,7 @@ one_part items readers seed key_words value_words =
     ap (λ n. row_bytes (items + spare_of items readers) (key_words + value_words) + n + readers * reader_bytes 1 8192
     + shared_bytes) sum
     ∙ ap (λ n. row_bytes (items + spare_of items readers) (key_words + value_words)
-    + (list_bytes n + index_bytes n + 80 + 96 * readers + packing_bytes key_words value_words + 1040 + 1)
+    + (list_bytes n + index_bytes n + 80 + 96 * readers + packing_bytes key_words value_words + 1168 + 1)
     + readers * reader_bytes 1 8192 + shared_bytes) chunks
 
 -- more chunks take no fewer bytes

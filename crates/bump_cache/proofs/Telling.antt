@@ -157,7 +157,7 @@ module _ {K V : Type 0} (fits_key : K → Type 0) (key_words : K → List ℕ) (
       )
 
   -- an item whose row tells this is the one that is told
-  told_is : (c : ℕ) (row : List ℕ) (now : ℕ) (it : Evicted K V) → Law (last_words part.book.part c)
+  pub told_is : (c : ℕ) (row : List ℕ) (now : ℕ) (it : Evicted K V) → Law (last_words part.book.part c)
       → row ≡ row_at part c → (tells : TellsEvicted fits_key key_words fits_value value_words row now it)
       → (key_at part.key_words part.book.part c ≡ key_words it.key)
       × (value_at part.key_words part.value_words part.book.part c ≡ value_words it.value)

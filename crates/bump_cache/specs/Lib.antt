@@ -11,6 +11,8 @@ pub mod Putting
 pub mod Changing
 pub mod Sums
 pub mod Tending
+pub mod Visiting
+pub mod Ending
 pub mod Caches
 pub mod Bytes
 pub mod Memory
@@ -36,12 +38,15 @@ pub use Rattle.cache_part.specs.Expiring
 pub use Rattle.cache_part.specs.Keys
 pub use Rattle.cache_part.specs.Parts
 pub use Rattle.cache_part.specs.Stats
+pub use Rattle.cache_part.specs.Taking
 pub use Rattle.cache_part.specs.Tending as PartTending
+pub use Rattle.cache_part.specs.Visiting as PartVisiting
 pub use Rattle.cache_readers.specs.Looks
 pub use Rattle.cache_readers.specs.Readers as WordReaders
 pub use Rattle.cache_shelf.specs.Entries
 pub use Rattle.cache_shelf.specs.Shelves
 pub use Rattle.cache_shelf.specs.Turns
+pub use Rattle.cache_shelf.specs.Visiting as ShelfVisiting
 pub use Rattle.packed_words.specs.Strings
 pub use Rattle.entry_times.specs.Times
 pub use Rattle.call_log.specs.Blanks

@@ -15,6 +15,7 @@ use crate::numbered::Numbered;
 use crate::states::CacheState;
 use bump_heads::Name;
 use call_log::{Caller, LogName, Logged};
+use crossbeam_utils::CachePadded;
 use keyed_hash::Seed;
 use packed_words::Packed;
 use std::marker::Model;
@@ -29,8 +30,8 @@ use std::sync::{Mutex, MutexGuard, Wait};
 /// of it. Calls that go through all parts take one lock at a time, and are one call for each part.
 #[derive(Drop)]
 pub struct Cache<N: Name + LogName, K: Packed, V: Packed> {
-    // by number
-    pub(crate) parts: Vec<Mutex<Logged<N, Numbered<N, K, V>, CacheState>>>,
+    // By number. They are padded, so that who puts into one part doesn't disturb the next one's lines of memory.
+    pub(crate) parts: Vec<CachePadded<Mutex<Logged<N, Numbered<N, K, V>, CacheState>>>>,
     pub(crate) seed: Seed,
 }
 
@@ -201,7 +202,7 @@ impl<N: Name + LogName, K: Packed, V: Packed> Cache<N, K, V> {
     /// Ends the item of the key, as memcached's `delete`, and tells its value where it hasn't expired at `now`, in the
     /// caller's ticks. One that has ends as well, and isn't told: so it answers None where nothing is under the key, or
     /// what has expired. The other items keep their order, and none counts as evicted. It waits until no other thread
-    /// changes the cache.
+    /// changes the key's part.
     pub fn remove<W: Wait>(
         &self,
         rt: &W,

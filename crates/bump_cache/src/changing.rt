@@ -200,7 +200,7 @@ impl<N: Name + LogName, K: Packed, V: Packed> Cache<N, K, V> {
     /// Puts a value in the place of what a key has that hasn't expired at `now`, as memcached's `replace`; where it has
     /// nothing, or what has expired, it answers None, and puts nothing. It looks and puts as one call. The value
     /// expires at `expires`, and 0 is never; times are in the caller's ticks. It waits until no other thread changes
-    /// the cache.
+    /// the key's part.
     ///
     /// Where it puts it does what `put_until` does, and tells what the key had; nothing is evicted, since the key has
     /// an item. It is refused, as `NoRoom`, exactly where that is; the key keeps what it had.

@@ -10,6 +10,7 @@ mod changing;
 mod choosing;
 mod config;
 mod counts;
+mod ending;
 mod held;
 mod law;
 mod looking;
@@ -25,6 +26,7 @@ mod states;
 mod statistics;
 mod sums;
 mod tending;
+mod visiting;
 
 pub use answers::{Added, Cause, Evicted, GotOrPut, NoRoom, Put};
 pub use blanks::CacheBlank;

@@ -1,7 +1,9 @@
 //! Gets by the reader of a key's part.
-ghost use Rattle.std.specs.Prelude.{◌≡◌, ◌+◌, ◌≤◌, true, false, length, IfSome, IfNone};
+ghost use Rattle.std.specs.Prelude.{◌≡◌, ◌+◌, ◌≤◌, true, false, length, slice_get, Some, IfSome, IfNone};
+ghost use Rattle.std.specs.Borrow.{sem};
+ghost use Rattle.std.specs.Slice.{slice_follows_item};
 ghost use Rattle.cache_readers.specs.Readers.{CountsHit, CountsNothing, KeepsRing, Misses, ReadsNothing};
-ghost use Rattle.bump_cache.specs.Choosing.{IsPartCount};
+ghost use Rattle.bump_cache.specs.Choosing.{IsPartCount, part_of};
 ghost use Rattle.bump_cache.specs.Opening.{most_words};
 ghost use Rattle.bump_cache.specs.Pairs.{IsPair};
 ghost use Rattle.bump_cache.specs.Readers.{FindsValue, HitsItem, HoldsValue, InPart, KeepsRings, PeeksValue, SeesItem, readers_by};
@@ -13,6 +15,20 @@ use bump_heads::Name;
 use cache_readers::WordReader;
 use keyed_hash::Seed;
 use packed_words::Packed;
+
+// The part that a key with this hash is of. Where there is but one nothing is reckoned.
+#[inline(always)]
+fn part_in<T>(parts: &mut [T], hash: u32) -> &mut T
+    requires { IsPartCount (length parts.old) }
+    ensures* writes_back { sem 𝓛 (slice_follows_item T.row parts.entry (part_of (length parts.old) hash) result) }
+    ensures part { slice_get parts.old (part_of (length parts.old) hash) ≡ Some result.now }
+{
+    if parts.len() == 1 {
+        return &mut parts[0];
+    }
+    let part = part_of_hash(parts.len(), hash);
+    &mut parts[part]
+}
 
 // Gets a value by a reader of words, with the words of the key, and room for those of the value.
 #[inline(always)]
@@ -138,8 +154,7 @@ pub(crate) fn get_in<N: Name, K: Packed, V: Packed>(
 {
     key.pack(words);
     let hash = seed.hash(words);
-    let part = part_of_hash(parts.len(), hash);
-    get_by(&mut parts[part], hash, key, words, value, now)
+    get_by(part_in(parts, hash), hash, key, words, value, now)
 }
 
 // Gets an item by the reader of the key's part and holds it, in the same way.
@@ -166,8 +181,7 @@ pub(crate) fn hold_in<N: Name, K: Packed, V: Packed>(
 {
     key.pack(words);
     let hash = seed.hash(words);
-    let part = part_of_hash(parts.len(), hash);
-    hold_by(&mut parts[part], hash, key, words, now)
+    hold_by(part_in(parts, hash), hash, key, words, now)
 }
 
 // Peeks at a value by the reader of the key's part, in the same way.
@@ -195,8 +209,7 @@ pub(crate) fn peek_in<N: Name, K: Packed, V: Packed>(
 {
     key.pack(words);
     let hash = seed.hash(words);
-    let part = part_of_hash(parts.len(), hash);
-    peek_by(&mut parts[part], hash, key, words, value, now)
+    peek_by(part_in(parts, hash), hash, key, words, value, now)
 }
 
 // Sees whether there is an item with the key, by the reader of its part, in the same way.
@@ -221,6 +234,5 @@ pub(crate) fn see_in<N: Name, K: Packed, V: Packed>(
 {
     key.pack(words);
     let hash = seed.hash(words);
-    let part = part_of_hash(parts.len(), hash);
-    see_by(&mut parts[part], hash, key, words, now)
+    see_by(part_in(parts, hash), hash, key, words, now)
 }

@@ -16,6 +16,7 @@ use cache_nests::Index;
 use cache_part::Part;
 use cache_shelf::{Limits, Shelf};
 use call_log::{Caller, LogName, Logged, Logs};
+use crossbeam_utils::CachePadded;
 use packed_words::Packed;
 use std::alloc::{AllocError, Global};
 use std::sync::{Mutex, Wait};
@@ -139,7 +140,7 @@ pub(crate) fn make_locks<N: Name + LogName, K: Packed, V: Packed, W: Wait>(
     logs: Logs<N, CacheState>,
     me: &mut Caller<N, CacheState>,
     shelves: Vec<Pairs<N, K, V>>,
-) -> Result<Vec<Mutex<Logged<N, Numbered<N, K, V>, CacheState>>>, AllocError>
+) -> Result<Vec<CachePadded<Mutex<Logged<N, Numbered<N, K, V>, CacheState>>>>, AllocError>
     requires caller { 0 < me.old.parts }
     requires logs { (logs.next ≡ 0) × (logs.left ≡ length shelves.items) }
     requires few { length shelves.items ≤ most_parts }
@@ -157,7 +158,7 @@ pub(crate) fn make_locks<N: Name + LogName, K: Packed, V: Packed, W: Wait>(
         let log = logs.take();
         let numbered = Numbered { number, pairs };
         let logged = Logged::new(rt, log, me, numbered);
-        locks.push(Mutex::new(logged))?;
+        locks.push(CachePadded::new(Mutex::new(logged)))?;
         number += 1;
     }
     Ok(locks)

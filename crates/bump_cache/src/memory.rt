@@ -50,8 +50,8 @@ const LANE_BYTES: u64 = 96;
 // The nests, with the count of who has them.
 const NESTS_BYTES: u64 = 80;
 
-// A place in the vector of locks: a lock, with what it guards.
-const LOCK_BYTES: u64 = 1_040;
+// A place in the vector of locks: a lock, with what it guards, and 64 bytes on each side of it.
+const LOCK_BYTES: u64 = 1_168;
 
 // The heads, with the count of who has them.
 const HEADS_BYTES: u64 = 104;

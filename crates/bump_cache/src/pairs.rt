@@ -1,16 +1,21 @@
 //! What a cache's lock guards: a shelf whose rows are those of keys and values.
-ghost use Rattle.std.specs.Prelude.{◌≡◌, ℕ, suc, List, ◌+◌, ◌∷◌, ◌++◌, ◌<◌, ◌^◌, IfSome, IfNone, IfOk, IfErr, None, is_some, length};
-ghost use Rattle.bump_steps.specs.Views.{last_word};
+ghost use Rattle.std.specs.Prelude.{◌≡◌, ℕ, suc, List, ◌+◌, ◌∷◌, ◌++◌, ◌<◌, ◌^◌, IfSome, IfNone, IfOk, IfErr, None, true, false, is_some, length};
+ghost use Rattle.bump_steps.specs.Views.{last_word, owns};
 ghost use Rattle.cache_part.specs.Expiring.{KeepsUnexpired, LooksInTurn};
-ghost use Rattle.cache_part.specs.Parts.{IsUnknown};
+ghost use Rattle.cache_part.specs.Parts.{IsPart, IsUnknown};
 ghost use Rattle.cache_part.specs.Stats.{stats_of};
+ghost use Rattle.cache_part.specs.Visiting.{has_unexpired};
 ghost use Rattle.cache_shelf.specs.Entries.{AllUnexpiredKept, ReadsShelf};
 ghost use Rattle.cache_shelf.specs.Shelves.{with_ended, with_put, with_tended};
 ghost use Rattle.cache_shelf.specs.Turns.{TendsShelf};
+ghost use Rattle.cache_shelf.specs.Visiting.{entry_at};
 ghost use Rattle.bump_cache.specs.Changing.{HadUntil};
+ghost use Rattle.bump_cache.specs.Ending.{TakesValue};
 ghost use Rattle.bump_cache.specs.Putting.{IsPairOfWords, IsTimedValue, PutsValue, RefusesValue, RemovesValue, TellsEvicted, TellsValue, cause_of};
+ghost use Rattle.bump_cache.specs.Visiting.{TellsEntry};
 
 use crate::answers::{Cause, Evicted, NoRoom, Put};
+use crate::ending::take_row;
 use crate::law::PairLaw;
 use bump_heads::Name;
 use cache_shelf::{Shelf, Stats};
@@ -18,6 +23,7 @@ use entry_times::has_expired;
 use packed_words::Packed;
 use std::alloc::{AllocError, Global};
 use std::marker::Model;
+use std::ops::Range;
 
 /// A shelf whose rows are those of keys and values, and room for what a call packs and unpacks: so a call asks for no
 /// memory.
@@ -108,7 +114,7 @@ fn unpack_row<K: Packed, V: Packed>(row: &[u64]) -> (K, V)
 }
 
 // What was evicted, if something was: its row was told, behind the time at which it expires.
-fn told_evicted<K: Packed, V: Packed>(
+pub(crate) fn told_evicted<K: Packed, V: Packed>(
     chunk: Option<u32>,
     row: &[u64],
     now: u64,
@@ -212,6 +218,43 @@ fn look_key<N: Name, K: Packed, V: Packed>(
     }
 }
 
+// The key and the value of a row, and the time at which it expires, with which it begins.
+fn told_row<K: Packed, V: Packed>(row: &[u64]) -> (K, V, u64)
+    requires length { length row.now ≡ suc (K.width + V.width) }
+    requires pair { (expires : ℕ) × (words : List ℕ) × (row.now ≡ expires ∷ words)
+        × IsPairOfWords K.fits K.as_words V.fits V.as_words words }
+    ensures fits { K.fits result.0 × V.fits result.1 }
+    ensures row { row.now ≡ result.2 ∷ (K.as_words result.0 ++ V.as_words result.1) }
+{
+    let (key, value) = unpack_row(&row[1..]);
+    (key, value, row[0])
+}
+
+// The key and the value of the item of a chunk, and when it expires, where it has one that hasn't.
+fn unexpired_in<N: Name, K: Packed, V: Packed>(
+    shelf: &mut Shelf<N, PairLaw<K, V>>,
+    chunk: u32,
+    now: u64,
+    row: &mut [u64],
+) -> Option<(K, V, u64)>
+    requires key { shelf.old.part.key_words ≡ K.width }
+    requires value { shelf.old.part.value_words ≡ V.width }
+    requires own { owns chunk shelf.old.part.book.part ≡ true }
+    requires row { length row.old ≡ suc (K.width + V.width) }
+    ensures none { IfNone result (has_unexpired now shelf.old.part.book.part chunk ≡ false) }
+    ensures some { IfSome result (λ it. has_unexpired now shelf.old.part.book.part chunk ≡ true) }
+    ensures tells { IfSome result (λ it. TellsEntry K.fits K.as_words V.fits V.as_words it.0 it.1 it.2
+        (entry_at shelf.old.part chunk)) }
+    ensures reads { ReadsShelf shelf.old shelf.new }
+    ensures length { length row.new ≡ length row.old }
+{
+    shelf.promise();
+    if !shelf.read_unexpired(chunk, now, row) {
+        return None;
+    }
+    Some(told_row(row))
+}
+
 impl<N: Name, K: Packed, V: Packed> Pairs<N, K, V> {
     /// A shelf whose rows are those of keys and values, in which there is nothing yet. It is refused only for want of
     /// memory.
@@ -303,5 +346,35 @@ impl<N: Name, K: Packed, V: Packed> Pairs<N, K, V> {
         ensures { result ≡ stats_of self.now.part }
     {
         self.shelf.stats()
+    }
+
+    /// The chunks of the class, as `Shelf::chunks` tells them.
+    pub(crate) fn chunks(&self) -> Range<u32>
+        ensures start { result.start ≡ self.now.part.book.part.first }
+        ensures end { result.end ≡ self.now.part.book.part.first + self.now.part.book.part.count }
+        ensures part { IsPart self.now.part.seed self.now.part.key_words self.now.part.book.part self.now.part.index }
+    {
+        self.shelf.promise();
+        self.shelf.chunks()
+    }
+
+    /// The key and the value of the item of a chunk of the class, and when it expires, where one is linked that hasn't
+    /// expired; it isn't touched.
+    pub(crate) fn unexpired_at(&mut self, chunk: u32, now: u64) -> Option<(K, V, u64)>
+        requires { owns chunk self.old.part.book.part ≡ true }
+        ensures none { IfNone result (has_unexpired now self.old.part.book.part chunk ≡ false) }
+        ensures some { IfSome result (λ it. has_unexpired now self.old.part.book.part chunk ≡ true) }
+        ensures tells { IfSome result (λ it. TellsEntry K.fits K.as_words V.fits V.as_words it.0 it.1 it.2
+            (entry_at self.old.part chunk)) }
+        ensures reads { ReadsShelf self.old self.new }
+    {
+        unexpired_in(&mut self.shelf, chunk, now, &mut self.evicted)
+    }
+
+    /// Ends the next item that has expired, as `Shelf::take_expired` does, and tells it.
+    pub(crate) fn take_expired(&mut self, now: u64) -> Option<Evicted<K, V>>
+        ensures { TakesValue K.as_words V.as_words now result self.old self.new }
+    {
+        take_row(&mut self.shelf, &mut self.evicted, now)
     }
 }

@@ -70,12 +70,27 @@ impl<N: Name> Called for Gatherer<N> {
     }
 }
 
+// The first key from this one on that is of a part. One of four is, so few are looked at.
+#[inline(always)]
+fn key_in<N: Name + LogName>(cache: &Cache<N, u64, u64>, part: u32, key: u64) -> u64 {
+    let mut found = key;
+    for _look in 0..64 {
+        if cache.part_of(&found) == part {
+            return found;
+        }
+        found = found.wrapping_add(1);
+    }
+    found
+}
+
 // Whoever puts into a cache.
 #[derive(Drop)]
 struct Putter<'a, N: Name + LogName, R> {
     rt: R,
     cache: &'a Cache<N, u64, u64>,
     me: Caller<N, CacheState>,
+    // it puts keys of this part alone, where there is one
+    part: Option<u32>,
 }
 
 impl<'a, N: Name + LogName, R> Model for Putter<'a, N, R> {
@@ -91,6 +106,10 @@ impl<'a, N: Name + LogName, R> Model for Putter<'a, N, R> {
 impl<'a, N: Name + LogName, R: Wait> Called for Putter<'a, N, R> {
     #[inline(always)]
     fn call(&mut self, key: u64) -> bool {
+        let key = match self.part {
+            Some(part) => key_in(self.cache, part, key),
+            None => key,
+        };
         self.cache
             .put(&self.rt, &mut self.me, &key, &key, 5)
             .is_ok()
@@ -177,28 +196,35 @@ fn make_putters<'a, N: Name + LogName, R: Wait + Copy>(
     cache: &'a Cache<N, u64, u64>,
     mut me: Caller<N, CacheState>,
     threads: u32,
+    work: Work,
 ) -> Result<Vec<Putter<'a, N, R>>, AllocError>
     requires parts { threads < me.parts }
 {
     let mut putters = Vec::with_capacity(alloc, threads as usize)?;
     for thread in 0..threads {
         let another = me.another();
+        let part = (work == Work::PutApart).then_some(thread % work.parts().max(1));
         putters.push(Putter {
             rt,
             cache,
             me: another,
+            part,
         })?;
     }
     Ok(putters)
 }
 
-// What a cache is opened from: so many items and parts, in the shape that memcached has.
-fn blank_of(alloc: Global, items: u32, readers: u32, parts: u32) -> Option<CacheBlank<u64, u64>> {
-    let config = CacheConfig {
+// A cache of so many items and parts, in the shape that memcached has.
+fn config_of(items: u32, readers: u32, parts: u32) -> CacheConfig {
+    CacheConfig {
         parts,
         ..CacheConfig::new(items, readers, SEED)
-    };
-    CacheBlank::new(alloc, &config).ok()
+    }
+}
+
+// What it is opened from.
+fn blank_of(alloc: Global, items: u32, readers: u32, parts: u32) -> Option<CacheBlank<u64, u64>> {
+    CacheBlank::new(alloc, &config_of(items, readers, parts)).ok()
 }
 
 impl<R: Threads + Clock + Wait + Copy + Send + Sync> Passes<R> {
@@ -224,7 +250,14 @@ impl<R: Threads + Clock + Wait + Copy + Send + Sync> Passes<R> {
             !puts,
         );
         if puts {
-            let putters = make_putters(self.rt, self.alloc, &cache, caller, self.threads).ok()?;
+            let putters = make_putters(
+                self.rt,
+                self.alloc,
+                &cache,
+                caller,
+                self.threads,
+                self.work,
+            ).ok()?;
             return self.time_all(putters);
         }
         if self.work == Work::GetMany {
@@ -261,23 +294,24 @@ fn grown<N: Name + LogName, R: Wait + Files + AllocGlobal>(
     memory_now(rt)
 }
 
-/// By how much memory the process grows when a cache of so many items and readers is opened and filled. It is an error
-/// where no cache is made from these numbers, or where memory is refused.
+/// By how much memory the process grows when a cache of so many items, readers and parts is opened and filled. It is an
+/// error where no cache is made from these numbers, or where memory is refused.
 pub fn grown_by_cache<R: Wait + Files + AllocGlobal>(
     rt: &R,
     items: u32,
     readers: u32,
+    parts: u32,
 ) -> io::Result<Memory> {
     let before = memory_now(rt)?;
-    let blank = blank_of(rt.alloc(), items, readers, 1).ok_or(AllocError)?;
+    let blank = blank_of(rt.alloc(), items, readers, parts).ok_or(AllocError)?;
     let behind = grown::<Brand, R>(rt, blank, items)?;
     Ok(behind.since(before))
 }
 
 /// How many bytes such a cache asks for and keeps, as its configuration says; 0 where no cache is made from these
 /// numbers.
-pub fn bytes_taken(items: u32, readers: u32) -> u64 {
-    let config = CacheConfig::new(items, readers, SEED);
+pub fn bytes_taken(items: u32, readers: u32, parts: u32) -> u64 {
+    let config = config_of(items, readers, parts);
     match config.fault() {
         None => config.bytes_taken(1, 1),
         Some(_) => 0,

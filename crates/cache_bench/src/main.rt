@@ -1,6 +1,6 @@
 //! Measures what gets and puts of a cache cost, beside those of the kit's `lru` behind one mutex and behind 16. It
-//! prints only when it is given words: a workload's name, as `cache_get`; by how many threads (1); and of how many
-//! items (100,000).
+//! prints only when it is given words: a workload's name, as `cache_get`; by how many threads (1); of how many items
+//! (100,000); and, of `cache_bytes`, of how many parts (1).
 #![tactic(auto)]
 
 mod caches;
@@ -54,12 +54,16 @@ fn measure_bytes<R: Wait + Print + Files + AllocGlobal + Copy>(
     workload: Workload,
     threads: u32,
     items: u32,
+    parts: u32,
 ) -> io::Result<()> {
     let grown = match workload.subject {
         Subject::Cache => {
             // `checks/cache_memory` reads this line.
-            println!(rt; "bytes_taken {}", caches::bytes_taken(items, threads))?;
-            caches::grown_by_cache(&rt, items, threads)?
+            println!(rt;
+                "bytes_taken {}",
+                caches::bytes_taken(items, threads, parts)
+            )?;
+            caches::grown_by_cache(&rt, items, threads, parts)?
         }
         Subject::Lru => lrus::grown_by_lru(rt, items, 1)?,
         Subject::Shards => lrus::grown_by_lru(rt, items, 16)?,
@@ -76,7 +80,8 @@ fn main(rt: HostRuntime) -> io::Result<()> {
         return Ok(());
     };
     if workload.work == Work::Bytes {
-        return measure_bytes(&rt, name, workload, threads, items);
+        let parts = number_at(&words, 4).unwrap_or(1);
+        return measure_bytes(&rt, name, workload, threads, items, parts);
     }
     measure_times(&rt, rt.alloc(), name, workload, threads, items)
 }

@@ -31,6 +31,9 @@ pub enum Work {
     /// The same puts, where there are four parts.
     PutParts,
 
+    /// The same puts, but each thread's keys are of one of the four parts, which no other thread has.
+    PutApart,
+
     /// Puts of keys that are there, at random.
     PutSame,
 
@@ -49,7 +52,7 @@ impl Work {
     /// Whether puts are made, and no gets.
     pub fn is_put(self) -> bool {
         match self {
-            Work::Put | Work::PutParts | Work::PutSame => true,
+            Work::Put | Work::PutParts | Work::PutApart | Work::PutSame => true,
             Work::Get | Work::GetMany | Work::Hot | Work::Bytes => false,
         }
     }
@@ -57,7 +60,7 @@ impl Work {
     /// How many parts the cache has.
     pub fn parts(self) -> u32 {
         match self {
-            Work::PutParts => 4,
+            Work::PutParts | Work::PutApart => 4,
             Work::Put | Work::PutSame | Work::Get | Work::GetMany | Work::Hot | Work::Bytes => 1,
         }
     }
@@ -80,6 +83,7 @@ impl Workload {
             "hot" => Work::Hot,
             "put" => Work::Put,
             "put_parts" if subject == Subject::Cache => Work::PutParts,
+            "put_apart" if subject == Subject::Cache => Work::PutApart,
             "put_same" => Work::PutSame,
             "bytes" => Work::Bytes,
             _ => return None,

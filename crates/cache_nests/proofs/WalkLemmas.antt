@@ -9,7 +9,7 @@ use Rattle.std.proofs.lemmas.Nat.Bits.{bit_at-trailing_zeros, bit_at_above}
 use Rattle.std.proofs.lemmas.Bool.{cases_lt, cond_both, ltb-true, ltb-false}
 use Rattle.cache_nests.specs.Places.{nest_behind}
 use Rattle.cache_nests.specs.Views.{ReaderSearchView}
-use Rattle.cache_nests.specs.Walks.{TakesLowest, WalksOn}
+use Rattle.cache_nests.specs.Walks.{IsBehind, TakesLowest, WalksOn}
 
 -- the lowest bit of the lanes that were found is that of a lane
 pub lane_of_bits : (found : ℕ) → 0 < found → found < 2 ^ 48 → trailing_zeros w64 found / 8 < 6
@@ -145,3 +145,58 @@ walked_more before between after (inl same) within few nests later nest =
     subst P same (inr (within, few, walks_more between between after within few refl (walks_nowhere between within) later nest))
 walked_more before between after (inr walked) within few nests later nest =
     inr (walked.0, walked.1, walks_more before between after walked.0 walked.1 nests walked.2 later nest)
+
+-- A walk over all nests is at its home again behind the last of them, and not before.
+home_again : (nests home nest later : ℕ) → home < nests → later < nests
+    → nest ≡ nest_behind nests home (nests - 1 - later)
+    → (nest_behind nests nest 1 ≡ home → later ≡ 0) × (later ≡ 0 → nest_behind nests nest 1 ≡ home)
+home_again nests home nest later within few is =
+    subst (λ n. (nest_behind nests n 1 ≡ home → later ≡ 0) × (later ≡ 0 → nest_behind nests n 1 ≡ home)) (sym is)
+    (cond_both (ltb (home + steps) nests) (home + steps) (home + steps - nests)
+    (λ n. (nest_behind nests n 1 ≡ home → later ≡ 0) × (later ≡ 0 → nest_behind nests n 1 ≡ home))
+    (λ e. let low = ltb-true (home + steps) nests e in
+    cond_both (ltb (home + steps + 1) nests) (home + steps + 1) (home + steps + 1 - nests)
+    (λ v. (v ≡ home → later ≡ 0) × (later ≡ 0 → v ≡ home))
+    (λ f. let below = ltb-true (home + steps + 1) nests f in
+    ((λ same. absurd (omega (arith, same))), (λ none. absurd (omega (arith, none, below, within)))))
+    (λ f. let over = ltb-false (home + steps + 1) nests f in
+    ((λ same. omega (arith, same, low, over, few)), (λ none. omega (arith, none, low, over, few)))))
+    (λ e. let high = ltb-false (home + steps) nests e in
+    cond_both (ltb (home + steps - nests + 1) nests) (home + steps - nests + 1) (home + steps - nests + 1 - nests)
+    (λ v. (v ≡ home → later ≡ 0) × (later ≡ 0 → v ≡ home))
+    (λ f. ((λ same. omega (arith, same, high, few)), (λ none. omega (arith, none, high, few))))
+    (λ f. absurd (omega (arith, high, within, few, ltb-false (home + steps - nests + 1) nests f)))))
+  where
+    steps : ℕ
+    steps = nests - 1 - later
+
+-- where the next nest is the home, none is left
+pub last_behind : (nests home nest later word : ℕ) → home < nests → later < nests → IsBehind nests home nest later
+    → word ≡ 8 * nest → nest_behind nests (word / 8) 1 ≡ home → later ≡ 0
+last_behind nests home nest later word within few is at same =
+    (home_again nests home nest later within few is).0
+    (subst (λ n. nest_behind nests n 1 ≡ home) (let e : word / 8 ≡ nest = omega (arith, at) in e) same)
+
+-- and where it is another one, some are
+pub more_behind : (nests home nest later word : ℕ) → home < nests → later < nests → IsBehind nests home nest later
+    → word ≡ 8 * nest → (nest_behind nests (word / 8) 1 ≡ home → ⊥) → 0 < later
+more_behind nests home nest later word within few is at apart = ⊎_elim
+    (λ none. absurd (apart (subst (λ n. nest_behind nests n 1 ≡ home) (let e : nest ≡ word / 8 = omega (arith, at) in e)
+    ((home_again nests home nest later within few is).1 (omega (arith, none))))))
+    (λ some. omega (arith, some))
+    (cases_lt later 1)
+
+-- a search that begins is at its home
+pub begins_behind : (nests home : ℕ) → home < nests → IsBehind nests home home (nests - 1)
+begins_behind nests home within =
+    sym (ap (λ (s : ℕ). nest_behind nests home s) (let e : nests - 1 - (nests - 1) ≡ 0 = omega arith in e)
+    ∙ nest_behind-none nests home within)
+
+-- and one that comes to the next nest is one step further
+pub walks_behind : (nests home nest later next : ℕ) → home < nests → later < nests → next + 1 ≡ later
+    → IsBehind nests home nest later → IsBehind nests home (nest_behind nests nest 1) next
+walks_behind nests home nest later next within few less is =
+    let more : nests - 1 - later + 1 ≡ nests - 1 - next = omega (arith, less, few) in
+    ap (λ (n : ℕ). nest_behind nests n 1) is
+    ∙ (nest_behind-next nests home (nests - 1 - later) within (omega (arith, less, few))
+    ∙ ap (λ (s : ℕ). nest_behind nests home s) more)

@@ -14,3 +14,7 @@ pub record TakesLowest (before after : ℕ) : Type 0 where
   pub zeros : before % 2 ^ bit ≡ 0
   pub one : before / 2 ^ bit % 2 ≡ 1
   pub rest : after + 2 ^ bit ≡ before
+
+-- a walk over so many nests, which began at its home, is at this nest, and so many are yet to come
+abbrev pub IsBehind : ℕ → ℕ → ℕ → ℕ → Type 0
+IsBehind nests home nest later = nest ≡ nest_behind nests home (nests - 1 - later)

@@ -13,7 +13,7 @@ use std::alloc::{AllocError, Global};
 use std::marker::Model;
 
 /// How many words a nest has.
-const NEST_WORDS: u32 = 8;
+pub(crate) const NEST_WORDS: u32 = 8;
 
 /// Which of a nest's words says how many keys passed it.
 const PASSED: u32 = 1;
@@ -44,7 +44,7 @@ impl Model for Nests {
 pub(crate) fn behind(nests: u32, nest: u32, steps: u32) -> u32
     requires few { nests ≤ 2 ^ 28 + 1 }
     requires nest { nest < nests }
-    requires steps { steps < nests }
+    requires steps { steps ≤ nests }
     ensures { result ≡ nest_behind nests nest steps }
 {
     if nest + steps < nests {
@@ -111,32 +111,33 @@ impl Nests {
         }
     }
 
-    /// The lanes of a nest whose tag is this, as a reader finds them, who is told nothing. `tag` is at most 255.
+    /// The lanes whose tag is this, of the nest whose first word is `word`, as a reader finds them, who is told nothing.
+    /// `tag` is at most 255.
     #[inline(always)]
-    pub(crate) fn lanes_now(&self, nest: u32, tag: u64) -> u64
-        requires nest { nest < self.now.nests }
+    pub(crate) fn lanes_now(&self, word: u32, tag: u64) -> u64
+        requires word { word + 7 < 8 * self.now.nests }
         requires tag { tag < 256 }
         ensures { result < 2 ^ 48 }
     {
-        lanes_with(self.words.load((NEST_WORDS * nest) as usize), tag)
+        lanes_with(self.words.load(word as usize), tag)
     }
 
-    /// Whether some key passed a nest, as a reader finds it, who is told nothing.
+    /// Whether some key passed the nest whose first word this is, as a reader finds it, who is told nothing.
     #[inline(always)]
-    pub(crate) fn is_passed_now(&self, nest: u32) -> bool
-        requires { nest < self.now.nests }
+    pub(crate) fn is_passed_now(&self, word: u32) -> bool
+        requires { word + 7 < 8 * self.now.nests }
     {
-        self.words.load((NEST_WORDS * nest + PASSED) as usize) != 0
+        self.words.load((word + PASSED) as usize) != 0
     }
 
-    /// The word of the life of a lane, as a reader finds it, who is told nothing.
+    /// The word of the life of a lane, in the nest whose first word is `word`, as a reader finds it, who is told nothing.
     #[inline(always)]
-    pub(crate) fn life_now(&self, nest: u32, lane: u32) -> u64
-        requires nest { nest < self.now.nests }
+    pub(crate) fn life_now(&self, word: u32, lane: u32) -> u64
+        requires word { word + 7 < 8 * self.now.nests }
         requires lane { lane < lanes }
     {
         self.words
-            .load((NEST_WORDS * nest + FIRST_LIFE + lane) as usize)
+            .load((word + lane) as usize + FIRST_LIFE as usize)
     }
 
     /// The first lane of a nest, from one on, whose tag is this, or 6 where there is none.

@@ -1,5 +1,5 @@
 //! Readers, which search the index without a lock while the writer changes it.
-ghost use Rattle.std.specs.Prelude.{◌≡◌, ◌<◌, ◌+◌, ◌^◌, ℕ, IfOk, IfSome, IfNone};
+ghost use Rattle.std.specs.Prelude.{◌≡◌, ◌<◌, ◌+◌, ◌^◌, ℕ, true, false, IfOk, IfSome, IfNone};
 ghost use Rattle.std.specs.Arc.{arc_value};
 ghost use Rattle.cache_nests.specs.Tags.{tag_of};
 ghost use Rattle.cache_nests.specs.Places.{home_of, nest_behind};
@@ -7,7 +7,7 @@ ghost use Rattle.cache_nests.specs.Views.{ahead};
 ghost use Rattle.cache_nests.specs.Walks.{TakesLowest, WalksOn};
 
 use crate::led::life_of;
-use crate::nests::{Nests, behind};
+use crate::nests::{NEST_WORDS, Nests, behind};
 use crate::tags::{lowest, tag_of, without_lowest};
 use bump_rules::ItemId;
 use std::alloc::{AllocError, Global};
@@ -41,6 +41,10 @@ pub struct Search {
     tag: u64,
     // the lanes of this nest that have the tag, and that aren't answered yet: the highest of the 8 bits of each
     lanes: u64,
+    // The first word of the nest, by which all its words are loaded, and the hash: with the tag and the lanes that is
+    // all that a get keeps. Of the rest contracts speak, and no step depends on it: so it costs nothing.
+    word: u32,
+    hash: u32,
     nest: u32,
     // so many nests it hasn't come to
     later: u32,
@@ -48,7 +52,9 @@ pub struct Search {
 }
 
 impl Model for Search {
-    ghost use Rattle.std.specs.Prelude.{◌<◌, ◌≤◌, ◌+◌, ◌^◌};
+    ghost use Rattle.std.specs.Prelude.{◌≡◌, ◌<◌, ◌≤◌, ◌+◌, ◌*◌, ◌^◌};
+    ghost use Rattle.cache_nests.specs.Places.{home_of};
+    ghost use Rattle.cache_nests.specs.Walks.{IsBehind};
     ghost use Rattle.cache_nests.specs.Views.{ReaderSearchView};
 
     ghost Value = { ReaderSearchView };
@@ -56,7 +62,8 @@ impl Model for Search {
     ghost view = { λ s. record { nests = s.nests; tag = s.tag; nest = s.nest; later = s.later; lanes = s.lanes } };
 
     ghost invariant = { λ s. (s.tag < 256) × (s.lanes < 2 ^ 48) × (s.nest < s.nests) × (s.later < s.nests)
-        × (s.nests ≤ 2 ^ 28 + 1) };
+        × (s.nests ≤ 2 ^ 28 + 1) × (s.word ≡ 8 * s.nest)
+        × (home_of s.nests s.hash < s.nests) × IsBehind s.nests (home_of s.nests s.hash) s.nest s.later };
 }
 
 impl IndexReader {
@@ -80,6 +87,7 @@ impl IndexReader {
     /// Begins a search for what has a key of this hash, at the hash's home: a load of one word. All other nests are yet
     /// to come. It waits for nobody and takes no memory.
     #[inline(always)]
+    #[tactic(auto, using(crate::proofs::WalkLemmas::begins_behind))]
     pub fn search(&self, hash: u32) -> Search
         ensures nests { result.nests ≡ self.now.nests }
         ensures tag { result.tag ≡ tag_of hash }
@@ -88,18 +96,32 @@ impl IndexReader {
     {
         let nests = self.nests.count();
         let nest = self.nests.home(hash);
+        let word = NEST_WORDS * nest;
         let tag = tag_of(hash);
         Search {
             tag,
-            lanes: self.nests.lanes_now(nest, tag),
+            lanes: self.nests.lanes_now(word, tag),
             nest,
+            word,
             later: nests - 1,
             nests,
+            hash,
         }
     }
 }
 
 impl Search {
+    // Whether all nests were come to: the next one is the home.
+    #[inline(always)]
+    #[tactic(auto, using(crate::proofs::WalkLemmas::last_behind, crate::proofs::WalkLemmas::more_behind))]
+    fn is_last(&self, nests: &Nests) -> bool
+        requires nests { self.now.nests ≡ nests.now.nests }
+        ensures last { result ≡ true → self.now.later ≡ 0 }
+        ensures more { result ≡ false → 0 < self.now.later }
+    {
+        behind(nests.count(), self.word / NEST_WORDS, 1) == nests.home(self.hash)
+    }
+
     // Comes to the next nest.
     #[inline(always)]
     fn walk(&mut self, nests: &Nests)
@@ -112,8 +134,9 @@ impl Search {
         ensures narrow { self.new.lanes < 2 ^ 48 }
     {
         self.later -= 1;
-        self.nest = behind(self.nests, self.nest, 1);
-        self.lanes = nests.lanes_now(self.nest, self.tag);
+        self.nest = behind(nests.count(), self.word / NEST_WORDS, 1);
+        self.word = NEST_WORDS * self.nest;
+        self.lanes = nests.lanes_now(self.word, self.tag);
     }
 
     /// The next life that may be of a key with the search's hash, or `None` where no more may be. Its chunk has its own
@@ -134,14 +157,14 @@ impl Search {
     {
         let nests: &Nests = &reader.nests;
         while self.lanes == 0 {
-            if self.later == 0 || !nests.is_passed_now(self.nest) {
+            if self.is_last(nests) || !nests.is_passed_now(self.word) {
                 return None;
             }
             self.walk(nests);
         }
         let lane = lowest(self.lanes);
         self.lanes = without_lowest(self.lanes);
-        let life = life_of(nests.life_now(self.nest, lane));
+        let life = life_of(nests.life_now(self.word, lane));
         // Nothing is known of a word that a reader loads, so nothing says that the sum fits.
         Some(ItemId {
             chunk: life.chunk.wrapping_add(reader.first),

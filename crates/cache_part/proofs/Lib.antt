@@ -10,3 +10,5 @@ pub mod TendingLemmas
 pub mod ViewLemmas
 pub mod TurnLemmas
 pub mod ExpiringLemmas
+pub mod VisitLemmas
+pub mod TakingLemmas

@@ -4,7 +4,9 @@ pub mod Looks
 pub mod Parts
 pub mod Putting
 pub mod Stats
+pub mod Taking
 pub mod Tending
+pub mod Visiting
 pub use Rattle.bump_class.specs.Books
 pub use Rattle.bump_class.specs.Changes
 pub use Rattle.bump_class.specs.Lanes

@@ -40,7 +40,7 @@ fn end_where_expired<N: Name, L: RowLaw>(
 }
 
 // The number behind this one, around and around.
-fn next_number(number: u32, count: u32) -> u32
+pub(crate) fn next_number(number: u32, count: u32) -> u32
     requires { number < count }
     ensures { result ≡ number_behind number 1 count }
 {

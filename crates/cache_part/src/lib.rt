@@ -12,7 +12,9 @@ mod reading;
 mod replacing;
 mod room;
 mod stats;
+mod taking;
 mod tending;
+mod visiting;
 
 pub use cache_lists::{Book, Bound, Bounds, CountedBook, Evictions, Flow, Name, RawLane, RowLaw};
 pub use cache_nests::{Index, IndexReader};

@@ -1,5 +1,5 @@
 //! A part: the lists of items, the index of their keys, and what is done with both.
-ghost use Rattle.std.specs.Prelude.{◌≡◌, ◌≢◌, ℕ, ◌+◌, ◌-◌, ◌<◌, ◌≤◌, IsSome, IfSome, IfNone, IfOk, IfErr, Option, Some, None, true, [], suc, length, replicate, take, drop};
+ghost use Rattle.std.specs.Prelude.{◌≡◌, ◌≢◌, ℕ, ◌+◌, ◌-◌, ◌<◌, ◌≤◌, IsSome, IfSome, IfNone, IfOk, IfErr, Option, Some, None, true, false, [], suc, length, replicate, take, drop};
 ghost use Rattle.bump_class.specs.Books.{IsBook};
 ghost use Rattle.bump_class.specs.Links.{MayHave};
 ghost use Rattle.bump_links.specs.Lists.{first_of};
@@ -13,11 +13,13 @@ ghost use Rattle.cache_part.specs.Expiring.{KeepsUnexpired, LooksAround, LooksIn
 ghost use Rattle.cache_part.specs.Keys.{value_at, words_from};
 ghost use Rattle.cache_part.specs.Looks.{LooksOnly};
 ghost use Rattle.cache_part.specs.Parts.{PartView as ThePartView, IsPart, IsUnder, IsUnknown, IsItem, counted};
-ghost use Rattle.cache_part.specs.Putting.{MakesRoom, Puts, IsFresh, OthersStay, TellsRow, WasAnother};
+ghost use Rattle.cache_part.specs.Putting.{MakesRoom, Puts, IsFresh, OthersStay, TellsRow, WasAnother, row_at};
+ghost use Rattle.cache_part.specs.Taking.{TakesNext};
 ghost use Rattle.cache_part.specs.Tending.{BalancesByAge, DrainsEach, Tends};
+ghost use Rattle.cache_part.specs.Visiting.{has_unexpired};
 
 use crate::putting::{NoChunk, PutItem, Settings, make_room};
-use crate::{clearing, ending, expiring, finding, reading, replacing, tending};
+use crate::{clearing, ending, expiring, finding, reading, replacing, taking, tending, visiting};
 use bump_class::{Book, RawLane};
 use bump_heads::Name;
 use bump_steps::{AnyRow, RowLaw};
@@ -25,6 +27,7 @@ use cache_lists::{Bounds, CountedBook};
 use cache_nests::Index;
 use keyed_hash::Seed;
 use std::marker::Model;
+use std::ops::Range;
 
 /// The items of a class, and the index of their keys. Each item has a row: its label is the time at which it expires,
 /// in the caller's ticks, and 0 where it never does; its further words are its key's and then its value's. The index
@@ -401,5 +404,66 @@ impl<N: Name, L: RowLaw> Part<N, L> {
         ensures rest { self.new ≡ record self.old { book = self.new.book; flow = self.new.flow } }
     {
         tending::balance(&mut self.lists, most, bounds, now);
+    }
+
+    /// The chunks of the class: from its first one up to that behind its last one.
+    pub fn chunks(&self) -> Range<u32>
+        ensures start { result.start ≡ self.now.book.part.first }
+        ensures end { result.end ≡ self.now.book.part.first + self.now.book.part.count }
+    {
+        self.index.range()
+    }
+
+    /// Reads the row of the item of a chunk of the class, where one is linked that hasn't expired at `now`, in the
+    /// caller's ticks, and tells whether one is: its label, which says when it expires, and then the words of its key
+    /// and of its value. Where none is `row` stays, which has room for a label and a row. The item isn't touched, and
+    /// nothing changes but what the class's seat notes of its loads.
+    pub fn read_unexpired(&mut self, chunk: u32, now: u64, row: &mut [u64]) -> bool
+        requires own { owns chunk self.old.book.part ≡ true }
+        requires row { length row.old ≡ suc (self.old.key_words + self.old.value_words) }
+        ensures told { result ≡ has_unexpired now self.old.book.part chunk }
+        ensures read { result ≡ true → row.new ≡ row_at self.old chunk }
+        ensures stays { result ≡ false → row.new ≡ row.old }
+        ensures looks { LooksOnly self.old.book self.new.book }
+        ensures rest { self.new ≡ record self.old { book = self.new.book } }
+    {
+        visiting::read_unexpired(&mut self.lists, &self.index, self.settings, chunk, now, row)
+    }
+
+    /// Ends the next item that has expired at `now`, in the caller's ticks, and tells its chunk, and its row in `told`,
+    /// which has room for a label and a row: the label says when it expires, and the words of its key and of its value
+    /// come behind it. It looks at the next `most` chunks of the class in turn, from where the last turn ended, as
+    /// `end_expired` does, until one has an item that has expired; the next turn begins behind that chunk. It is None
+    /// exactly where none of them has one: then the words of `told` stay, and nothing changes but where the next turn
+    /// begins, which is behind them all, and what the class's seat notes of its loads. The index leads to the item no
+    /// more before it ends. It counts as `crawler_reclaimed`, and not as evicted. The other items stay in their lists,
+    /// in their order.
+    pub fn take_expired(&mut self, most: u32, told: &mut [u64], now: u64) -> Option<u32>
+        requires told { length told.old ≡ suc (self.old.key_words + self.old.value_words) }
+        ensures takes { TakesNext most now result self.old self.new }
+        ensures ends { IfSome result (λ chunk. EndsAt chunk self.old.book self.new.book) }
+        ensures others { IfSome result (λ chunk. SameSegments (all_without chunk self.old.book.lists)
+            self.new.book.lists) }
+        ensures told { TellsRow result told.old told.new self.old }
+        ensures length { length told.new ≡ length told.old }
+        ensures rest { self.new ≡ record self.old {
+          book = self.new.book;
+          flow = self.new.flow;
+          evictions = self.new.evictions;
+          index = self.new.index;
+          cursor = self.new.cursor;
+        } }
+    {
+        let next = taking::take_expired(
+            &mut self.lists,
+            &mut self.index,
+            self.settings,
+            self.cursor,
+            most,
+            told,
+            now,
+        );
+        self.cursor = next.cursor;
+        next.chunk
     }
 }

@@ -1,7 +1,8 @@
 //! Looks at the chunks to which the index leads.
 ghost use Rattle.std.specs.Prelude.{◌≡◌, ◌+◌, ◌≤◌, true, false, IfOk, OnErr, IfSome, IfNone, length};
-ghost use Rattle.cache_readers.specs.Looks.{FindsNothing, HasOtherKey, HasWords, LooksInVain, TakesKey};
+ghost use Rattle.cache_readers.specs.Looks.{FindsNothing, HasOtherKey, HasWords, Hits, LooksInVain, TakesKey};
 ghost use Rattle.cache_readers.specs.Looks.{TouchesUnmarked};
+ghost use Rattle.cache_readers.specs.Readers.{one_more};
 
 use bump_parts::{Hold, Worker};
 use bump_readers::{Name, ReaderHeads};
@@ -167,4 +168,42 @@ pub(crate) fn find<N: Name, L: RowLaw>(
         }
     }
     None
+}
+
+// One more, as far as the count goes.
+#[inline(always)]
+fn count_one(count: &mut u64)
+    ensures { count.new ≡ one_more count.old }
+{
+    if let Some(more) = count.checked_add(1) {
+        *count = more;
+    }
+}
+
+// Finds the item of a key, touches it and counts a hit, and answers the hold of it; or counts a miss.
+#[inline(always)]
+pub(crate) fn take<N: Name, L: RowLaw>(
+    worker: &mut Worker<N>,
+    heads: &ReaderHeads<N, L>,
+    index: &IndexReader,
+    hits: &mut u64,
+    misses: &mut u64,
+    hash: u32,
+    key: &[u64],
+    now: u64,
+) -> Option<Hold<N>>
+    requires few { length key.now ≤ N.table.slots }
+    ensures found { IfSome result (λ hold. Hits L.law heads.now key.now now worker.old worker.new hold) }
+    ensures nothing { IfNone result (FindsNothing heads.now key.now now worker.old worker.new) }
+    ensures hit { IfSome result (λ _. (hits.new ≡ one_more hits.old) × (misses.new ≡ misses.old)) }
+    ensures missed { IfNone result ((hits.new ≡ hits.old) × (misses.new ≡ one_more misses.old)) }
+    ensures ring { worker.new.sender.ring ≡ worker.old.sender.ring }
+{
+    let Some((mut hold, found)) = find(worker, heads, index, hash, key, now) else {
+        count_one(misses);
+        return None;
+    };
+    touch(worker, heads, &mut hold, found, now);
+    count_one(hits);
+    Some(hold)
 }

@@ -7,7 +7,7 @@ ghost use Rattle.cache_readers.specs.Looks.{Finds, HasWords, Hits, Peeks, Sees, 
 ghost use Rattle.cache_readers.specs.Readers.{CountsHit, CountsMiss, CountsNothing, KeepsRing, Misses, ReadsNothing};
 ghost use Rattle.cache_readers.specs.Readers.{ReaderView as TheReaderView, new_reader};
 
-use crate::looking::{find, read_words, touch};
+use crate::looking::{find, read_words, take};
 use bump_heads::{Heads, Name};
 use bump_parts::{Hold, Worker};
 use bump_readers::ReaderHeads;
@@ -107,9 +107,21 @@ impl<N: Name, L: RowLaw> WordReader<N, L> {
         ensures length { length value.new ≡ length value.old }
         ensures ring { KeepsRing self.old self.new }
     {
-        if let Some(mut hold) = self.hold(hash, key, now) {
-            self.read(&mut hold, key.len(), value);
-            hold.release(&self.heads);
+        // The words of the chunks are looked up once: the compiler can't know that no step changes where they lie.
+        let heads: &ReaderHeads<N, L> = &self.heads;
+        let taken = take(
+            &mut self.worker,
+            heads,
+            &self.index,
+            &mut self.hits,
+            &mut self.misses,
+            hash,
+            key,
+            now,
+        );
+        if let Some(mut hold) = taken {
+            read_words(&mut hold, heads, key.len(), value);
+            hold.release(heads);
             return true;
         }
         false
@@ -128,13 +140,16 @@ impl<N: Name, L: RowLaw> WordReader<N, L> {
         ensures missed { IfNone result (Misses key.now now self.old self.new) }
         ensures ring { KeepsRing self.old self.new }
     {
-        let Some((mut hold, found)) = self.see(hash, key, now) else {
-            self.misses = self.misses.saturating_add(1);
-            return None;
-        };
-        touch(&mut self.worker, &self.heads, &mut hold, found, now);
-        self.hits = self.hits.saturating_add(1);
-        Some(hold)
+        take(
+            &mut self.worker,
+            &self.heads,
+            &self.index,
+            &mut self.hits,
+            &mut self.misses,
+            hash,
+            key,
+            now,
+        )
     }
 
     /// Reads words of an item that is held into `words`, as many as it has, by one load each: `from` is the first one's

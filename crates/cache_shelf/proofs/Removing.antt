@@ -23,10 +23,10 @@ pub found_item : (key : List ℕ) (part : PartView) (told : Option ℕ) → IfSo
 found_item key part None found none = none
 found_item key part (Some c) found none = found
 
-module _ (key : List ℕ) (before after : PartView) (alike : IsAlike before after)
-    (is : IsPart before.seed before.key_words before.book.part before.index) where
+-- where an item ends, or only loads are made
+module _ (before after : PartView) where
   -- each other item stays
-  stay : (told : Option ℕ) → IfSome told (λ c. EndsAt c before.book after.book)
+  pub stay : (told : Option ℕ) → IfSome told (λ c. EndsAt c before.book after.book)
       → IfNone told (LooksOnly before.book after.book) → OthersStay None None told before.book after.book
   stay None ends looks = record {
     linked = λ c new old out. (looks_keep before.book after.book looks).linked c;
@@ -38,31 +38,33 @@ module _ (key : List ℕ) (before after : PartView) (alike : IsAlike before afte
     words = λ i c new. ends.words i c;
   }
 
+  -- and the one that ends isn't linked any more
+  pub gone : (told : Option ℕ) → IfSome told (λ c. EndsAt c before.book after.book)
+      → IfSome told (λ c. linked_at after.book.part c ≡ None)
+  gone None ends = tt
+  gone (Some c) ends = ends.linked c ∙ ap (λ b. if b then None else linked_at before.book.part c) (eq-eqb c c refl)
+
+module _ (key : List ℕ) (before after : PartView) (alike : IsAlike before after)
+    (is : IsPart before.seed before.key_words before.book.part before.index) where
   -- it was linked
   was : (told : Option ℕ) → IfSome told (λ c. IsUnder key c before)
       → IfSome told (λ c. IsSome (linked_at before.book.part c))
   was None found = tt
   was (Some c) found = found.linked
 
-  -- and isn't linked any more
-  gone : (told : Option ℕ) → IfSome told (λ c. EndsAt c before.book after.book)
-      → IfSome told (λ c. linked_at after.book.part c ≡ None)
-  gone None ends = tt
-  gone (Some c) ends = ends.linked c ∙ ap (λ b. if b then None else linked_at before.book.part c) (eq-eqb c c refl)
-
   -- the law holds of each item still
   pub removed_lawful : (law : RowPredicate) (told : Option ℕ) → IfSome told (λ c. IsUnder key c before)
       → IfSome told (λ c. EndsAt c before.book after.book) → IfNone told (LooksOnly before.book after.book)
       → IsLawful law before → IsLawful law after
-  removed_lawful law told found ends looks = refused_lawful before after told alike (stay told ends looks)
-      (was told found) (gone told ends) law
+  removed_lawful law told found ends looks = refused_lawful before after told alike (stay before after told ends looks)
+      (was told found) (gone before after told ends) law
 
   -- under each other key stays what was there
   pub removed_others : (told : Option ℕ) → IfSome told (λ c. IsUnder key c before)
       → IfSome told (λ c. EndsAt c before.book after.book) → IfNone told (LooksOnly before.book after.book)
       → OthersKept key None before after
   removed_others told found ends looks other value expires differs not_out =
-      refused_others before after told alike (stay told ends looks) (was told found) (gone told ends) other value expires
+      refused_others before after told alike (stay before after told ends looks) (was told found) (gone before after told ends) other value expires
       (is_other told found)
     where
       is_other : (it : Option ℕ) → IfSome it (λ c. IsUnder key c before) → key_of_evicted it before ≢ Some other

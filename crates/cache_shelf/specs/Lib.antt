@@ -2,6 +2,7 @@ pub mod Limits
 pub mod Shelves
 pub mod Entries
 pub mod Turns
+pub mod Visiting
 pub use Rattle.bump_class.specs.Books
 pub use Rattle.bump_class.specs.Lanes
 pub use Rattle.bump_class.specs.Links
@@ -19,5 +20,7 @@ pub use Rattle.cache_part.specs.Looks
 pub use Rattle.cache_part.specs.Parts
 pub use Rattle.cache_part.specs.Putting
 pub use Rattle.cache_part.specs.Stats
+pub use Rattle.cache_part.specs.Taking
 pub use Rattle.cache_part.specs.Tending
+pub use Rattle.cache_part.specs.Visiting as PartVisiting
 pub use Rattle.entry_times.specs.Times

@@ -54,3 +54,16 @@ Obeys law part chunk = law (last_words part.book.part chunk)
 -- the law holds of each item that is linked
 abbrev pub IsLawful : RowPredicate → PartView → Type 0
 IsLawful law part = (chunk : ℕ) → IsSome (linked_at part.book.part chunk) → Obeys law part chunk
+
+-- the part may have looked until an item had expired, which ended then: its cursor, and the counts of what was evicted,
+-- may be others, and what may where items ended; all else stays, also the lanes
+abbrev pub with_taken : ShelfView → ShelfView → ShelfView
+with_taken after before = record before {
+  part = record before.part {
+    book = after.part.book;
+    flow = after.part.flow;
+    evictions = after.part.evictions;
+    index = after.part.index;
+    cursor = after.part.cursor;
+  };
+}

@@ -1,5 +1,5 @@
 //! Items as entries of a table of keys and values.
-ghost use Rattle.std.specs.Prelude.{◌≡◌, ◌+◌, ◌∷◌, IfSome, IfNone, IfOk, IfErr, Option, None, true, suc, length, take, drop};
+ghost use Rattle.std.specs.Prelude.{◌≡◌, ◌+◌, ◌∷◌, IfSome, IfNone, IfOk, IfErr, Option, None, true, false, suc, length, take, drop};
 ghost use Rattle.bump_class.specs.Links.{MayHave};
 ghost use Rattle.bump_rules.specs.Lists.{all_without};
 ghost use Rattle.bump_steps.specs.Views.{last_label, owns};
@@ -8,6 +8,8 @@ ghost use Rattle.cache_lists.specs.Segments.{SameSegments};
 ghost use Rattle.cache_part.specs.Keys.{value_at};
 ghost use Rattle.cache_part.specs.Looks.{LooksOnly};
 ghost use Rattle.cache_part.specs.Parts.{IsUnknown};
+ghost use Rattle.cache_part.specs.Putting.{row_at};
+ghost use Rattle.cache_part.specs.Visiting.{has_unexpired};
 ghost use Rattle.cache_shelf.specs.Entries.{AllKept, Evicted, FindsNoRoom, Had, Keeps, OnlyReads, OthersKept, PutsEntry, key_of_evicted};
 ghost use Rattle.cache_shelf.specs.Shelves.{IsLawful};
 
@@ -140,4 +142,23 @@ pub(crate) fn look_entry<N: Name, L: RowLaw>(
     let chunk = part.find(key);
     read_old(part, chunk, told);
     chunk
+}
+
+// Reads the row of the item of a chunk, where it has one that hasn't expired.
+pub(crate) fn read_unexpired_entry<N: Name, L: RowLaw>(
+    part: &mut Part<N, L>,
+    chunk: u32,
+    now: u64,
+    row: &mut [u64],
+) -> bool
+    requires lawful { IsLawful L.law part.old }
+    requires own { owns chunk part.old.book.part ≡ true }
+    requires row { length row.old ≡ suc (part.old.key_words + part.old.value_words) }
+    ensures lawful { IsLawful L.law part.new }
+    ensures told { result ≡ has_unexpired now part.old.book.part chunk }
+    ensures read { result ≡ true → row.new ≡ row_at part.old chunk }
+    ensures stays { result ≡ false → row.new ≡ row.old }
+    ensures reads { OnlyReads part.old part.new }
+{
+    part.read_unexpired(chunk, now, row)
 }

@@ -5,6 +5,7 @@
 mod entries;
 mod limits;
 mod shelves;
+mod taking;
 mod turns;
 
 pub use cache_part::{

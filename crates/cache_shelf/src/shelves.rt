@@ -1,9 +1,9 @@
 //! A shelf: a part, the lanes of its readers' rings, and when its lists are balanced.
-ghost use Rattle.std.specs.Prelude.{◌≡◌, ℕ, List, ◌+◌, ◌<◌, ◌≤◌, IfSome, IfNone, IfOk, IfErr, None, [], suc, length, take, drop};
+ghost use Rattle.std.specs.Prelude.{◌≡◌, ℕ, List, ◌+◌, ◌<◌, ◌≤◌, IfSome, IfNone, IfOk, IfErr, None, true, false, [], suc, length, take, drop};
 ghost use Rattle.bump_class.specs.Books.{IsBook};
 ghost use Rattle.bump_class.specs.Links.{MayHave};
 ghost use Rattle.bump_rules.specs.Lists.{all_without};
-ghost use Rattle.bump_steps.specs.Views.{last_word};
+ghost use Rattle.bump_steps.specs.Views.{last_word, owns};
 ghost use Rattle.cache_lists.specs.Counts.{IsFlow, SegmentsAddUp};
 ghost use Rattle.cache_lists.specs.Items.{EndsAt};
 ghost use Rattle.cache_lists.specs.Segments.{SameSegments};
@@ -11,19 +11,24 @@ ghost use Rattle.cache_part.specs.Parts.{IsPart, IsUnknown};
 ghost use Rattle.cache_part.specs.Stats.{stats_of};
 ghost use Rattle.cache_part.specs.Expiring.{KeepsUnexpired, LooksInTurn};
 ghost use Rattle.cache_part.specs.Looks.{LooksOnly};
+ghost use Rattle.cache_part.specs.Putting.{row_at};
+ghost use Rattle.cache_part.specs.Visiting.{has_unexpired};
+ghost use Rattle.cache_part.specs.Taking.{TakesNext};
 ghost use Rattle.cache_shelf.specs.Limits.{put_rounds};
-ghost use Rattle.cache_shelf.specs.Shelves.{ShelfView as TheShelfView, IsLawful, with_ended, with_put, with_tended};
+ghost use Rattle.cache_shelf.specs.Shelves.{ShelfView as TheShelfView, IsLawful, with_ended, with_put, with_taken, with_tended};
 ghost use Rattle.cache_shelf.specs.Entries.{AllKept, AllUnexpiredKept, Evicted, FindsNoRoom, Had, Keeps, OthersKept, PutsEntry, ReadsShelf, key_of_evicted};
 ghost use Rattle.cache_shelf.specs.Turns.{PutsInTurn, TendsShelf};
 
-use crate::entries::{look_entry, put_entry, remove_entry};
+use crate::entries::{look_entry, put_entry, read_unexpired_entry, remove_entry};
 use crate::limits::{Limits, PUT_BUMPS};
+use crate::taking::take_entry;
 use crate::turns::take_turn;
 use bump_class::RawLane;
 use bump_heads::Name;
 use bump_steps::{AnyRow, RowLaw};
 use cache_part::{NoChunk, Part, PutItem, Stats};
 use std::marker::Model;
+use std::ops::Range;
 
 /// A part, the lanes of its readers' rings, and how many puts there were since its lists were balanced. Of each item
 /// that is linked the table's law holds.
@@ -188,5 +193,44 @@ impl<N: Name, L: RowLaw> Shelf<N, L> {
         ensures { result ≡ stats_of self.now.part }
     {
         self.part.stats()
+    }
+
+    /// The chunks of the class: from its first one up to that behind its last one.
+    pub fn chunks(&self) -> Range<u32>
+        ensures start { result.start ≡ self.now.part.book.part.first }
+        ensures end { result.end ≡ self.now.part.book.part.first + self.now.part.book.part.count }
+    {
+        self.part.chunks()
+    }
+
+    /// Reads the row of the item of a chunk of the class, where one is linked that hasn't expired at `now`, in the
+    /// caller's ticks, and tells whether one is, as `Part::read_unexpired` does: when it expires, and then the words of
+    /// its key and of its value. Where none is `row` stays, which has one word more than a row. The item isn't touched,
+    /// and nothing changes but what the class's seat notes of its loads.
+    pub fn read_unexpired(&mut self, chunk: u32, now: u64, row: &mut [u64]) -> bool
+        requires own { owns chunk self.old.part.book.part ≡ true }
+        requires row { length row.old ≡ suc (self.old.part.key_words + self.old.part.value_words) }
+        ensures told { result ≡ has_unexpired now self.old.part.book.part chunk }
+        ensures read { result ≡ true → row.new ≡ row_at self.old.part chunk }
+        ensures stays { result ≡ false → row.new ≡ row.old }
+        ensures reads { ReadsShelf self.old self.new }
+    {
+        read_unexpired_entry(&mut self.part, chunk, now, row)
+    }
+
+    /// Ends the next item that has expired at `now`, in the caller's ticks, as `Part::take_expired` does, and tells its
+    /// chunk, and when it expires and its row in `told`, which has one word more than a row. It looks at as many chunks
+    /// as the limits say, where the last tend, or the last of these calls, ended its looks. It is None exactly where
+    /// none of them has an item that has expired, and then the words of `told` stay. Under each other key stays what
+    /// was there. No bump is applied.
+    pub fn take_expired(&mut self, told: &mut [u64], now: u64) -> Option<u32>
+        requires told { length told.old ≡ suc (self.old.part.key_words + self.old.part.value_words) }
+        ensures takes { TakesNext self.old.limits.looks now result self.old.part self.new.part }
+        ensures told { Evicted L.law result told.old told.new self.old.part self.new.part }
+        ensures kept { AllKept (key_of_evicted result self.old.part) self.old.part self.new.part }
+        ensures length { length told.new ≡ length told.old }
+        ensures same { self.new ≡ with_taken self.new self.old }
+    {
+        take_entry(&mut self.part, self.limits.looks, told, now)
     }
 }

@@ -1,4 +1,4 @@
-//! Items that expire: to the tick, found by gets, puts, removals and tends.
+//! Items that expire: to the tick, found by gets, puts, removals and tends, and told where that is asked for.
 ghost use Rattle.std.specs.Prelude.{◌≡◌};
 
 use crate::stands::{Entry, Stand, config_of};
@@ -9,8 +9,11 @@ use std::process::Abort;
 use std::sync::Wait;
 use std::test::Fail;
 
-// A tend of these caches looks at so many chunks.
+// A tend of most of these caches looks at so many chunks.
 const LOOKS: u32 = 4;
+
+// One of them has so many parts.
+const PARTS: u32 = 3;
 
 // What is done with a cache.
 #[derive(Clone, Copy)]
@@ -26,9 +29,15 @@ enum Case {
 
     // a tend finds what has expired, four chunks at a time
     Swept,
+
+    // what has expired is told, each item once
+    Told,
+
+    // and that of each of several parts
+    ToldOfParts,
 }
 
-// A cache of ten items of one reader.
+// A cache of a few items of one reader.
 #[derive(Drop)]
 struct Few<N: Name + LogName> {
     stand: Stand<N, u64, u64>,
@@ -137,6 +146,81 @@ impl<N: Name + LogName> Few<N> {
         }
         assert_eq!(rt; self.stand.stats(rt).expired_unfetched, 5);
     }
+
+    // The ten items are at the first ten of twelve chunks, and each second one has expired. A call looks at four: the
+    // first one ends its looks before that of key 4.
+    fn check_told<R: Wait + Abort>(&mut self, rt: &R) {
+        for key in 0..10 {
+            self.put_until(rt, key, 20 + key % 2 * 10, 1);
+        }
+        assert!(rt; self.stand.get(0, &6, 19).is_some());
+        assert_eq!(rt; self.stand.take_expired(rt, 0, 19), None);
+        for key in [4, 6, 8, 0, 2] {
+            let expired = Evicted {
+                key,
+                value: key,
+                cause: Cause::Expired,
+            };
+            assert_eq!(rt; self.stand.take_expired(rt, 0, 20), Some(expired));
+        }
+        for _ in 0..3 {
+            assert_eq!(rt; self.stand.take_expired(rt, 0, 29), None);
+        }
+        assert_eq!(rt; self.stand.take_expired(rt, 1, 30), None, "no such part");
+        for key in 0..10 {
+            self.expect(rt, key, 20, key % 2 == 1);
+        }
+        let stats = self.stand.stats(rt);
+        assert_eq!(rt; (stats.crawler_reclaimed, stats.expired_unfetched), (5, 4));
+        assert_eq!(rt; (stats.evicted, stats.reclaimed), (0, 0));
+    }
+
+    // Takes what has expired of a part, and counts how often each of so many keys is told.
+    fn take_all<R: Wait + Abort>(&mut self, rt: &R, part: u32, now: u64, told: &mut [u32]) {
+        for _ in 0..=told.len() {
+            let Some(it) = self.stand.take_expired(rt, part, now) else {
+                return;
+            };
+            assert_eq!(rt; (it.value, it.cause), (it.key, Cause::Expired));
+            assert_eq!(rt; self.stand.part_of(&it.key), part);
+            if let Some(times) = told.get_mut(it.key as usize) {
+                *times = times.saturating_add(1);
+            }
+        }
+        panic!(rt; "more is told of part {part} than was put")
+    }
+
+    // A call looks at all chunks of a part.
+    fn check_parts<R: Wait + Abort>(&mut self, rt: &R) {
+        for key in 0..30 {
+            self.put_until(rt, key, 20 + key % 3 * 10, 1);
+        }
+        let mut told = [0; 30];
+        for part in 0..=PARTS {
+            self.take_all(rt, part, 30, &mut told);
+        }
+        for (key, times) in told.iter().enumerate() {
+            let wanted = if key % 3 == 2 { 0 } else { 1 };
+            assert_eq!(rt; *times, wanted, "key {key}");
+        }
+        assert_eq!(rt; self.stand.stats(rt).crawler_reclaimed, 20);
+        self.stand.tend(rt, 30);
+        assert_eq!(rt; self.stand.stats(rt).crawler_reclaimed, 20);
+    }
+}
+
+// The caches of these cases.
+fn config_for(case: Case) -> CacheConfig {
+    match case {
+        Case::ToldOfParts => CacheConfig {
+            parts: PARTS,
+            ..config_of(300, 30, 0, 40, 16)
+        },
+        _ => CacheConfig {
+            expiry_looks: LOOKS,
+            ..config_of(10, 2, 0, 40, 16)
+        },
+    }
 }
 
 // Opens a cache under the names that the blank's table and log have, and runs the case.
@@ -159,6 +243,8 @@ fn run<N: Name + LogName, R: Wait + Abort>(
         Case::Untold => few.check_untold(rt),
         Case::Causes => few.check_causes(rt),
         Case::Swept => few.check_sweep(rt),
+        Case::Told => few.check_told(rt),
+        Case::ToldOfParts => few.check_parts(rt),
     }
     Ok(())
 }
@@ -166,12 +252,15 @@ fn run<N: Name + LogName, R: Wait + Abort>(
 #[test]
 fn items_expire_to_the_tick(rt: HostRuntime) -> Result<(), Fail> {
     let alloc = rt.alloc();
-    for case in [Case::ToTheTick, Case::Untold, Case::Causes, Case::Swept] {
-        let config = CacheConfig {
-            expiry_looks: LOOKS,
-            ..config_of(10, 2, 0, 40, 16)
-        };
-        let blank = CacheBlank::<u64, u64>::new(alloc, &config)?;
+    for case in [
+        Case::ToTheTick,
+        Case::Untold,
+        Case::Causes,
+        Case::Swept,
+        Case::Told,
+        Case::ToldOfParts,
+    ] {
+        let blank = CacheBlank::<u64, u64>::new(alloc, &config_for(case))?;
         run::<Brand, _>(&rt, alloc, blank, case)?;
     }
     Ok(())

@@ -1,6 +1,6 @@
 //! Tests of a cache: random calls beside a plain map, also those that look and then put, the order in which items are
 //! evicted beside a model of its lists, puts that find no room, items that expire, gets of many keys, keys of one hash,
-//! keys as text, memory that is counted or refused, and readers on threads.
+//! keys as text, memory that is counted or refused, visits of all that is there, and readers on threads.
 #![tactic(auto)]
 
 #[cfg(test)]
@@ -35,3 +35,5 @@ mod stands;
 mod text;
 #[cfg(test)]
 mod threads;
+#[cfg(test)]
+mod visits;

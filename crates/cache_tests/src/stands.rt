@@ -2,8 +2,8 @@
 ghost use Rattle.std.specs.Prelude.{◌≡◌, ◌<◌, length};
 
 use bump_cache::{
-    Bytes, Cache, CacheBlank, CacheConfig, CacheReader, CacheState, Caller, LogName, Name, NoRoom,
-    Opened, Packed, Put, Seed, Stats, open,
+    Bytes, Cache, CacheBlank, CacheConfig, CacheReader, CacheState, Caller, Evicted, LogName, Name,
+    NoRoom, Opened, Packed, Put, Seed, Stats, open,
 };
 use std::alloc::{AllocError, Global};
 use std::sync::Wait;
@@ -125,6 +125,17 @@ impl<N: Name + LogName> Changer<N> {
         cache.tend_each(rt, &mut me, rt, Duration::from_millis(1), clock, stop);
     }
 
+    /// Ends the next item of a part that has expired, and tells it.
+    pub fn take_expired<K: Packed, V: Packed, W: Wait>(
+        &mut self,
+        rt: &W,
+        cache: &Cache<N, K, V>,
+        part: u32,
+        now: u64,
+    ) -> Option<Evicted<K, V>> {
+        cache.take_expired(rt, &mut self.me, part, now)
+    }
+
     /// Ends each item.
     pub fn clear<K: Packed, V: Packed, W: Wait>(&mut self, rt: &W, cache: &Cache<N, K, V>) {
         cache.clear(rt, &mut self.me);
@@ -203,6 +214,16 @@ impl<N: Name + LogName, K: Packed, V: Packed> Stand<N, K, V> {
     /// Tends the cache.
     pub fn tend<W: Wait>(&mut self, rt: &W, now: u64) {
         self.changer.tend(rt, &self.cache, now);
+    }
+
+    /// Ends the next item of a part that has expired, and tells it.
+    pub fn take_expired<W: Wait>(&mut self, rt: &W, part: u32, now: u64) -> Option<Evicted<K, V>> {
+        self.changer.take_expired(rt, &self.cache, part, now)
+    }
+
+    /// The part of a key.
+    pub fn part_of(&self, key: &K) -> u32 {
+        self.cache.part_of(key)
     }
 
     /// Ends each item.

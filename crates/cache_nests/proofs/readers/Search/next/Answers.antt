@@ -13,9 +13,6 @@ loop-self-preserved c = (
   search rules,
 )
 
-pub returns-then-self-eq0-clause-walks : goal.returns-then-self-eq0-clause-walks
-returns-then-self-eq0-clause-walks c = search rules
-
 pub returns-clause-walks : goal.returns-clause-walks
 returns-clause-walks c = search rules
 

@@ -1,4 +1,4 @@
-use Rattle.cache_tests.proofs.changes.what_has_expired_is_nothing_to_a_call_that_looks.Given as goal
+use Rattle.cache_tests.proofs.changes.each_kind_of_call_comes_to_what_a_plain_map_has.Given as goal
 
 -- the names say what the blank has
 abbrev pub ghosts-run-N-Name : goal.ghosts-run-N-Name

@@ -1,0 +1,97 @@
+//! What has expired ends, and is told.
+ghost use Rattle.std.specs.Prelude.{◌≡◌, ◌+◌, ◌<◌, ◌≤◌, suc, None, IfSome, length};
+ghost use Rattle.cache_shelf.specs.Entries.{AllKept};
+ghost use Rattle.cache_shelf.specs.Shelves.{with_taken};
+ghost use Rattle.call_log.specs.Calls.{MakesOne};
+ghost use Rattle.bump_cache.specs.declared.answers.Cause.TheVariants.{Expired};
+ghost use Rattle.bump_cache.specs.Ending.{TakesKey, TakesOfPart, TakesValue};
+ghost use Rattle.bump_cache.specs.Putting.{WasEvicted, evicted_key};
+ghost use Rattle.bump_cache.specs.States.{from_of, part_called, to_of};
+
+use crate::answers::Evicted;
+use crate::caches::Cache;
+use crate::law::PairLaw;
+use crate::pairs::told_evicted;
+use crate::states::CacheState;
+use bump_heads::Name;
+use cache_shelf::Shelf;
+use call_log::{Caller, LogName};
+use packed_words::Packed;
+use std::sync::Wait;
+
+// Ends the next item that has expired, and unpacks what is told of it.
+pub(crate) fn take_row<N: Name, K: Packed, V: Packed>(
+    shelf: &mut Shelf<N, PairLaw<K, V>>,
+    told: &mut [u64],
+    now: u64,
+) -> Option<Evicted<K, V>>
+    requires key { shelf.old.part.key_words ≡ K.width }
+    requires value { shelf.old.part.value_words ≡ V.width }
+    requires told { length told.old ≡ suc (K.width + V.width) }
+    ensures takes { TakesValue K.as_words V.as_words now result shelf.old shelf.new }
+    ensures length { length told.new ≡ length told.old }
+{
+    let chunk = shelf.take_expired(told, now);
+    told_evicted(chunk, told, now)
+}
+
+impl<N: Name + LogName, K: Packed, V: Packed> Cache<N, K, V> {
+    // Ends the next item that has expired of a part that there is.
+    fn take_of_part<W: Wait>(
+        &self,
+        rt: &W,
+        me: &mut Caller<N, CacheState>,
+        part: usize,
+        now: u64,
+    ) -> Option<Evicted<K, V>>
+        requires caller { 0 < me.old.parts }
+        requires part { part < self.now.parts }
+        ensures { TakesOfPart K.as_words V.as_words part now result me.old me.new }
+    {
+        let mut guard = self.lock_part(rt, part);
+        let logged = &mut *guard;
+        let told = logged.value.pairs.take_expired(now);
+        logged.log.note(rt, me, &logged.value);
+        told
+    }
+
+    /// Ends the next item of a part that has expired at `now`, in the caller's ticks, and tells its key and its value,
+    /// with the cause `Expired`: so whoever wants to be told what expires calls it for each part, numbered from 0,
+    /// until it answers None, and then `tend`, which ends what has expired and tells nobody.
+    ///
+    /// It looks at the part's chunks where the last tend, or the last of these calls, ended its looks, around and
+    /// around: at most at `expiry_looks` of them, as the configuration says, until one has an item that has expired.
+    /// That item ends as by a tend: it counts as memcached's `crawler_reclaimed`, and where it was never hit as
+    /// `expired_unfetched`, and not as evicted; the index leads to it no more, and a reader that holds it keeps it. The
+    /// next looks begin behind its chunk. It answers None where none of these chunks has such an item, and then the
+    /// next looks begin behind them all: so a part with more chunks than `expiry_looks` may have one at another chunk.
+    /// Where there is no part of this number it answers None as well, and is no call. It waits until no other thread
+    /// changes the part, and asks for no memory. Under each other key stays what was there, and the other items keep
+    /// their order. A put or a removal may end what has expired before its turn comes here: a put tells it then, with
+    /// this cause, where it evicts it, and a put under its own key or a removal doesn't tell it.
+    pub fn take_expired<W: Wait>(
+        &self,
+        rt: &W,
+        me: &mut Caller<N, CacheState>,
+        part: u32,
+        now: u64,
+    ) -> Option<Evicted<K, V>>
+        requires part { 0 < me.old.parts }
+        ensures absent { self.now.parts ≤ part → (result ≡ None) × (me.new ≡ me.old) }
+        ensures call { part < self.now.parts → MakesOne me.old me.new }
+        ensures part { part < self.now.parts → part_called me.new ≡ part }
+        ensures evicted { IfSome result (λ it. WasEvicted K.as_words V.as_words it now (from_of me.new).part
+            (to_of me.new).part) }
+        ensures expired { IfSome result (λ it. it.cause ≡ Expired) }
+        ensures kept { part < self.now.parts → AllKept (evicted_key K.as_words result) (from_of me.new).part
+            (to_of me.new).part }
+        ensures takes { part < self.now.parts → TakesKey (evicted_key K.as_words result) (from_of me.new).limits.looks
+            now (from_of me.new).part (to_of me.new).part }
+        ensures same { part < self.now.parts → to_of me.new ≡ with_taken (to_of me.new) (from_of me.new) }
+    {
+        if part as usize >= self.parts.len() {
+            return None;
+        }
+        self.take_of_part(rt, me, part as usize, now)
+    }
+}
