@@ -1,15 +1,31 @@
 #!/usr/bin/env python3
 """Runs keys, one a line, through plain lists by the cache's rules, for one reader: what `bump_replay` has to count.
 
-    checks/aged_lists.py ITEMS HOT WARM HOT_AGE WARM_AGE RING EVERY < KEYS
+    checks/aged_lists.py ITEMS HOT WARM HOT_AGE WARM_AGE RING EVERY [PARTS] < KEYS
 
 HOT and WARM are percents of the items, HOT_AGE and WARM_AGE percents of the age of COLD, or - where ages don't count; EVERY is
-after how many accesses the lists are tended. It prints the hits, and how often items went from list to list.
+after how many accesses the lists are tended; each of PARTS, 1 where it isn't given, has lists of its own. It prints the hits, and
+how often items went from list to list. Keys are numbered as they first come, and the hash of its number tells a key's part.
 """
 import sys
 from collections import OrderedDict, deque
 
 PUT_BUMPS, PUT_ROUNDS, TEND_ROUNDS, RESCUES = 16, 8, 100, 8
+
+# bump_replay's seed, and what keyed_hash mixes with it.
+FIRST, SECOND = 0x243F6A8885A308D3, 0x9E3779B97F4A7C15
+START, MULTIPLIER, COUNT = 0xA0761D6478BD642F, 0xE7037ED1A0B428DB, 0x8EBC6AF09C88C6E3
+
+
+def mix(a, b):
+    product = a * b
+    return product % 2**64 ^ product >> 64
+
+
+def part_of(number, parts):
+    """The part of a key's number, by 8 bits of its hash."""
+    state = mix(FIRST ^ START ^ number, SECOND ^ MULTIPLIER)
+    return (mix(state, 1 ^ COUNT) >> 40) % 256 * parts // 256
 
 
 class Item:
@@ -112,19 +128,26 @@ class Lists:
 def main():
     items, hot, warm = map(int, sys.argv[1:4])
     hot_age, warm_age = (None if word == "-" else int(word) for word in sys.argv[4:6])
-    ring, every = map(int, sys.argv[6:8])
-    lists, hits = Lists(items, hot, warm, hot_age, warm_age, ring), 0
+    ring, every, parts = map(int, (*sys.argv[6:], 1)[:3])
+    shares = [items // parts + (part < items % parts) for part in range(parts)]
+    lists = [Lists(share, hot, warm, hot_age, warm_age, ring) for share in shares]
+    numbers, hits, ways = {}, 0, {}
     for now, line in enumerate(line for line in sys.stdin if line.strip()):
-        key = line.rstrip("\r\n")
-        if lists.get(key, now):
+        key = numbers.setdefault(line.rstrip("\r\n"), len(numbers))
+        part = lists[part_of(key, parts)]
+        if part.get(key, now):
             hits += 1
         else:
-            lists.put(key, now)
+            part.put(key, now)
         if now % every == 0:
-            lists.tend(now)
+            for part in lists:
+                part.tend(now)
     print("hits", hits)
-    for way in sorted(lists.ways):
-        print(way, lists.ways[way])
+    for part in lists:
+        for way, count in part.ways.items():
+            ways[way] = ways.get(way, 0) + count
+    for way in sorted(ways):
+        print(way, ways[way])
 
 
 main()
