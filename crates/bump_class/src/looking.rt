@@ -1,6 +1,6 @@
 //! Looks at a class's chunks: the ends of its lists, without a step; heads, labels and further words, by one load each.
-ghost use Rattle.std.specs.Prelude.{◌≡◌, suc, ◌<◌, ◌≤◌, Some, IfSome, true};
-ghost use Rattle.bump_links.specs.Lists.{first_of, last_of};
+ghost use Rattle.std.specs.Prelude.{◌≡◌, suc, ◌<◌, ◌≤◌, Some, IfSome, true, nat_lt};
+ghost use Rattle.bump_links.specs.Lists.{first_of, last_of, next_of, previous_of, times};
 ghost use Rattle.bump_rules.specs.Labels.{label_of_life};
 ghost use Rattle.bump_rules.specs.Lawful.{bit, Shows, IsUsed};
 ghost use Rattle.bump_rules.specs.Lists.{list_at};
@@ -33,6 +33,36 @@ impl<N: Name, L: RowLaw> Book<N, L> {
         ensures stands { IfSome result (λ c. (owns c self.now.part ≡ true) × (place_of_chunk self.now.part c ≡ place)) }
     {
         self.lists.back(place)
+    }
+
+    /// Whether a chunk of the class stands in a list.
+    pub fn stands_in(&self, chunk: u32, place: Place) -> bool
+        requires own { owns chunk self.now.part ≡ true }
+        ensures there { result ≡ nat_lt 0 (times chunk (list_at self.now.lists place)) }
+        ensures stands { result ≡ true → place_of_chunk self.now.part chunk ≡ place }
+    {
+        self.lists.has(chunk, place)
+    }
+
+    /// The chunk behind a chunk of a list, or None where that is the last one. It stands in the same list.
+    pub fn after(&self, chunk: u32, place: Place) -> Option<u32>
+        requires own { owns chunk self.now.part ≡ true }
+        requires stands { place_of_chunk self.now.part chunk ≡ place }
+        ensures next { result ≡ next_of chunk (list_at self.now.lists place) }
+        ensures once { times chunk (list_at self.now.lists place) ≡ 1 }
+        ensures stands { IfSome result (λ c. (owns c self.now.part ≡ true) × (place_of_chunk self.now.part c ≡ place)) }
+    {
+        self.lists.after(chunk, place)
+    }
+
+    /// The chunk before a chunk of a list, or None where that is the first one. It stands in the same list.
+    pub fn before(&self, chunk: u32, place: Place) -> Option<u32>
+        requires own { owns chunk self.now.part ≡ true }
+        requires stands { place_of_chunk self.now.part chunk ≡ place }
+        ensures previous { result ≡ previous_of chunk (list_at self.now.lists place) }
+        ensures stands { IfSome result (λ c. (owns c self.now.part ≡ true) × (place_of_chunk self.now.part c ≡ place)) }
+    {
+        self.lists.before(chunk, place)
     }
 
     /// The head of a chunk of the class, by one load, which is noted with what it found. It agrees with the chunk's

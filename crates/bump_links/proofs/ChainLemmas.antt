@@ -6,10 +6,10 @@ use Rattle.std.proofs.lemmas.List.{length-append, length-set, get_or-set_same, g
 use Rattle.bump_links.specs.declared.TheConstants.{NONE, NODES_MAX}
 use Rattle.bump_links.specs.declared.chain.Node.{Node}
 use Rattle.bump_links.specs.declared.chain.Header.{Header}
-use Rattle.bump_links.specs.Lists.{times, without, first_of, last_of, next_of}
+use Rattle.bump_links.specs.Lists.{times, without, first_of, last_of, next_of, previous_of}
 use Rattle.bump_links.specs.Chain.{SpellsChain, AllDiffer, SpellsList, IsMember, KeepsOthers, no_node, node_at, forward_of, back_of, list_of, node_or_none}
 use Rattle.bump_links.specs.Relink.{LinksForward, LinksBack, header_with_head, with_tail}
-use Rattle.bump_links.proofs.ListsLemmas.{Each-weaker, Each-both, Each-parts, Each-append, AllDiffer-parts, AllDiffer-append, split_at, apart-from_times, length-le_from_AllDiffer, last_of-cons, next_of-split}
+use Rattle.bump_links.proofs.ListsLemmas.{Each-weaker, Each-both, Each-parts, Each-append, AllDiffer-parts, AllDiffer-append, split_at, apart-from_times, length-le_from_AllDiffer, last_of-cons, next_of-split, previous_of-split}
 use Rattle.bump_links.proofs.SpellsLemmas.{Spells-split, Spells-append, Spells-last, Spells-end, Spells-begin, or_none}
 
 -- what holds of each element, and of what stands behind them, holds of where their run begins
@@ -364,12 +364,12 @@ last_is f b before first x [] last after s = ap (λ (q : ℕ). Some q) s.2.1
 last_is f b before first x (y ∷ ys) last after s = last_is f b x (f x) y ys last after s.2 ∙ sym (last_of-cons x y ys)
 
 -- the last node of a run is what its last link leads to
-pub last_of-run : (f b : ℕ → ℕ) (before first : ℕ) (xs : List ℕ) (last : ℕ) → before ≡ NONE
-    → SpellsChain f b before first xs last NONE → AllByRecursion (λ m. m ≢ NONE) xs → node_or_none last ≡ last_of xs
-last_of-run f b before first [] last e s a = rw (eq-eqb last NONE (s.1 ∙ e)) refl
-last_of-run f b before first (x ∷ xs) last e s a =
-    rw (ne_eqb last NONE (Spells-last f b (λ m. m ≢ NONE) before first x xs last NONE s a))
-    (last_is f b before first x xs last NONE s)
+pub last_of-run : (f b : ℕ → ℕ) (before first : ℕ) (xs : List ℕ) (last after : ℕ) → before ≡ NONE
+    → SpellsChain f b before first xs last after → AllByRecursion (λ m. m ≢ NONE) xs → node_or_none last ≡ last_of xs
+last_of-run f b before first [] last after e s a = rw (eq-eqb last NONE (s.1 ∙ e)) refl
+last_of-run f b before first (x ∷ xs) last after e s a =
+    rw (ne_eqb last NONE (Spells-last f b (λ m. m ≢ NONE) before first x xs last after s a))
+    (last_is f b before first x xs last after s)
 
 -- behind a node comes what its forward link leads to
 pub next_of-SpellsList : (nodes : List Node) (l : ℕ) (h : Header) (n : ℕ) (xs : List ℕ) → length nodes ≤ NODES_MAX
@@ -382,3 +382,15 @@ next_of-SpellsList nodes l h n xs few s once =
     let exist = Each-parts (λ m. m ≢ NONE) sp.front (n ∷ sp.rest) (members_apart nodes l _ few t.members) in
     first_of-run (forward_of nodes) (back_of nodes) n (forward_of nodes n) sp.rest h.tail parts.1 exist.1.1
     ∙ sym (ap (next_of n) sp.whole ∙ next_of-split n sp.front sp.rest sp.before)
+
+-- and before it comes what its back link leads to
+pub previous_of-SpellsList : (nodes : List Node) (l : ℕ) (h : Header) (n : ℕ) (xs : List ℕ) → length nodes ≤ NODES_MAX
+    → SpellsList nodes l h xs → times n xs ≡ 1 → node_or_none (back_of nodes n) ≡ previous_of n xs
+previous_of-SpellsList nodes l h n xs few s once =
+    let sp = split_at n xs once in
+    let P : List ℕ → Type 0 = λ q. SpellsList nodes l h q in
+    let t = subst P sp.whole s in
+    let parts = Spells-split (forward_of nodes) (back_of nodes) NONE h.head sp.front n sp.rest h.tail NONE t.links in
+    let exist = Each-parts (λ m. m ≢ NONE) sp.front (n ∷ sp.rest) (members_apart nodes l _ few t.members) in
+    last_of-run (forward_of nodes) (back_of nodes) NONE h.head sp.front (back_of nodes n) n refl parts.0 exist.0
+    ∙ sym (ap (previous_of n) sp.whole ∙ previous_of-split n sp.front sp.rest sp.before sp.behind)

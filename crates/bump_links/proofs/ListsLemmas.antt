@@ -1,10 +1,10 @@
 -- Plain lists: an element that stands once, and the list without it.
-use Rattle.std.proofs.Common.{◌≡◌, ◌≢◌, ℕ, suc, ◌<◌, ◌≤◌, true, false, eqb, eq-eqb, List, [], ◌∷◌, ◌++◌, length, refl, sym, ◌∙◌, ap, subst, arith, inl, inr}
+use Rattle.std.proofs.Common.{◌≡◌, ◌≢◌, ℕ, suc, ◌<◌, ◌≤◌, true, false, eqb, eq-eqb, None, Some, List, [], ◌∷◌, ◌++◌, length, refl, sym, ◌∙◌, ap, subst, arith, inl, inr}
 use Rattle.std.specs.List.{AllByRecursion, list_any, IsDistinct}
 use Rattle.std.proofs.lemmas.Map.Steps.{length-le_from_distinct_below}
 use Rattle.std.proofs.lemmas.Bool.{ne_eqb, eq-eqb}
 use Rattle.std.proofs.lemmas.Bool.Decides.{eqb_tells}
-use Rattle.bump_links.specs.Lists.{times, without, first_of, last_of, next_of}
+use Rattle.bump_links.specs.Lists.{times, without, first_of, last_of, next_of, begins_with, previous_of}
 use Rattle.bump_links.specs.Chain.{AllDiffer}
 
 -- of a fact of each element, the weaker fact of each element
@@ -167,3 +167,21 @@ last_of-cons x y ys = refl
 pub next_of-split : (n : ℕ) (xs ys : List ℕ) → AllByRecursion (λ m. m ≢ n) xs → next_of n (xs ++ n ∷ ys) ≡ first_of ys
 next_of-split n [] ys a = rw (eq-eqb n n refl) refl
 next_of-split n (x ∷ xs) ys a = rw (ne_eqb x n a.0) (next_of-split n xs ys a.1)
+
+-- an element that isn't there is not the first
+begins_with-absent : (n : ℕ) (xs : List ℕ) → AllByRecursion (λ m. m ≢ n) xs → begins_with n xs ≡ false
+begins_with-absent n [] a = refl
+begins_with-absent n (x ∷ xs) a = ne_eqb x n a.0
+
+-- it follows nothing
+previous_of-absent : (n : ℕ) (xs : List ℕ) → AllByRecursion (λ m. m ≢ n) xs → previous_of n xs ≡ None
+previous_of-absent n [] a = refl
+previous_of-absent n (x ∷ xs) a = rw (begins_with-absent n xs a.1) (previous_of-absent n xs a.1)
+
+-- what an element follows in a list that is split at it is the last before it
+pub previous_of-split : (n : ℕ) (xs ys : List ℕ) → AllByRecursion (λ m. m ≢ n) xs → AllByRecursion (λ m. m ≢ n) ys
+    → previous_of n (xs ++ n ∷ ys) ≡ last_of xs
+previous_of-split n [] ys a b = rw (begins_with-absent n ys b) (previous_of-absent n ys b)
+previous_of-split n (x ∷ []) ys a b = rw (eq-eqb n n refl) refl
+previous_of-split n (x ∷ y ∷ xs) ys a b =
+    rw (ne_eqb y n a.1.0) (previous_of-split n (y ∷ xs) ys a.1 b ∙ sym (last_of-cons x y xs))

@@ -7,11 +7,11 @@ use Rattle.std.proofs.lemmas.List.{append_assoc, append-nil}
 use Rattle.bump_links.specs.declared.TheConstants.{NONE}
 use Rattle.bump_links.specs.declared.chain.Node.{Node}
 use Rattle.bump_links.specs.declared.chain.Header.{Header}
-use Rattle.bump_links.specs.Lists.{list_at, times, last_of, next_of, IsHeldBy}
+use Rattle.bump_links.specs.Lists.{list_at, times, last_of, next_of, previous_of, IsHeldBy}
 use Rattle.bump_links.specs.Chain.{IsMember, forward_of, back_of, list_of, list_under, node_or_none, followed}
 use Rattle.bump_links.specs.Spelled.{IsSpelled, lists_of, header_at}
 use Rattle.bump_links.proofs.ListsLemmas.{Each-weaker}
-use Rattle.bump_links.proofs.ChainLemmas.{Spells-first_has, Spells-last_has, LeadsIn, leads_in, last_of-run, next_of-SpellsList, members_apart}
+use Rattle.bump_links.proofs.ChainLemmas.{Spells-first_has, Spells-last_has, LeadsIn, leads_in, last_of-run, next_of-SpellsList, previous_of-SpellsList, members_apart}
 use Rattle.bump_links.proofs.MoveLemmas.{list_at-lists_of, held_by}
 
 -- only the list that its record names holds a node
@@ -39,13 +39,25 @@ next_is nodes headers n l inv lt held =
     (next_of-SpellsList nodes o (header_at headers o) n _ inv.few_nodes (inv.each_list o was.0) was.1
     ∙ ap (next_of n) (sym (list_at-lists_of nodes headers o was.0)))
 
+-- and its back link to what it follows there
+pub previous_is : (nodes : List Node) (headers : List Header) (n l : ℕ) → IsSpelled nodes headers → n < length nodes
+    → IsHeldBy (lists_of nodes headers) n l
+    → node_or_none (back_of nodes n) ≡ previous_of n (list_at (lists_of nodes headers) l)
+previous_is nodes headers n l inv lt held =
+    let was = inv.each_node n lt in
+    let o = list_of nodes n in
+    let P : ℕ → Type 0 = λ q. node_or_none (back_of nodes n) ≡ previous_of n (list_at (lists_of nodes headers) q) in
+    subst P (sym (holder_is nodes headers n l inv lt held))
+    (previous_of-SpellsList nodes o (header_at headers o) n _ inv.few_nodes (inv.each_list o was.0) was.1
+    ∙ ap (previous_of n) (sym (list_at-lists_of nodes headers o was.0)))
+
 -- the tail of a header is the last of its list
 pub last_node_is : (nodes : List Node) (headers : List Header) (l : ℕ) → IsSpelled nodes headers → l < length headers
     → node_or_none (header_at headers l).tail ≡ last_of (list_at (lists_of nodes headers) l)
 last_node_is nodes headers l inv lt =
     let s = inv.each_list l lt in
     let h = header_at headers l in
-    last_of-run (forward_of nodes) (back_of nodes) NONE h.head (list_under nodes h) h.tail refl s.links
+    last_of-run (forward_of nodes) (back_of nodes) NONE h.head (list_under nodes h) h.tail NONE refl s.links
     (members_apart nodes l _ inv.few_nodes s.members)
     ∙ ap last_of (sym (list_at-lists_of nodes headers l lt))
 

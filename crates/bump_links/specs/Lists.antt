@@ -1,5 +1,5 @@
 -- What a `Links` means: numbered lists of nodes, front first, with no link in them.
-use Rattle.std.specs.Prelude.{◌≡◌, ◌≢◌, ℕ, suc, ◌<◌, ◌==◌, not, if◌then◌else◌, List, [], ◌∷◌, length, map, filter}
+use Rattle.std.specs.Prelude.{◌≡◌, ◌≢◌, Bool, false, ℕ, suc, ◌<◌, ◌==◌, not, if◌then◌else◌, List, [], ◌∷◌, length, map, filter}
 use Rattle.std.specs.Prelude.{replicate, slice_index_or, slice_set, Option, Some, None, unwrap_or, All}
 use Rattle.std.specs.List.{range_with_len}
 
@@ -49,6 +49,16 @@ abbrev pub next_of : ℕ → List ℕ → Option ℕ
 next_of n [] = None
 next_of n (x ∷ xs) = if x == n then first_of xs else next_of n xs
 
+-- whether a node is the first of a list
+abbrev pub begins_with : ℕ → List ℕ → Bool
+begins_with n [] = false
+begins_with n (x ∷ xs) = x == n
+
+-- the element that a node follows in a list
+abbrev pub previous_of : ℕ → List ℕ → Option ℕ
+previous_of n [] = None
+previous_of n (x ∷ xs) = if begins_with n xs then Some x else previous_of n xs
+
 -- the node stands once in the list with this number, and in no other list
 pub record IsHeldBy (s : Lists) (n l : ℕ) : Type 0 where
   pub listed : l < length s.lists
@@ -58,6 +68,10 @@ pub record IsHeldBy (s : Lists) (n l : ℕ) : Type 0 where
 -- the answer is what follows the node in the list that holds it
 abbrev pub IsNextOf : Lists → ℕ → Option ℕ → Type 0
 IsNextOf s n answer = (l : ℕ) → IsHeldBy s n l → answer ≡ next_of n (list_at s l)
+
+-- the answer is what the node follows in the list that holds it
+abbrev pub IsPreviousOf : Lists → ℕ → Option ℕ → Type 0
+IsPreviousOf s n answer = (l : ℕ) → IsHeldBy s n l → answer ≡ previous_of n (list_at s l)
 
 -- each node stands in exactly one list, once, and nothing else stands in any
 pub record HoldsEachOnce (s : Lists) : Type 0 where

@@ -5,7 +5,7 @@
 ghost use Rattle.std.specs.Prelude.{◌≡◌, ◌<◌, ◌≤◌, length, All, IfOk, IfSome};
 ghost use Rattle.bump_links.specs.Chain.{node_or_none};
 ghost use Rattle.bump_links.specs.Spelled.{IsSpelled, lists_of};
-ghost use Rattle.bump_links.specs.Lists.{list_at, moved_to_front, all_in_first, first_of, last_of, IsHeldBy, IsNextOf};
+ghost use Rattle.bump_links.specs.Lists.{list_at, moved_to_front, all_in_first, first_of, last_of, IsHeldBy, IsNextOf, IsPreviousOf};
 ghost use Rattle.bump_links.specs.Lists.{HoldsEachOnce};
 
 mod ascending;
@@ -133,6 +133,17 @@ impl Links {
         ensures each_once { HoldsEachOnce self.now }
     {
         some_node(self.nodes[node as usize].forward)
+    }
+
+    /// The node that a node follows in the list that holds it, or `None` before the first. `node` is below
+    /// the count of nodes.
+    pub fn before(&self, node: u32) -> Option<u32>
+        requires { node < self.now.nodes }
+        ensures previous { IsPreviousOf self.now node result }
+        ensures in_range { IfSome result (λ previous. previous < self.now.nodes) }
+        ensures each_once { HoldsEachOnce self.now }
+    {
+        some_node(self.nodes[node as usize].back)
     }
 
     /// The count of nodes in a list. `list` is below the count of lists.

@@ -14,13 +14,17 @@ part_of hold = record { life = hold.life; row = row_in hold.part; looks = looks_
 abbrev pub whole : HoldPart → HoldView
 whole part = record { life = part.life; part = Some part }
 
--- What a look for the marks of the item that is held answers, and what the hold keeps, by the head that it found.
-pub record SeesMarks (before : HoldPart) (answer : Bool) (after : HoldPart) (found : Head) : Type 0 where
+-- What a look at the head of the item that is held leaves, by the head that it found.
+pub record SeesHead (before after : HoldPart) (found : Head) : Type 0 where
   -- it is one that a word spells, of the item, which has a reference at least
   pub fits : Fits found
   pub generation : found.generation ≡ before.life.generation
   pub counted : 0 < found.refs
   -- the hold notes this very word, and nothing else is changed
   pub noted : after ≡ record before { looks = before.looks ++ word_of found ∷ [] }
+
+-- What a look for the marks of the item that is held answers, and what the hold keeps, by the head that it found.
+pub record SeesMarks (before : HoldPart) (answer : Bool) (after : HoldPart) (found : Head) : Type 0 where
+  pub sees : SeesHead before after found
   -- both marks were set
   pub marked : answer ≡ (found.fetched && found.active)

@@ -3,10 +3,10 @@ ghost use Rattle.std.specs.Prelude.{◌≡◌, ◌<◌};
 ghost use Rattle.bump_steps.specs.References.{label_of_row, word_of_row};
 ghost use Rattle.bump_rules.specs.declared.items.Head.{Head as TheHead};
 ghost use Rattle.bump_steps.specs.declared.views.HoldPart.{HoldPart as TheHoldPart};
-ghost use Rattle.bump_parts.specs.Holds.{part_of, whole, SeesMarks};
+ghost use Rattle.bump_parts.specs.Holds.{part_of, whole, SeesHead, SeesMarks};
 
 use bump_readers::{Hold as Held, Name, ReaderHeads};
-use bump_rules::ItemId;
+use bump_rules::{Head, ItemId};
 use bump_steps::RowLaw;
 use std::marker::Model;
 
@@ -50,6 +50,15 @@ impl<N: Name> Hold<N> {
         heads.word_of(&mut self.held, index)
     }
 
+    /// The head of the item, by one load of its head word, which the hold's view keeps: its marks, its segment, and how
+    /// many references it has. Nothing else changes. Other threads may change the word just behind the load.
+    #[inline(always)]
+    pub fn head<L: RowLaw>(&mut self, heads: &ReaderHeads<N, L>) -> Head
+        ensures { SeesHead self.old self.new result }
+    {
+        heads.load_head(&mut self.held)
+    }
+
     /// Whether the item has both marks, FETCHED and ACTIVE, by one load of its head word, which the hold's view keeps.
     /// Nothing else changes.
     ///
@@ -60,7 +69,7 @@ impl<N: Name> Hold<N> {
     pub fn is_marked<L: RowLaw>(&mut self, heads: &ReaderHeads<N, L>) -> bool
         ensures marked { (found : TheHead) × SeesMarks self.old result self.new found }
     {
-        let found = heads.load_head(&mut self.held);
+        let found = self.head(heads);
         found.fetched && found.active
     }
 

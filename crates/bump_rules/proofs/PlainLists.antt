@@ -1,10 +1,10 @@
 -- Plain lists of chunks: how often a chunk stands in a list, and what the first, the last and an ascending row have.
-use Rattle.std.proofs.Common.{◌≡◌, ℕ, zero, suc, ◌+◌, ◌-◌, ◌<◌, ◌≤◌, ◌≢◌, ◌&&◌, leb, ltb, List, [], ◌∷◌, length, slice_index_or, refl, sym, ap, ap₂, ◌∙◌, arith, eq-eqb, ne_eqb, lt-ltb, le-ltb, Some}
+use Rattle.std.proofs.Common.{◌≡◌, ℕ, zero, suc, ◌+◌, ◌-◌, ◌<◌, ◌≤◌, ◌≢◌, ◌&&◌, Bool, true, false, eqb, leb, ltb, List, [], ◌∷◌, length, slice_index_or, refl, sym, ap, ap₂, ◌∙◌, arith, eq-eqb, ne_eqb, lt-ltb, le-ltb, Some}
 use Rattle.std.specs.List.{range_with_len}
 use Rattle.std.proofs.lemmas.Bool.{le-leb, lt-leb}
 use mathlib.Core.Logic.{dite}
 use native.Mathlib.Decide.{ℕ_discrete, dec_le}
-use Rattle.bump_links.specs.Lists.{times, first_of, last_of}
+use Rattle.bump_links.specs.Lists.{times, first_of, last_of, next_of, begins_with, previous_of}
 use Rattle.bump_rules.specs.Lawful.{bit}
 
 -- a front chunk counts once where it is the chunk
@@ -38,6 +38,27 @@ pub last_there : (c : ℕ) (xs : List ℕ) → last_of xs ≡ Some c → 0 < tim
 last_there c [] is = absurd (cc)
 last_there c (x ∷ []) is = let e : x ≡ c = cc in omega (arith, times_same c x [] e)
 last_there c (x ∷ y ∷ ys) is = omega (arith, times_rest c x (y ∷ ys), last_there c (y ∷ ys) is)
+
+-- so is one that follows another
+pub next_there : (c d : ℕ) (xs : List ℕ) → next_of c xs ≡ Some d → 0 < times d xs
+next_there c d [] is = absurd (cc)
+next_there c d (x ∷ xs) is = by (eqb x c) refl (λ more. next_there c d xs more)
+  where
+    by : (b : Bool) → eqb x c ≡ b → (next_of c xs ≡ Some d → 0 < times d xs) → 0 < times d (x ∷ xs)
+    by true same further = omega (arith, times_rest d x xs, first_there d xs (rw same at is))
+    by false other further = omega (arith, times_rest d x xs, further (rw other at is))
+
+-- and one that another follows
+pub previous_there : (c d : ℕ) (xs : List ℕ) → previous_of c xs ≡ Some d → 0 < times d xs
+previous_there c d [] is = absurd (cc)
+previous_there c d (x ∷ xs) is = by (begins_with c xs) refl (λ more. previous_there c d xs more)
+  where
+    by : (b : Bool) → begins_with c xs ≡ b → (previous_of c xs ≡ Some d → 0 < times d xs) → 0 < times d (x ∷ xs)
+    by true next further =
+        let some : Some x ≡ Some d = rw next at is in
+        let e : x ≡ d = cc in
+        omega (arith, times_same d x xs e)
+    by false other further = omega (arith, times_rest d x xs, further (rw other at is))
 
 -- an ascending row has each of its numbers once
 pub times_ascending : (c first n : ℕ) → times c (range_with_len first n) ≡ bit (leb first c && ltb c (first + n))

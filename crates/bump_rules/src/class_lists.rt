@@ -1,6 +1,6 @@
 //! The seven lists of a class, over links: a move to the front takes a few stores, and no memory.
 ghost use Rattle.std.specs.Prelude.{◌≡◌, ◌<◌, ◌≤◌, ◌+◌, ◌^◌, nat_lt, IfOk, IfSome, length, option_map};
-ghost use Rattle.bump_links.specs.Lists.{times, first_of, last_of, next_of};
+ghost use Rattle.bump_links.specs.Lists.{times, first_of, last_of, next_of, previous_of};
 ghost use Rattle.bump_rules.specs.Lists.{list_at, to_front, opening, IsListed};
 
 mod walk;
@@ -104,6 +104,14 @@ impl ClassLists {
         ensures once { times chunk (list_at self.now place) ≡ 1 }
     {
         chunk_at(self.first, self.links.after(chunk - self.first))
+    }
+
+    /// The chunk before a chunk of the list at a place, or `None` where it is the first.
+    pub fn before(&self, chunk: u32, place: Place) -> Option<u32>
+        requires { 0 < times chunk (list_at self.now place) }
+        ensures { result ≡ previous_of chunk (list_at self.now place) }
+    {
+        chunk_at(self.first, self.links.before(chunk - self.first))
     }
 
     /// The chunks of the list at a place, front first.

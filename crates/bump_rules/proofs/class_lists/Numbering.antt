@@ -1,13 +1,13 @@
 -- Nodes as chunks: the lists of a class that links stand for, what a move of a node does to
 -- them, and what is read of them.
-use Rattle.std.proofs.Common.{◌≡◌, ◌≢◌, ℕ, zero, suc, ◌+◌, ◌-◌, ◌<◌, ◌≤◌, cond, eqb, ltb, List, [], ◌∷◌, length, get_or, set, map, Option, refl, sym, ◌∙◌, ap, subst, arith, inl, inr}
+use Rattle.std.proofs.Common.{◌≡◌, ◌≢◌, ℕ, zero, suc, ◌+◌, ◌-◌, ◌<◌, ◌≤◌, Bool, true, false, cond, eqb, ltb, List, [], ◌∷◌, length, get_or, set, map, Option, refl, sym, ◌∙◌, ap, subst, arith, inl, inr}
 use Rattle.std.specs.Prelude.{option_map}
 use Rattle.std.specs.List.{AllByRecursion, range_with_len}
 use Rattle.std.proofs.lemmas.Bool.{ne_eqb, eq-eqb}
 use Rattle.std.proofs.lemmas.Bool.Decides.{eqb_tells}
 use Rattle.std.proofs.lemmas.List.Elements.{recursion_from_All}
 use Rattle.std.proofs.lemmas.List.{length-map, get_or-set_same, get_or-set_other, get_or-map}
-use Rattle.bump_links.specs.Lists.{times, without, first_of, last_of, next_of, moved_to_front, IsHeldBy}
+use Rattle.bump_links.specs.Lists.{times, without, first_of, last_of, next_of, begins_with, previous_of, moved_to_front, IsHeldBy}
 use Rattle.bump_links.specs.Lists as links
 use Rattle.bump_rules.specs.declared.places.Place.{Place}
 use Rattle.bump_rules.specs.declared.places.Place.TheVariants.{Hot, Warm, Cold, Temp, Dying, Unused, Retired}
@@ -96,6 +96,29 @@ chunks_next first n (x ∷ xs) =
           let apart : first + x ≢ first + n = (λ e. f.1 (omega (arith, e))) in
           rw (f.0, ne_eqb (first + x) (first + n) apart) (chunks_next first n xs)
     ]
+
+-- a node is the first one where its chunk is
+chunks_begin : (first n : ℕ) (xs : List ℕ) → begins_with (first + n) (chunks_from first xs) ≡ begins_with n xs
+chunks_begin first n [] = refl
+chunks_begin first n (x ∷ xs) =
+    elim (eqb_tells x n) [
+      | inl t ↦ rw (t.0, eq-eqb (first + x) (first + n) (ap (λ k. first + k) t.1)) refl
+      | inr f ↦
+          let apart : first + x ≢ first + n = (λ e. f.1 (omega (arith, e))) in
+          rw (f.0, ne_eqb (first + x) (first + n) apart) refl
+    ]
+
+-- the node before is the chunk before
+pub chunks_previous : (first n : ℕ) (xs : List ℕ) → option_map (λ k. first + k) (previous_of n xs)
+    ≡ previous_of (first + n) (chunks_from first xs)
+chunks_previous first n [] = refl
+chunks_previous first n (x ∷ xs) = by (begins_with n xs) refl (chunks_previous first n xs)
+  where
+    by : (b : Bool) → begins_with n xs ≡ b
+        → option_map (λ k. first + k) (previous_of n xs) ≡ previous_of (first + n) (chunks_from first xs)
+        → option_map (λ k. first + k) (previous_of n (x ∷ xs)) ≡ previous_of (first + n) (chunks_from first (x ∷ xs))
+    by true is rest = rw (is, chunks_begin first n xs ∙ is) refl
+    by false is rest = rw (is, chunks_begin first n xs ∙ is) rest
 
 -- What a move does.
 
@@ -253,3 +276,15 @@ next_is first c s p o r six some read as_chunk =
     ∙ chunks_next first (c - first) xs
     ∙ ap (λ k. next_of k (chunks_from first xs)) (node_at first c s six p some).is
     ∙ ap (next_of c) (sym (list_at_from first s p))
+
+-- and the one before it
+pub previous_is : (first c : ℕ) (s : links.Lists) (p : Place) (o r : Option ℕ) → AreSixLists first s
+    → 0 < times c (list_at (lists_from first s) p)
+    → links.IsPreviousOf s (c - first) o → r ≡ option_map (λ n. first + n) o → r
+    ≡ previous_of c (list_at (lists_from first s) p)
+previous_is first c s p o r six some read as_chunk =
+    let xs = links.list_at s (place_number p) in
+    as_chunk ∙ ap (option_map (λ n. first + n)) (read (place_number p) (held_at first c s six p some))
+    ∙ chunks_previous first (c - first) xs
+    ∙ ap (λ k. previous_of k (chunks_from first xs)) (node_at first c s six p some).is
+    ∙ ap (previous_of c) (sym (list_at_from first s p))
