@@ -1,86 +1,131 @@
-/* A build with checks: it finds a broken promise of bump.h where that is cheap. Compile the program with -DBUMP_DEBUG,
- * and bump_debug.c with it (gcc or clang). Each call then looks first whether
- * - the handle is one that bump gave, of this kind, and not given back; a copy of one that is gone is found too;
+/* A build with checks: it finds a broken promise of bump.h where that is cheap. Compile each file of the program with
+ * -DBUMP_DEBUG, and bump_debug.c with them (gcc or clang). Each call then looks whether
+ * - the handle is one that bump gave, of this kind, and not given back; a copy of one that is gone is found, also where
+ *   another handle has its address by now;
  * - no other thread is in a call with the same handle;
  * - two handles of one call are of one store, and no two open stores have the same number;
- * - what the call fills is {0}.
+ * - what the call fills is {0}, and no pointer is NULL;
+ * and the first one, whether a file of the program was compiled without -DBUMP_DEBUG.
  * It says what is wrong and where the call stands, and calls bump_debug_broken, which aborts. It doesn't find a lock
- * that wasn't taken while no other thread was in the call, arrays that are too short, calls from a signal handler. */
-#ifndef BUMP_DEBUG_H
-#define BUMP_DEBUG_H
+ * that wasn't taken while no other thread was in the call, arrays that are too short, calls from a signal handler.
+ *
+ * In C each call is a macro, so that it knows its file and its line. In C++ none is: the functions have two parameters
+ * more, which aren't given. Write {} there in place of {0}, since a handle has a second word. In both a call's address
+ * is of another type. */
+#ifndef BUMP_H
+#include "bump.h"
+
+#elif defined BUMP_DECLARES
+/* Before bump.h's declarations. The macros turn them into those of bump_debug.c's functions: with two parameters more,
+ * for the place of the call, and with other symbols. C++98 has no macros with ..., and is to say nothing of these. */
+#if defined __cplusplus && __cplusplus < 201103L
+#pragma GCC system_header
+#endif
+
+/* A handle's second word: by it handles are told apart that had the same address. */
+#define BUMP_CHECK uint64_t check;
 
 #ifdef __cplusplus
+#define BUMP_AT const char * = __builtin_FILE(), int = __builtin_LINE()
+#else
+#define BUMP_AT const char *, int
+#endif
+#define BUMP_SYMBOL(name) __asm__("bump_debug_" #name)
+
+#define bump_open(...) bump_open(__VA_ARGS__, BUMP_AT) BUMP_SYMBOL(open)
+#define bump_take_worker(...) bump_take_worker(__VA_ARGS__, BUMP_AT) BUMP_SYMBOL(take_worker)
+#define bump_take_book(...) bump_take_book(__VA_ARGS__, BUMP_AT) BUMP_SYMBOL(take_book)
+#define bump_take_lane(...) bump_take_lane(__VA_ARGS__, BUMP_AT) BUMP_SYMBOL(take_lane)
+#define bump_get(...) bump_get(__VA_ARGS__, BUMP_AT) BUMP_SYMBOL(get)
+#define bump_touch(...) bump_touch(__VA_ARGS__, BUMP_AT) BUMP_SYMBOL(touch)
+#define bump_label(...) bump_label(__VA_ARGS__, BUMP_AT) BUMP_SYMBOL(label)
+#define bump_marks(...) bump_marks(__VA_ARGS__, BUMP_AT) BUMP_SYMBOL(marks)
+#define bump_marked(...) bump_marked(__VA_ARGS__, BUMP_AT) BUMP_SYMBOL(marked)
+#define bump_time(...) bump_time(__VA_ARGS__, BUMP_AT) BUMP_SYMBOL(time)
+#define bump_words(...) bump_words(__VA_ARGS__, BUMP_AT) BUMP_SYMBOL(words)
+#define bump_release(...) bump_release(__VA_ARGS__, BUMP_AT) BUMP_SYMBOL(release)
+#define bump_hit(...) bump_hit(__VA_ARGS__, BUMP_AT) BUMP_SYMBOL(hit)
+#define bump_worker_counts(...) bump_worker_counts(__VA_ARGS__, BUMP_AT) BUMP_SYMBOL(worker_counts)
+#define bump_worker_close(...) bump_worker_close(__VA_ARGS__, BUMP_AT) BUMP_SYMBOL(worker_close)
+#define bump_link(...) bump_link(__VA_ARGS__, BUMP_AT) BUMP_SYMBOL(link)
+#define bump_link_temp(...) bump_link_temp(__VA_ARGS__, BUMP_AT) BUMP_SYMBOL(link_temp)
+#define bump_link_words(...) bump_link_words(__VA_ARGS__, BUMP_AT) BUMP_SYMBOL(link_words)
+#define bump_link_temp_words(...) bump_link_temp_words(__VA_ARGS__, BUMP_AT) BUMP_SYMBOL(link_temp_words)
+#define bump_unlink(...) bump_unlink(__VA_ARGS__, BUMP_AT) BUMP_SYMBOL(unlink)
+#define bump_pull(...) bump_pull(__VA_ARGS__, BUMP_AT) BUMP_SYMBOL(pull)
+#define bump_sweep(...) bump_sweep(__VA_ARGS__, BUMP_AT) BUMP_SYMBOL(sweep)
+#define bump_sweep_told(...) bump_sweep_told(__VA_ARGS__, BUMP_AT) BUMP_SYMBOL(sweep_told)
+#define bump_size(...) bump_size(__VA_ARGS__, BUMP_AT) BUMP_SYMBOL(size)
+#define bump_see(...) bump_see(__VA_ARGS__, BUMP_AT) BUMP_SYMBOL(see)
+#define bump_look(...) bump_look(__VA_ARGS__, BUMP_AT) BUMP_SYMBOL(look)
+#define bump_walk(...) bump_walk(__VA_ARGS__, BUMP_AT) BUMP_SYMBOL(walk)
+#define bump_moves(...) bump_moves(__VA_ARGS__, BUMP_AT) BUMP_SYMBOL(moves)
+#define bump_limits(...) bump_limits(__VA_ARGS__, BUMP_AT) BUMP_SYMBOL(limits)
+#define bump_lane_class(...) bump_lane_class(__VA_ARGS__, BUMP_AT) BUMP_SYMBOL(lane_class)
+#define bump_apply_run(...) bump_apply_run(__VA_ARGS__, BUMP_AT) BUMP_SYMBOL(apply_run)
+#define bump_apply_run_told(...) bump_apply_run_told(__VA_ARGS__, BUMP_AT) BUMP_SYMBOL(apply_run_told)
+#define bump_rest(...) bump_rest(__VA_ARGS__, BUMP_AT) BUMP_SYMBOL(rest)
+#define bump_close(...) bump_close(__VA_ARGS__, BUMP_AT) BUMP_SYMBOL(close)
+#define bump_worker_free(...) bump_worker_free(__VA_ARGS__, BUMP_AT) BUMP_SYMBOL(worker_free)
+#define bump_book_free(...) bump_book_free(__VA_ARGS__, BUMP_AT) BUMP_SYMBOL(book_free)
+#define bump_lane_free(...) bump_lane_free(__VA_ARGS__, BUMP_AT) BUMP_SYMBOL(lane_free)
+
+#elif defined BUMP_DEBUG && !defined BUMP_DEBUG_H
+#define BUMP_DEBUG_H
+/* Behind them: the macros go on in C, where they give each call its place. */
+#undef BUMP_AT
+#undef BUMP_SYMBOL
+#ifdef __cplusplus
+#undef bump_open
+#undef bump_take_worker
+#undef bump_take_book
+#undef bump_take_lane
+#undef bump_get
+#undef bump_touch
+#undef bump_label
+#undef bump_marks
+#undef bump_marked
+#undef bump_time
+#undef bump_words
+#undef bump_release
+#undef bump_hit
+#undef bump_worker_counts
+#undef bump_worker_close
+#undef bump_link
+#undef bump_link_temp
+#undef bump_link_words
+#undef bump_link_temp_words
+#undef bump_unlink
+#undef bump_pull
+#undef bump_sweep
+#undef bump_sweep_told
+#undef bump_size
+#undef bump_see
+#undef bump_look
+#undef bump_walk
+#undef bump_moves
+#undef bump_limits
+#undef bump_lane_class
+#undef bump_apply_run
+#undef bump_apply_run_told
+#undef bump_rest
+#undef bump_close
+#undef bump_worker_free
+#undef bump_book_free
+#undef bump_lane_free
+
 extern "C" {
+#else
+#define BUMP_AT __FILE__, __LINE__
+#define BUMP_SYMBOL(name)
 #endif
 
 /* Is told what is wrong, as a line of text. Unless the program sets it, the line goes to standard error, and the
  * program is aborted. Where it returns, the call is made all the same. */
 extern void (*bump_debug_broken)(const char *what);
 
-#define BUMP_AT const char *file, int line
-enum bump_open bump_debug_open(bump_store *, const bump_config *, const bump_class_config *, size_t, BUMP_AT);
-bool bump_debug_take_worker(bump_store *, bump_worker *, BUMP_AT);
-bool bump_debug_take_book(bump_store *, bump_book *, BUMP_AT);
-bool bump_debug_take_lane(bump_store *, bump_lane *, BUMP_AT);
-enum bump_get bump_debug_get(bump_worker *, uint32_t, uint32_t, uint32_t, BUMP_AT);
-bump_touched bump_debug_touch(bump_worker *, uint32_t, uint64_t, BUMP_AT);
-bump_labelled bump_debug_label(bump_worker *, uint32_t, BUMP_AT);
-bool bump_debug_release(bump_worker *, uint32_t, BUMP_AT);
-bump_whole_hit bump_debug_hit(bump_worker *, uint32_t, uint32_t, uint64_t, BUMP_AT);
-bump_counts bump_debug_worker_counts(bump_worker *, BUMP_AT);
-enum bump_close_answer bump_debug_worker_close(bump_lane *, bump_worker, bump_worker *, BUMP_AT);
-bump_linked bump_debug_link(bump_book *, uint64_t, uint64_t, BUMP_AT);
-bump_linked bump_debug_link_temp(bump_book *, uint64_t, uint64_t, BUMP_AT);
-enum bump_unlink bump_debug_unlink(bump_book *, uint32_t, uint32_t, BUMP_AT);
-bump_pulled bump_debug_pull(bump_book *, uint32_t, BUMP_AT);
-uint32_t bump_debug_sweep(bump_book *, BUMP_AT);
-uint32_t bump_debug_size(bump_book *, uint32_t, BUMP_AT);
-bump_seen bump_debug_see(bump_book *, uint32_t, BUMP_AT);
-bump_walked bump_debug_walk(bump_book *, uint32_t, uint32_t *, size_t, BUMP_AT);
-uint64_t bump_debug_moves(bump_book *, uint32_t, BUMP_AT);
-bump_limits_of bump_debug_limits(bump_book *, BUMP_AT);
-uint32_t bump_debug_lane_class(bump_lane *, BUMP_AT);
-bump_ran bump_debug_apply_run(bump_book *, bump_lane *, uint64_t, uint32_t, BUMP_AT);
-bump_rested bump_debug_rest(bump_lane *, BUMP_AT);
-void bump_debug_close(bump_store, BUMP_AT);
-void bump_debug_worker_free(bump_worker, BUMP_AT);
-void bump_debug_book_free(bump_book, BUMP_AT);
-void bump_debug_lane_free(bump_lane, BUMP_AT);
-
 #ifdef __cplusplus
 }
-#endif
-
-#ifndef BUMP_DEBUG_ITSELF
-#define BUMP_HERE __FILE__, __LINE__
-#define bump_open(...) bump_debug_open(__VA_ARGS__, BUMP_HERE)
-#define bump_take_worker(...) bump_debug_take_worker(__VA_ARGS__, BUMP_HERE)
-#define bump_take_book(...) bump_debug_take_book(__VA_ARGS__, BUMP_HERE)
-#define bump_take_lane(...) bump_debug_take_lane(__VA_ARGS__, BUMP_HERE)
-#define bump_get(...) bump_debug_get(__VA_ARGS__, BUMP_HERE)
-#define bump_touch(...) bump_debug_touch(__VA_ARGS__, BUMP_HERE)
-#define bump_label(...) bump_debug_label(__VA_ARGS__, BUMP_HERE)
-#define bump_release(...) bump_debug_release(__VA_ARGS__, BUMP_HERE)
-#define bump_hit(...) bump_debug_hit(__VA_ARGS__, BUMP_HERE)
-#define bump_worker_counts(...) bump_debug_worker_counts(__VA_ARGS__, BUMP_HERE)
-#define bump_worker_close(...) bump_debug_worker_close(__VA_ARGS__, BUMP_HERE)
-#define bump_link(...) bump_debug_link(__VA_ARGS__, BUMP_HERE)
-#define bump_link_temp(...) bump_debug_link_temp(__VA_ARGS__, BUMP_HERE)
-#define bump_unlink(...) bump_debug_unlink(__VA_ARGS__, BUMP_HERE)
-#define bump_pull(...) bump_debug_pull(__VA_ARGS__, BUMP_HERE)
-#define bump_sweep(...) bump_debug_sweep(__VA_ARGS__, BUMP_HERE)
-#define bump_size(...) bump_debug_size(__VA_ARGS__, BUMP_HERE)
-#define bump_see(...) bump_debug_see(__VA_ARGS__, BUMP_HERE)
-#define bump_walk(...) bump_debug_walk(__VA_ARGS__, BUMP_HERE)
-#define bump_moves(...) bump_debug_moves(__VA_ARGS__, BUMP_HERE)
-#define bump_limits(...) bump_debug_limits(__VA_ARGS__, BUMP_HERE)
-#define bump_lane_class(...) bump_debug_lane_class(__VA_ARGS__, BUMP_HERE)
-#define bump_apply_run(...) bump_debug_apply_run(__VA_ARGS__, BUMP_HERE)
-#define bump_rest(...) bump_debug_rest(__VA_ARGS__, BUMP_HERE)
-#define bump_close(...) bump_debug_close(__VA_ARGS__, BUMP_HERE)
-#define bump_worker_free(...) bump_debug_worker_free(__VA_ARGS__, BUMP_HERE)
-#define bump_book_free(...) bump_debug_book_free(__VA_ARGS__, BUMP_HERE)
-#define bump_lane_free(...) bump_debug_lane_free(__VA_ARGS__, BUMP_HERE)
 #endif
 
 #endif

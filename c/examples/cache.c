@@ -10,6 +10,7 @@
 #include <string.h>
 
 enum { READERS = 4, CLASSES = 2, CHUNKS = 1500 + 1000, KEYS = 6000, BUCKETS = 4096, STRIPES = 64, NONE = -1 };
+enum { TRIES = 8 }; /* how often a reader looks again, and how many items are evicted for one that is stored */
 
 /* Keys that are even have small values, odd ones large values: a class for each size. */
 static const bump_class_config CLASS[CLASSES] = { { 1500, 300, 600 }, { 1000, 200, 400 } };
@@ -75,7 +76,7 @@ static int *find(uint32_t key) {
   return at;
 }
 
-/* The item that a key has now. Once the lock is let go it may end: then bump_get answers BUMP_GET_STALE. */
+/* The item that a key has now. Once the lock is let go it may end: then bump_get answers BUMP_GET_STALE (see ask). */
 static int look_up(uint32_t key, uint32_t *chunk, uint32_t *generation) {
   pthread_mutex_lock(lock_of(key));
   int found = *find(key);
@@ -97,26 +98,35 @@ static int forget(uint32_t key, int chunk) {
   return found;
 }
 
-static void remember(uint32_t key, uint32_t chunk, uint32_t generation) {
+/* Names this item as the key's, in place of the one that it had: answers that one's chunk, or NONE. */
+static int name(uint32_t key, uint32_t chunk, uint32_t generation) {
   pthread_mutex_lock(lock_of(key));
-  entry[chunk].key = key;
-  entry[chunk].generation = generation;
-  entry[chunk].next = bucket[bucket_of(key)];
-  bucket[bucket_of(key)] = (int)chunk;
+  int *at = find(key), old = *at;
+  struct entry new = { key, generation, old == NONE ? NONE : entry[old].next };
+  entry[chunk] = new;
+  *at = (int)chunk;
   pthread_mutex_unlock(lock_of(key));
+  return old;
 }
 
-/* Asks for a key: whether it was there, with its value. No lock of a list is taken, and nothing waits for one. */
+/* Asks for a key: whether it was there, with its value. No lock of a list is taken, and nothing waits for one.
+ * STALE isn't a miss: the item ended after the table was asked. Mostly the key was stored anew, and the table names
+ * the new item: so it asks again. It does so a few times only, since a thread may be storing this key all the time. */
 static int ask(struct reader *me, bump_worker *mine, uint32_t key, uint64_t now, unsigned char *copy) {
-  uint32_t chunk, generation;
-  if (!look_up(key, &chunk, &generation)) return 0;
-  if (bump_get(mine, 0, chunk, generation) != BUMP_GET_HELD) return 0;
-  /* While it is held, the chunk isn't used for another item: so here its value is read. */
-  me->wrong += bump_label(mine, 0).label != key;
-  memcpy(copy, value_of(chunk), SIZE[class_of_key(key)]);
-  bump_touch(mine, 0, now);
-  bump_release(mine, 0);
-  return 1;
+  for (int tries = 0; tries < TRIES; tries++) {
+    uint32_t chunk, generation;
+    if (!look_up(key, &chunk, &generation)) return 0;
+    enum bump_get_answer got = bump_get(mine, 0, chunk, generation);
+    if (got == BUMP_GET_STALE || got == BUMP_GET_BUSY) continue;
+    if (got != BUMP_GET_HELD) return 0;
+    /* While it is held, the chunk isn't used for another item: so here its value is read. */
+    me->wrong += bump_label(mine, 0).label != key;
+    memcpy(copy, value_of(chunk), SIZE[class_of_key(key)]);
+    bump_touch(mine, 0, now);
+    bump_release(mine, 0);
+    return 1;
+  }
+  return 0;
 }
 
 static void *read_all(void *p) {
@@ -138,34 +148,48 @@ static void *read_all(void *p) {
   return NULL;
 }
 
-/* Ages a class a little. Where no chunk is free, the last item of COLD is evicted, and its key forgotten. */
-static void age(bump_book *b) {
-  for (int i = 0; i < 2; i++) {
-    bump_pull(b, BUMP_TAIL_HOT);
-    bump_pull(b, BUMP_TAIL_WARM);
-    bump_pull(b, BUMP_TAIL_COLD);
+/* Ends COLD's last item, or WARM's or HOT's where COLD is empty, and takes its key, which is its label, from the table.
+ * It looks past a few that a reader holds, or a bump that waits: their chunks would come free later, by a sweep. */
+static void evict(bump_book *b) {
+  static const uint32_t FROM[] = { BUMP_PLACE_COLD, BUMP_PLACE_WARM, BUMP_PLACE_HOT };
+  bump_seen last = { 0 };
+  for (int i = 0; i < 3; i++) {
+    last = bump_look(b, FROM[i], BUMP_NONE);
+    for (int past = 0; past < TRIES && last.refs > 1; past++) last = bump_look(b, FROM[i], last.chunk);
+    if (last.answer == BUMP_SEE_SEEN) break;
   }
-  bump_sweep(b);
-  if (bump_size(b, BUMP_PLACE_UNUSED) > 0) return;
-  bump_pulled last = bump_pull(b, BUMP_TAIL_EVICT);
-  if (last.answer != BUMP_PULL_EMPTY) forget(entry[last.chunk].key, (int)last.chunk);
+  if (last.answer != BUMP_SEE_SEEN) return;
+  forget((uint32_t)last.label, (int)last.chunk);
+  bump_unlink(b, last.chunk, last.generation);
 }
 
-/* Stores a key in place of the item that it had. Where what was evicted is held, no chunk is free: then another time.
- * Before the table names the item nobody gets it: so its value is written first. */
-static void store(uint32_t key, uint64_t now) {
+/* Ages a class a little, and evicts while no chunk is free. */
+static void make_room(bump_book *b) {
+  bump_sweep(b);
+  for (int tries = 0; tries < TRIES; tries++) {
+    bump_pull(b, BUMP_TAIL_HOT, BUMP_LIMIT_OF_CLASS);
+    bump_pull(b, BUMP_TAIL_WARM, BUMP_LIMIT_OF_CLASS);
+    bump_pull(b, BUMP_TAIL_COLD, BUMP_LIMIT_OF_CLASS);
+    if (bump_size(b, BUMP_PLACE_UNUSED) > 0) return;
+    evict(b);
+  }
+}
+
+/* Stores a key in place of the item that it had. Once the class's lock is let go, another thread may evict the new item
+ * and use its chunk again: so before that its value is written, and then the table names it. The old item ends last: so
+ * the key is never without a value. Where no chunk is free, it answers 0 and forgets the key, whose value is out of
+ * date. */
+static int store(uint32_t key, uint64_t now) {
   uint32_t class = class_of_key(key);
   bump_book *b = &book[class];
   pthread_mutex_lock(&class_lock[class]);
-  age(b);
+  make_room(b);
   bump_linked item = bump_link(b, key, now);
-  if (item.answer == BUMP_LINK_DONE) {
-    write_value(item.chunk, key);
-    int old = forget(key, NONE);
-    if (old != NONE) bump_unlink(b, (uint32_t)old, entry[old].generation);
-    remember(key, item.chunk, item.generation);
-  }
+  if (item.answer == BUMP_LINK_DONE) write_value(item.chunk, key);
+  int old = item.answer == BUMP_LINK_DONE ? name(key, item.chunk, item.generation) : forget(key, NONE);
+  if (old != NONE) bump_unlink(b, (uint32_t)old, entry[old].generation);
   pthread_mutex_unlock(&class_lock[class]);
+  return item.answer == BUMP_LINK_DONE;
 }
 
 /* Applies what waits in a reader's ring, each run of bumps under the lock of its class. */
@@ -178,26 +202,29 @@ static void drain(bump_lane *l, uint64_t now) {
   }
 }
 
-/* Stores keys, and drains after each sixteenth, until the readers are done. */
-static void keep(void) {
-  uint64_t state = 5;
+/* Stores keys, and drains after each sixteenth, until the readers are done. Answers how many found no chunk free. */
+static uint64_t keep(void) {
+  uint64_t state = 5, refused = 0;
   for (int now = 1, left = READERS; left > 0; now++) {
-    store(some_key(&state), (uint64_t)now);
+    refused += !store(some_key(&state), (uint64_t)now);
     for (int r = 0; r < READERS && now % 16 == 0; r++) drain(&lane[r], (uint64_t)now);
     pthread_mutex_lock(&left_lock);
     left = readers_left;
     pthread_mutex_unlock(&left_lock);
   }
+  return refused;
 }
 
 static int open_all(void) {
   bump_store s = { 0 };
-  bump_config config = { 1, READERS, 256, 64, 1, 1 };
-  enum bump_open fault = bump_open(&s, &config, CLASS, CLASSES);
-  if (fault != BUMP_OPEN_DONE) return fprintf(stderr, "no store: answer %d of enum bump_open\n", (int)fault), 0;
+  bump_config config = {
+    .store = 1, .workers = READERS, .capacity = 256, .refs_limit = 64, .first_generation = 1, .holds = 1
+  };
+  enum bump_open_answer fault = bump_open(&s, &config, CLASS, CLASSES);
+  if (fault != BUMP_OPEN_DONE) return fprintf(stderr, "no store: answer %d of bump_open\n", (int)fault), 0;
   int all = 1;
-  for (int r = READERS; r-- > 0;) all &= bump_take_worker(&s, &worker[r]) && bump_take_lane(&s, &lane[r]);
-  for (int c = CLASSES; c-- > 0;) all &= bump_take_book(&s, &book[c]);
+  for (uint32_t r = 0; r < READERS; r++) all &= bump_take_worker(&s, r, &worker[r]) && bump_take_lane(&s, r, &lane[r]);
+  for (uint32_t c = 0; c < CLASSES; c++) all &= bump_take_book(&s, c, &book[c]);
   bump_close(s);
   for (int c = 0; c < CLASSES; c++) {
     all &= (value[c] = malloc(CLASS[c].chunks * SIZE[c])) != NULL;
@@ -224,7 +251,7 @@ int main(int count, char **words) {
   for (uint32_t key = 0; key < KEYS; key++) store(key, 0);
   pthread_t thread[READERS];
   for (size_t r = 0; r < READERS; r++) pthread_create(&thread[r], NULL, read_all, (void *)r);
-  keep();
+  uint64_t refused = keep();
   for (int r = 0; r < READERS; r++) pthread_join(thread[r], NULL);
   struct reader sum = { 0, 0, 0 };
   int settled = 1;
@@ -243,6 +270,7 @@ int main(int count, char **words) {
   printf("%d readers read %llu wrong values\n", READERS, (unsigned long long)sum.wrong);
   printf("each bump that was accepted is applied: %s\n", settled ? "yes" : "no");
   printf("%u chunks wait for a sweep\n", dying);
-  fprintf(stderr, "%llu of %d x %llu reads hit\n", (unsigned long long)sum.hits, READERS, (unsigned long long)reads);
+  fprintf(stderr, "%llu of %d x %llu reads hit, %llu stores found no chunk\n", (unsigned long long)sum.hits, READERS,
+          (unsigned long long)reads, (unsigned long long)refused);
   return sum.wrong == 0 && settled && dying == 0 ? 0 : 1;
 }

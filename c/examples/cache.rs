@@ -2,14 +2,18 @@
 //! that stores, ages and drains.
 //!
 //!     cache [READS]      how often each reader asks: 200,000 times unless it is said
-use bump::{Book, ClassConfig, Config, ItemId, Lane, Place, Pulled, Rest, Tail, Worker};
+use bump::{Book, ClassConfig, Config, GetRefusal, ItemId, Lane, Parts, Place, Rest, Seen, Tail, Worker};
 use std::collections::HashMap;
-use std::sync::atomic::{AtomicU32, AtomicU64, AtomicUsize, Ordering};
+use std::process::ExitCode;
+use std::sync::atomic::{AtomicU64, AtomicUsize, Ordering};
 use std::sync::{Mutex, RwLock};
 use std::thread;
 
 const READERS: usize = 4;
 const KEYS: u32 = 6000;
+
+/// How often a reader looks again, and how many items are evicted for one that is stored.
+const TRIES: usize = 8;
 
 /// Keys that are even have small values, odd ones large values: a class for each size.
 const CLASSES: [ClassConfig; 2] =
@@ -24,9 +28,8 @@ struct Cache {
     // Which item each key has. A real cache has many maps here, by the key's hash, each under its own lock.
     index: RwLock<HashMap<u32, ItemId>>,
 
-    // The key of each chunk's item, and the words of its value. They are written before the index names the item, and
-    // the chunk gets no other one while a reader holds it: so relaxed words are read whole.
-    keys: Vec<AtomicU32>,
+    // The words of each chunk's value. They are written before the index names the item, and the chunk gets no other
+    // one while a reader holds it: so relaxed words are read whole.
     values: Vec<Vec<AtomicU64>>,
     readers_left: AtomicUsize,
 }
@@ -49,22 +52,29 @@ fn some_key(state: &mut u64) -> u32 {
 }
 
 impl Cache {
-    /// The item that a key has now. It may end at once: then `get` answers Stale.
+    /// The item that a key has now. It may end at once: then `get` answers Stale (see `ask`).
     fn look_up(&self, key: u32) -> Option<ItemId> {
         self.index.read().unwrap().get(&key).copied()
     }
 
-    /// Asks for a key: whether it was there, and its value right.
+    /// Asks for a key: whether it was there, and its value right. Stale isn't a miss: the item ended after the index
+    /// was asked. Mostly the key was stored anew, and the index names the new item: so it asks again. It does so a few
+    /// times only, since a thread may be storing this key all the time.
     fn ask(&self, worker: &Worker, key: u32, now: u64) -> Option<bool> {
-        let item = self.look_up(key)?;
-        let hold = worker.get(item).ok()?;
-        // While there is the hold, the chunk isn't used for another item: so here the value is read.
-        let value = &self.values[item.chunk as usize];
-        let right = hold.label() == u64::from(key)
-            && value.iter().all(|word| word.load(Ordering::Relaxed) == u64::from(key));
-        hold.touch(now);
-        Some(right)
-        // The hold ends here, and is given back.
+        for _ in 0..TRIES {
+            let item = self.look_up(key)?;
+            let hold = match worker.get(item) {
+                Err(GetRefusal::Stale | GetRefusal::Busy) => continue,
+                other => other.ok()?,
+            };
+            // While there is the hold, the chunk isn't used for another item: so here the value is read.
+            let value = &self.values[item.chunk as usize];
+            let right = hold.label() == u64::from(key)
+                && value.iter().all(|word| word.load(Ordering::Relaxed) == u64::from(key));
+            hold.touch(now);
+            return Some(right); // the hold ends here, and is given back
+        }
+        None
     }
 
     fn read_all(&self, worker: &Worker, seed: u64, reads: u64) -> Tally {
@@ -80,40 +90,59 @@ impl Cache {
         tally
     }
 
-    /// Ages a class a little. Where no chunk is free, the last item of COLD is evicted, and its key forgotten.
-    fn age(&self, book: &mut Book) {
-        for _ in 0..2 {
+    /// The last item of COLD, or of WARM or HOT where COLD is empty. It looks past a few that a reader holds, or a bump
+    /// that waits: their chunks would come free later, by a sweep.
+    fn last_of(book: &mut Book) -> Option<Seen> {
+        [Place::Cold, Place::Warm, Place::Hot].into_iter().find_map(|place| {
+            let mut last = book.look(place, None).ok()??;
+            for _ in 0..TRIES {
+                if last.marks.refs == 1 {
+                    break;
+                }
+                last = book.look(place, Some(last.item.chunk)).ok()??;
+            }
+            Some(last)
+        })
+    }
+
+    /// Ages a class a little, and evicts while no chunk is free: a key, which is the label, leaves the index.
+    fn make_room(&self, book: &mut Book) {
+        book.sweep();
+        for _ in 0..TRIES {
             book.pull(Tail::Hot);
             book.pull(Tail::Warm);
             book.pull(Tail::Cold);
-        }
-        book.sweep();
-        if book.size(Place::Unused) > 0 {
-            return;
-        }
-        if let Pulled::Freed(item) | Pulled::Deferred(item) = book.pull(Tail::Evict) {
-            let key = self.keys[item.chunk as usize].load(Ordering::Relaxed);
-            let mut index = self.index.write().unwrap();
-            if index.get(&key) == Some(&item) {
-                index.remove(&key);
+            if book.size(Place::Unused) > 0 {
+                return;
+            }
+            if let Some(last) = Self::last_of(book) {
+                self.index.write().unwrap().remove(&(last.label as u32));
+                book.unlink(last.item).ok();
             }
         }
     }
 
-    /// Stores a key in place of the item that it had. Where what was evicted is held, no chunk is free: another time.
-    fn store(&self, key: u32, now: u64) {
+    /// Stores a key in place of the item that it had. Once the class's lock is let go, another thread may evict the
+    /// new item and use its chunk again: so before that its value is written, and then the index names it. The old item
+    /// ends last: so the key is never without a value. Where no chunk is free, it answers false and forgets the key,
+    /// whose value is out of date.
+    fn store(&self, key: u32, now: u64) -> bool {
         let mut book = self.books[class_of(key)].lock().unwrap();
-        self.age(&mut book);
-        let Ok(item) = book.link(u64::from(key), now) else {
-            return;
-        };
-        self.keys[item.chunk as usize].store(key, Ordering::Relaxed);
-        for word in &self.values[item.chunk as usize] {
-            word.store(u64::from(key), Ordering::Relaxed);
+        self.make_room(&mut book);
+        let linked = book.link(u64::from(key), now);
+        if let Ok(item) = linked {
+            for word in &self.values[item.chunk as usize] {
+                word.store(u64::from(key), Ordering::Relaxed);
+            }
         }
-        if let Some(old) = self.index.write().unwrap().insert(key, item) {
+        let old = match linked {
+            Ok(item) => self.index.write().unwrap().insert(key, item),
+            Err(_) => self.index.write().unwrap().remove(&key),
+        };
+        if let Some(old) = old {
             book.unlink(old).ok();
         }
+        linked.is_ok()
     }
 
     /// Applies what waits in a reader's ring, each run of bumps under the lock of its class.
@@ -123,17 +152,18 @@ impl Cache {
         }
     }
 
-    /// Stores keys, and drains after each sixteenth, until the readers are done.
-    fn keep(&self, lanes: &mut [Lane]) {
+    /// Stores keys, and drains after each sixteenth, until the readers are done. Answers how many found no chunk free.
+    fn keep(&self, lanes: &mut [Lane]) -> u64 {
         let mut state = 5;
-        let mut now = 0;
+        let (mut now, mut refused) = (0, 0);
         while self.readers_left.load(Ordering::SeqCst) > 0 {
             now += 1;
-            self.store(some_key(&mut state), now);
+            refused += u64::from(!self.store(some_key(&mut state), now));
             if now % 16 == 0 {
                 lanes.iter_mut().for_each(|lane| self.drain(lane, now));
             }
         }
+        refused
     }
 
     /// Closes a worker, applies what is left in its ring, and tells whether all that was accepted is applied.
@@ -146,22 +176,23 @@ impl Cache {
     }
 }
 
-fn main() {
+fn main() -> ExitCode {
     let reads = std::env::args().nth(1).map_or(200_000, |word| word.parse().expect("a number of reads"));
-    let config = Config { workers: READERS as u32, capacity: 256, refs_limit: 64, first_generation: 1 };
-    let mut parts = bump::open(&config, &CLASSES).expect("a store");
+    let config = Config { workers: READERS as u32, capacity: 256, refs_limit: 64, first_generation: 1, words: 0 };
+    let Parts { mut workers, books, mut lanes } = bump::open(&config, &CLASSES).expect("a store").parts();
     let words = |class: usize| (0..WORDS[class]).map(|_| AtomicU64::new(0)).collect::<Vec<_>>();
     let cache = Cache {
-        books: parts.books.into_iter().map(Mutex::new).collect(),
+        books: books.into_iter().map(Mutex::new).collect(),
         index: RwLock::new(HashMap::new()),
-        keys: (0..2500).map(|_| AtomicU32::new(0)).collect(),
         values: (0..2).flat_map(|class| (0..CLASSES[class].chunks).map(move |_| words(class))).collect(),
         readers_left: AtomicUsize::new(READERS),
     };
-    (0..KEYS).for_each(|key| cache.store(key, 0));
+    for key in 0..KEYS {
+        cache.store(key, 0);
+    }
+    let mut refused = 0;
     let tallies: Vec<Tally> = thread::scope(|scope| {
-        let threads: Vec<_> = parts
-            .workers
+        let threads: Vec<_> = workers
             .iter_mut()
             .enumerate()
             .map(|(number, worker)| {
@@ -169,11 +200,10 @@ fn main() {
                 scope.spawn(move || cache.read_all(worker, 17 + number as u64, reads))
             })
             .collect();
-        cache.keep(&mut parts.lanes);
+        refused = cache.keep(&mut lanes);
         threads.into_iter().map(|thread| thread.join().unwrap()).collect()
     });
-    let settled: Vec<bool> =
-        parts.lanes.iter_mut().zip(parts.workers).map(|(lane, worker)| cache.settle(lane, worker)).collect();
+    let settled: Vec<bool> = lanes.iter_mut().zip(workers).map(|(lane, worker)| cache.settle(lane, worker)).collect();
     let mut dying = 0;
     for book in &cache.books {
         let mut book = book.lock().unwrap();
@@ -181,8 +211,10 @@ fn main() {
         dying += book.size(Place::Dying);
     }
     let sum = |of: fn(&Tally) -> u64| tallies.iter().map(of).sum::<u64>();
-    println!("{READERS} readers read {} wrong values", sum(|tally| tally.wrong));
-    println!("each bump that was accepted is applied: {}", if settled.iter().all(|all| *all) { "yes" } else { "no" });
+    let (wrong, settled) = (sum(|tally| tally.wrong), settled.iter().all(|all| *all));
+    println!("{READERS} readers read {wrong} wrong values");
+    println!("each bump that was accepted is applied: {}", if settled { "yes" } else { "no" });
     println!("{dying} chunks wait for a sweep");
-    eprintln!("{} of {READERS} x {reads} reads hit", sum(|tally| tally.hits));
+    eprintln!("{} of {READERS} x {reads} reads hit, {refused} stores found no chunk", sum(|tally| tally.hits));
+    ExitCode::from(u8::from(wrong > 0 || !settled || dying > 0))
 }

@@ -1,269 +1,39 @@
 //! bump for Rust, over the C library: its types make the promises of `bump.h` hold. A store's parts are values; a
 //! `Worker` may go to another thread and is never shared (`!Sync`); a `Hold` borrows its worker and gives itself back;
 //! a `Book` is lent by the caller's own `Mutex<Book>`. `std` alone, and no `unsafe` for whoever uses it.
+//!
+//! ```
+//! let config = bump::Config { workers: 1, capacity: 16, refs_limit: 8, first_generation: 1, words: 0 };
+//! let class = bump::ClassConfig { chunks: 10, hot: 2, warm: 4 };
+//! let mut store = bump::open(&config, &[class]).unwrap();
+//! let (worker, mut book) = (store.take_worker(0).unwrap(), store.take_book(0).unwrap());
+//! let item = book.link(7, 1).unwrap();
+//! assert_eq!(worker.get(item).unwrap().label(), 7);
+//! ```
 use std::cell::Cell;
+use std::fmt;
 use std::marker::PhantomData;
+use std::ops::Deref;
 use std::sync::atomic::{AtomicU64, Ordering};
 
-/// The C library, as `bump.h` declares it. Its enums are numbers of 32 bits.
-mod raw {
-    use std::ffi::c_void;
+mod answers;
+mod raw;
+#[cfg(test)]
+mod tests;
 
-    #[repr(C)]
-    #[derive(Clone, Copy)]
-    pub struct Handle {
-        pub p: *mut c_void,
-    }
-    pub const EMPTY: Handle = Handle { p: std::ptr::null_mut() };
+pub use answers::*;
 
-    #[repr(C)]
-    pub struct Config {
-        pub store: u64,
-        pub workers: u32,
-        pub capacity: u32,
-        pub refs_limit: u32,
-        pub first_generation: u32,
-        pub holds: u32,
-    }
-    #[repr(C)]
-    pub struct Touched {
-        pub answer: u32,
-        pub number: u64,
-    }
-    #[repr(C)]
-    pub struct Labelled {
-        pub answer: u32,
-        pub label: u64,
-    }
-    #[repr(C)]
-    pub struct WholeHit {
-        pub got: u32,
-        pub touch: u32,
-        pub label: u64,
-    }
-    #[repr(C)]
-    pub struct ItemAnswer {
-        pub answer: u32,
-        pub chunk: u32,
-        pub generation: u32,
-    }
-    #[repr(C)]
-    pub struct Seen {
-        pub answer: u32,
-        pub generation: u32,
-        pub refs: u32,
-        pub segment: u32,
-        pub time: u64,
-        pub linked: bool,
-        pub fetched: bool,
-        pub active: bool,
-    }
-    #[repr(C)]
-    pub struct Two {
-        pub first: u32,
-        pub second: u32,
-    }
-    #[repr(C)]
-    pub struct Rested {
-        pub answer: u32,
-        pub left: u64,
-        pub counts: super::Counts,
-        pub applied: u64,
-    }
+/// The version of `bump.h` that this wrapper is written for, as `version` tells the library's.
+pub const VERSION: u32 = 100;
 
-    extern "C" {
-        pub fn bump_open(out: *mut Handle, config: *const Config, classes: *const super::ClassConfig, n: usize) -> u32;
-        pub fn bump_take_worker(store: *mut Handle, part: *mut Handle) -> bool;
-        pub fn bump_take_book(store: *mut Handle, part: *mut Handle) -> bool;
-        pub fn bump_take_lane(store: *mut Handle, part: *mut Handle) -> bool;
-        pub fn bump_get(worker: *mut Handle, hold: u32, chunk: u32, generation: u32) -> u32;
-        pub fn bump_touch(worker: *mut Handle, hold: u32, now: u64) -> Touched;
-        pub fn bump_label(worker: *mut Handle, hold: u32) -> Labelled;
-        pub fn bump_release(worker: *mut Handle, hold: u32) -> bool;
-        pub fn bump_hit(worker: *mut Handle, chunk: u32, generation: u32, now: u64) -> WholeHit;
-        pub fn bump_worker_counts(worker: *mut Handle) -> super::Counts;
-        pub fn bump_worker_close(lane: *mut Handle, worker: Handle, back: *mut Handle) -> u32;
-        pub fn bump_link(book: *mut Handle, label: u64, now: u64) -> ItemAnswer;
-        pub fn bump_link_temp(book: *mut Handle, label: u64, now: u64) -> ItemAnswer;
-        pub fn bump_unlink(book: *mut Handle, chunk: u32, generation: u32) -> u32;
-        pub fn bump_pull(book: *mut Handle, tail: u32) -> ItemAnswer;
-        pub fn bump_sweep(book: *mut Handle) -> u32;
-        pub fn bump_size(book: *mut Handle, place: u32) -> u32;
-        pub fn bump_see(book: *mut Handle, chunk: u32) -> Seen;
-        pub fn bump_walk(book: *mut Handle, place: u32, chunks: *mut u32, room: usize) -> Two;
-        pub fn bump_moves(book: *mut Handle, worker: u32) -> u64;
-        pub fn bump_limits(book: *mut Handle) -> Two;
-        pub fn bump_lane_class(lane: *mut Handle) -> u32;
-        pub fn bump_apply_run(book: *mut Handle, lane: *mut Handle, now: u64, limit: u32) -> Two;
-        pub fn bump_rest(lane: *mut Handle) -> Rested;
-        pub fn bump_close(store: Handle);
-        pub fn bump_worker_free(worker: Handle);
-        pub fn bump_book_free(book: Handle);
-        pub fn bump_lane_free(lane: Handle);
-    }
-}
+/// The most chunks, and the most words, that one call tells.
+pub const MOST_CHUNKS: usize = 32;
+pub const MOST_WORDS: usize = 8;
 
-/// An item: a chunk and a generation.
-#[derive(Clone, Copy, Debug, PartialEq, Eq, Hash)]
-pub struct ItemId {
-    pub chunk: u32,
-    pub generation: u32,
-}
-
-/// What a store is made from: the ranges are those of `bump_config`. A worker has up to 64 holds at a time.
-#[derive(Clone, Copy, Debug)]
-pub struct Config {
-    pub workers: u32,
-    pub capacity: u32,
-    pub refs_limit: u32,
-    pub first_generation: u32,
-}
-
-/// What a class is made from.
-#[repr(C)]
-#[derive(Clone, Copy, Debug)]
-pub struct ClassConfig {
-    pub chunks: u32,
-    pub hot: u32,
-    pub warm: u32,
-}
-
-/// A worker's counts of bumps.
-#[repr(C)]
-#[derive(Clone, Copy, Debug, PartialEq, Eq)]
-pub struct Counts {
-    pub attempted: u64,
-    pub accepted: u64,
-    pub full: u64,
-    pub busy: u64,
-    pub refs: u64,
-}
-
-/// Why no store was opened.
-#[derive(Clone, Copy, Debug, PartialEq, Eq)]
-pub enum OpenFault {
-    Workers,
-    Capacity,
-    RefsLimit,
-    Generation,
-    Classes,
-    Chunks,
-    NoMemory,
-}
-
-/// Why there is no hold.
-#[derive(Clone, Copy, Debug, PartialEq, Eq)]
-pub enum GetRefusal {
-    NoSuchChunk,
-    Stale,
-    RefsFull,
-    Busy,
-    /// The worker has 64 holds at a time already.
-    NoPlace,
-}
-
-/// Why a bump was dropped.
-#[derive(Clone, Copy, Debug, PartialEq, Eq)]
-pub enum Dropped {
-    Full,
-    Busy,
-    RefsFull,
-}
-
-/// What a hit did.
-#[derive(Clone, Copy, Debug, PartialEq, Eq)]
-pub enum Touch {
-    First,
-    Already,
-    Marked,
-    Queued,
-    Dropped(Dropped),
-    Exhausted,
-}
-
-/// The list whose last item a pull looks at.
-#[derive(Clone, Copy, Debug, PartialEq, Eq)]
-pub enum Tail {
-    Hot,
-    Warm,
-    Cold,
-    Evict,
-}
-
-/// What a pull did with the last item of its list.
-#[derive(Clone, Copy, Debug, PartialEq, Eq)]
-pub enum Pulled {
-    Empty,
-    Stay(ItemId),
-    Warm(ItemId),
-    Again(ItemId),
-    Cold(ItemId),
-    Freed(ItemId),
-    Deferred(ItemId),
-}
-
-/// Whether an ended item's chunk is free.
-#[derive(Clone, Copy, Debug, PartialEq, Eq)]
-pub enum Ended {
-    Freed,
-    Deferred,
-}
-
-/// Why nothing was ended.
-#[derive(Clone, Copy, Debug, PartialEq, Eq)]
-pub enum UnlinkRefusal {
-    NoSuchChunk,
-    NotLinked,
-}
-
-/// No chunk of the class is free.
-#[derive(Clone, Copy, Debug, PartialEq, Eq)]
-pub struct NoFreeChunk;
-
-/// The book and the lane are of two stores.
-#[derive(Clone, Copy, Debug, PartialEq, Eq)]
-pub struct OtherStore;
-
-/// One of a class's lists.
-#[derive(Clone, Copy, Debug, PartialEq, Eq)]
-pub enum Place {
-    Hot,
-    Warm,
-    Cold,
-    Temp,
-    Dying,
-    Unused,
-    Retired,
-}
-
-/// What two loads found of a chunk. `segment` is where its item is, or was last.
-#[derive(Clone, Copy, Debug, PartialEq, Eq)]
-pub struct Seen {
-    pub generation: u32,
-    pub refs: u32,
-    pub segment: Place,
-    pub time: u64,
-    pub linked: bool,
-    pub fetched: bool,
-    pub active: bool,
-}
-
-/// What is left of a worker's bumps. `Unseen`: the ring can't show its end now.
-#[derive(Clone, Copy, Debug, PartialEq, Eq)]
-pub enum Rest {
-    Settled { counts: Counts, applied: u64 },
-    Open,
-    Left(u64),
-    Unseen,
-}
-
-/// Why a worker wasn't closed. It comes back.
-pub enum Unclosed {
-    OtherStore(Worker),
-    OtherWorker(Worker),
-    /// A hold was forgotten, and not dropped.
-    HoldsOut(Worker),
-    Twice(Worker),
+/// The version of the library: 10000 x major + 100 x minor + patch.
+pub fn version() -> u32 {
+    // SAFETY: it has no argument.
+    unsafe { raw::bump_version() }
 }
 
 /// The parts of a store, by number.
@@ -275,15 +45,16 @@ pub struct Parts {
 
 const HOLDS: u32 = 64;
 
-/// A number for each store of the process, by which the library tells them apart.
-static STORES: AtomicU64 = AtomicU64::new(1);
+/// A number for each store of the process, by which the library tells them apart. Stores that C opens in the same
+/// process have smaller ones.
+static STORES: AtomicU64 = AtomicU64::new(1 << 63);
 
 fn no_such_answer(call: &str, answer: u32) -> ! {
     unreachable!("{call} answered {answer}: bump.rs and the library differ")
 }
 
-/// Opens a store, and takes its parts out.
-pub fn open(config: &Config, classes: &[ClassConfig]) -> Result<Parts, OpenFault> {
+/// Opens a store.
+pub fn open(config: &Config, classes: &[ClassConfig]) -> Result<Store, OpenFault> {
     let numbers = raw::Config {
         store: STORES.fetch_add(1, Ordering::Relaxed),
         workers: config.workers,
@@ -291,44 +62,72 @@ pub fn open(config: &Config, classes: &[ClassConfig]) -> Result<Parts, OpenFault
         refs_limit: config.refs_limit,
         first_generation: config.first_generation,
         holds: HOLDS,
+        words: config.words,
     };
     let mut store = raw::EMPTY;
     // SAFETY: the slot is empty; an empty slice's pointer isn't null.
     match unsafe { raw::bump_open(&mut store, &numbers, classes.as_ptr(), classes.len()) } {
-        0 => {}
-        1 => return Err(OpenFault::Workers),
-        2 => return Err(OpenFault::Capacity),
-        3 => return Err(OpenFault::RefsLimit),
-        4 => return Err(OpenFault::Generation),
-        5 => return Err(OpenFault::Classes),
-        6 => return Err(OpenFault::Chunks),
-        7 => return Err(OpenFault::NoMemory),
+        0 => Ok(Store { raw: store, workers: config.workers, classes: classes.len() as u32 }),
+        1 => Err(OpenFault::Workers),
+        2 => Err(OpenFault::Capacity),
+        3 => Err(OpenFault::RefsLimit),
+        4 => Err(OpenFault::Generation),
+        5 => Err(OpenFault::Classes),
+        6 => Err(OpenFault::Chunks),
+        7 => Err(OpenFault::NoMemory),
         other => no_such_answer("bump_open", other),
     }
-    let mut parts = Parts { workers: Vec::new(), books: Vec::new(), lanes: Vec::new() };
-    // SAFETY: each slot is empty, and the store is there until it is closed below.
-    unsafe {
-        let mut part = raw::EMPTY;
-        while raw::bump_take_worker(&mut store, &mut part) {
-            let raw = std::mem::replace(&mut part, raw::EMPTY);
-            parts.workers.push(Worker { raw: Cell::new(raw), free: Cell::new(u64::MAX), not_shared: PhantomData });
-        }
-        while raw::bump_take_book(&mut store, &mut part) {
-            parts.books.push(Book { raw: std::mem::replace(&mut part, raw::EMPTY) });
-        }
-        while raw::bump_take_lane(&mut store, &mut part) {
-            parts.lanes.push(Lane { raw: std::mem::replace(&mut part, raw::EMPTY) });
-        }
-        raw::bump_close(store);
+}
+
+/// What is still to be taken out of a store. What isn't taken is given back with it.
+pub struct Store {
+    raw: raw::Handle,
+    workers: u32,
+    classes: u32,
+}
+
+// SAFETY: the library's handles may go to another thread; each call takes the store by `&mut`.
+unsafe impl Send for Store {}
+
+impl Store {
+    /// The worker with this number; None: there is none, or it is taken already.
+    pub fn take_worker(&mut self, number: u32) -> Option<Worker> {
+        let mut raw = raw::EMPTY;
+        // SAFETY: the handle is this value's alone, and the slot is empty; so in the calls below.
+        let is_taken = unsafe { raw::bump_take_worker(&mut self.raw, number, &mut raw) };
+        is_taken.then(|| Worker { raw: Cell::new(raw), free: Cell::new(u64::MAX), not_shared: PhantomData })
     }
-    let all = (parts.workers.len(), parts.books.len(), parts.lanes.len());
-    if all != (config.workers as usize, classes.len(), config.workers as usize) {
-        return Err(OpenFault::NoMemory);
+
+    /// The book of the class with this number; None: there is none, or it is taken already.
+    pub fn take_book(&mut self, number: u32) -> Option<Book> {
+        let mut raw = raw::EMPTY;
+        let is_taken = unsafe { raw::bump_take_book(&mut self.raw, number, &mut raw) };
+        is_taken.then(|| Book { raw })
     }
-    parts.workers.reverse();
-    parts.books.reverse();
-    parts.lanes.reverse();
-    Ok(parts)
+
+    /// The lane of the worker with this number; None: there is none, or it is taken already.
+    pub fn take_lane(&mut self, number: u32) -> Option<Lane> {
+        let mut raw = raw::EMPTY;
+        let is_taken = unsafe { raw::bump_take_lane(&mut self.raw, number, &mut raw) };
+        is_taken.then(|| Lane { raw })
+    }
+
+    /// All parts by number, but those that were taken before.
+    pub fn parts(mut self) -> Parts {
+        let (workers, classes) = (0..self.workers, 0..self.classes);
+        Parts {
+            workers: workers.clone().filter_map(|number| self.take_worker(number)).collect(),
+            books: classes.filter_map(|number| self.take_book(number)).collect(),
+            lanes: workers.filter_map(|number| self.take_lane(number)).collect(),
+        }
+    }
+}
+
+impl Drop for Store {
+    fn drop(&mut self) {
+        // SAFETY: the handle is this value's, and gone behind it.
+        unsafe { raw::bump_close(self.raw) }
+    }
 }
 
 fn touch_of(answer: u32) -> Touch {
@@ -345,6 +144,16 @@ fn touch_of(answer: u32) -> Touch {
     }
 }
 
+fn segment_of(number: u32) -> Place {
+    match number {
+        0 => Place::Hot,
+        1 => Place::Warm,
+        2 => Place::Cold,
+        3 => Place::Temp,
+        other => no_such_answer("segment", other),
+    }
+}
+
 fn refusal_of(answer: u32) -> GetRefusal {
     match answer {
         1 => GetRefusal::NoPlace,
@@ -356,7 +165,96 @@ fn refusal_of(answer: u32) -> GetRefusal {
     }
 }
 
-/// A reader. It may go to another thread, and is never shared: each reading thread has one of its own.
+/// The number of a chunk, or of none; no list has a chunk of that number.
+fn number_of(chunk: Option<u32>) -> Result<u32, NotThere> {
+    match chunk {
+        Some(u32::MAX) => Err(NotThere),
+        Some(chunk) => Ok(chunk),
+        None => Ok(u32::MAX),
+    }
+}
+
+fn linked(said: raw::Linked) -> Result<ItemId, LinkRefusal> {
+    match said.answer {
+        0 => Ok(ItemId { chunk: said.chunk, generation: said.generation }),
+        1 => Err(LinkRefusal::NoFreeChunk),
+        2 => Err(LinkRefusal::TooManyWords),
+        other => no_such_answer("bump_link", other),
+    }
+}
+
+fn pulled(said: raw::Pulled) -> Pulled {
+    let last = Labelled { item: ItemId { chunk: said.chunk, generation: said.generation }, label: said.label };
+    match said.answer {
+        0 => Pulled::Empty,
+        1 => Pulled::Stay(last),
+        2 => Pulled::Warm(last),
+        3 => Pulled::Again(last),
+        4 => Pulled::Cold(last),
+        5 => Pulled::Freed(last),
+        6 => Pulled::Deferred(last),
+        other => no_such_answer("bump_pull", other),
+    }
+}
+
+fn seen(said: raw::Seen) -> Seen {
+    Seen {
+        item: ItemId { chunk: said.chunk, generation: said.generation },
+        marks: Marks {
+            refs: said.refs,
+            segment: segment_of(said.segment),
+            linked: said.linked,
+            fetched: said.fetched,
+            active: said.active,
+        },
+        time: said.time,
+        label: said.label,
+    }
+}
+
+fn chunks_of(count: u32, all: [u32; MOST_CHUNKS]) -> Chunks {
+    Chunks { count: count as usize, all }
+}
+
+fn done(answer: u32) -> Result<(), RunRefusal> {
+    match answer {
+        0 => Ok(()),
+        1 => Err(RunRefusal::OtherStore),
+        2 => Err(RunRefusal::OtherClass),
+        other => no_such_answer("bump_apply_run", other),
+    }
+}
+
+impl Deref for Chunks {
+    type Target = [u32];
+
+    fn deref(&self) -> &[u32] {
+        &self.all[..self.count]
+    }
+}
+
+impl Deref for Words {
+    type Target = [u64];
+
+    fn deref(&self) -> &[u64] {
+        &self.all[..self.count]
+    }
+}
+
+impl fmt::Debug for Chunks {
+    fn fmt(&self, f: &mut fmt::Formatter) -> fmt::Result {
+        self[..].fmt(f)
+    }
+}
+
+impl fmt::Debug for Words {
+    fn fmt(&self, f: &mut fmt::Formatter) -> fmt::Result {
+        self[..].fmt(f)
+    }
+}
+
+/// A reader. It may go to another thread, and is never shared: each reading thread has one of its own. Close it by its
+/// lane: dropped it gives back what it holds, but its lane is never settled (`Rest::Gone`).
 pub struct Worker {
     raw: Cell<raw::Handle>,
     // a bit for each hold that holds nothing
@@ -427,8 +325,37 @@ impl Hold<'_> {
 
     /// The item's label.
     pub fn label(&self) -> u64 {
-        // SAFETY: as in `touch`.
+        // SAFETY: as in `touch`; so in the calls below.
         unsafe { raw::bump_label(self.worker.raw.as_ptr(), self.number) }.label
+    }
+
+    /// The item's marks, its list and its references, which other threads may change behind it.
+    pub fn marks(&self) -> Marks {
+        let found = unsafe { raw::bump_marks(self.worker.raw.as_ptr(), self.number) };
+        Marks {
+            refs: found.refs,
+            segment: segment_of(found.segment),
+            linked: found.linked,
+            fetched: found.fetched,
+            active: found.active,
+        }
+    }
+
+    /// Whether the item has both marks. A touch of it would change nothing.
+    pub fn is_marked(&self) -> bool {
+        unsafe { raw::bump_marked(self.worker.raw.as_ptr(), self.number) }
+    }
+
+    /// The item's time.
+    pub fn time(&self) -> u64 {
+        unsafe { raw::bump_time(self.worker.raw.as_ptr(), self.number) }.time
+    }
+
+    /// The item's words, from the one with the number `first` on. Where they are `MOST_WORDS`, there may be more.
+    pub fn words(&self, first: u32) -> Words {
+        let told = unsafe { raw::bump_words(self.worker.raw.as_ptr(), self.number, first) };
+        let left = told.count.saturating_sub(first) as usize;
+        Words { count: left.min(MOST_WORDS), all: told.words }
     }
 }
 
@@ -449,50 +376,48 @@ pub struct Book {
 unsafe impl Send for Book {}
 
 impl Book {
-    fn linked(answer: raw::ItemAnswer) -> Result<ItemId, NoFreeChunk> {
-        match answer.answer {
-            0 => Ok(ItemId { chunk: answer.chunk, generation: answer.generation }),
-            1 => Err(NoFreeChunk),
-            other => no_such_answer("bump_link", other),
-        }
-    }
-
     /// Links an item at the front of HOT.
-    pub fn link(&mut self, label: u64, now: u64) -> Result<ItemId, NoFreeChunk> {
+    pub fn link(&mut self, label: u64, now: u64) -> Result<ItemId, LinkRefusal> {
         // SAFETY: the handle is this value's alone; so in the calls below.
-        Self::linked(unsafe { raw::bump_link(&mut self.raw, label, now) })
+        linked(unsafe { raw::bump_link(&mut self.raw, label, now) })
     }
 
     /// Links an item at the front of TEMP.
-    pub fn link_temp(&mut self, label: u64, now: u64) -> Result<ItemId, NoFreeChunk> {
-        Self::linked(unsafe { raw::bump_link_temp(&mut self.raw, label, now) })
+    pub fn link_temp(&mut self, label: u64, now: u64) -> Result<ItemId, LinkRefusal> {
+        linked(unsafe { raw::bump_link_temp(&mut self.raw, label, now) })
+    }
+
+    /// Links an item with words at the front of HOT.
+    pub fn link_words(&mut self, label: u64, words: &[u64], now: u64) -> Result<ItemId, LinkRefusal> {
+        linked(unsafe { raw::bump_link_words(&mut self.raw, label, words.as_ptr(), words.len(), now) })
+    }
+
+    /// Links an item with words at the front of TEMP.
+    pub fn link_temp_words(&mut self, label: u64, words: &[u64], now: u64) -> Result<ItemId, LinkRefusal> {
+        linked(unsafe { raw::bump_link_temp_words(&mut self.raw, label, words.as_ptr(), words.len(), now) })
     }
 
     /// Ends an item.
     pub fn unlink(&mut self, item: ItemId) -> Result<Ended, UnlinkRefusal> {
-        match unsafe { raw::bump_unlink(&mut self.raw, item.chunk, item.generation) } {
-            0 => Ok(Ended::Freed),
-            1 => Ok(Ended::Deferred),
+        let said = unsafe { raw::bump_unlink(&mut self.raw, item.chunk, item.generation) };
+        match said.answer {
+            0 => Ok(Ended::Freed(said.label)),
+            1 => Ok(Ended::Deferred(said.label)),
             2 => Err(UnlinkRefusal::NoSuchChunk),
             3 => Err(UnlinkRefusal::NotLinked),
             other => no_such_answer("bump_unlink", other),
         }
     }
 
-    /// Looks at the last item of a list.
+    /// Looks at the last item of a list, and moves or ends it, by the class's limits.
     pub fn pull(&mut self, tail: Tail) -> Pulled {
-        let said = unsafe { raw::bump_pull(&mut self.raw, tail as u32) };
-        let item = ItemId { chunk: said.chunk, generation: said.generation };
-        match said.answer {
-            0 => Pulled::Empty,
-            1 => Pulled::Stay(item),
-            2 => Pulled::Warm(item),
-            3 => Pulled::Again(item),
-            4 => Pulled::Cold(item),
-            5 => Pulled::Freed(item),
-            6 => Pulled::Deferred(item),
-            other => no_such_answer("bump_pull", other),
-        }
+        pulled(unsafe { raw::bump_pull(&mut self.raw, tail as u32, u32::MAX) })
+    }
+
+    /// The same by this limit: HOT's or WARM's item goes to COLD where the list has more.
+    pub fn pull_past(&mut self, tail: Tail, limit: u32) -> Pulled {
+        // No list has as many, and the greatest number would be the class's limit.
+        pulled(unsafe { raw::bump_pull(&mut self.raw, tail as u32, limit.min(u32::MAX - 1)) })
     }
 
     /// Frees the chunks of DYING that nobody holds any more: how many.
@@ -500,31 +425,60 @@ impl Book {
         unsafe { raw::bump_sweep(&mut self.raw) }
     }
 
+    /// The same, and tells which: at most `MOST_CHUNKS`, and it stops there. Where they are as many, sweep again.
+    pub fn sweep_told(&mut self) -> Chunks {
+        let freed = unsafe { raw::bump_sweep_told(&mut self.raw) };
+        chunks_of(freed.count, freed.chunks)
+    }
+
     /// How many chunks a list has.
     pub fn size(&mut self, place: Place) -> u32 {
         unsafe { raw::bump_size(&mut self.raw, place as u32) }
     }
 
-    /// What a chunk's word says, and its time; None: the class has no such chunk.
+    /// What a chunk's word says, its time and its label; None: the class has no such chunk.
     pub fn see(&mut self, chunk: u32) -> Option<Seen> {
-        let seen = unsafe { raw::bump_see(&mut self.raw, chunk) };
-        let segment = [Place::Hot, Place::Warm, Place::Cold, Place::Temp];
-        (seen.answer == 0).then(|| Seen {
-            generation: seen.generation,
-            refs: seen.refs,
-            segment: segment[seen.segment as usize],
-            time: seen.time,
-            linked: seen.linked,
-            fetched: seen.fetched,
-            active: seen.active,
-        })
+        let said = unsafe { raw::bump_see(&mut self.raw, chunk) };
+        (said.answer == 0).then(|| seen(said))
     }
 
-    /// The chunks of a list, front first; None: want of memory.
-    pub fn walk(&mut self, place: Place) -> Option<Vec<u32>> {
-        let mut chunks = vec![0; self.size(place) as usize];
-        let said = unsafe { raw::bump_walk(&mut self.raw, place as u32, chunks.as_mut_ptr(), chunks.len()) };
-        (said.first == 0).then_some(chunks)
+    /// The same of a list's last chunk, or of the one before the chunk `behind`; Ok(None): there is none.
+    pub fn look(&mut self, place: Place, behind: Option<u32>) -> Result<Option<Seen>, NotThere> {
+        let behind = number_of(behind)?;
+        let said = unsafe { raw::bump_look(&mut self.raw, place as u32, behind) };
+        match said.answer {
+            0 => Ok(Some(seen(said))),
+            1 => Err(NotThere),
+            2 => Ok(None),
+            other => no_such_answer("bump_look", other),
+        }
+    }
+
+    /// Tells the chunks of a list, front first, from the front on or from the chunk `from` on: at most `MOST_CHUNKS`.
+    /// To go on, call it with `next`.
+    pub fn walk(&mut self, place: Place, from: Option<u32>) -> Result<Walked, NotThere> {
+        let from = number_of(from)?;
+        let said = unsafe { raw::bump_walk(&mut self.raw, place as u32, from) };
+        let next = Some(said.next).filter(|next| *next != u32::MAX);
+        match said.answer {
+            0 => Ok(Walked { chunks: chunks_of(said.count, said.chunks), next }),
+            1 => Err(NotThere),
+            other => no_such_answer("bump_walk", other),
+        }
+    }
+
+    /// All chunks of a list, front first.
+    pub fn chunks(&mut self, place: Place) -> Vec<u32> {
+        let mut chunks = Vec::with_capacity(self.size(place) as usize);
+        let mut from = None;
+        loop {
+            let walked = self.walk(place, from).expect("a list stays, while nobody else has its book");
+            chunks.extend_from_slice(&walked.chunks);
+            if walked.next.is_none() {
+                return chunks;
+            }
+            from = walked.next;
+        }
     }
 
     /// How many items a worker's bumps brought to WARM; None: there is no such worker.
@@ -535,13 +489,19 @@ impl Book {
     /// The limits of HOT and of WARM.
     pub fn limits(&mut self) -> (u32, u32) {
         let limits = unsafe { raw::bump_limits(&mut self.raw) };
-        (limits.first, limits.second)
+        (limits.hot, limits.warm)
     }
 
     /// Applies a lane's next bumps as long as they are of this class, at most `limit`: how many.
-    pub fn apply_run(&mut self, lane: &mut Lane, now: u64, limit: u32) -> Result<u32, OtherStore> {
-        let ran = unsafe { raw::bump_apply_run(&mut self.raw, &mut lane.raw, now, limit) };
-        if ran.first == 0 { Ok(ran.second) } else { Err(OtherStore) }
+    pub fn apply_run(&mut self, lane: &mut Lane, now: u64, limit: u32) -> Result<u32, RunRefusal> {
+        let said = unsafe { raw::bump_apply_run(&mut self.raw, &mut lane.raw, now, limit) };
+        done(said.answer).map(|()| said.applied)
+    }
+
+    /// The same, and tells which chunks came free by it: at most `MOST_CHUNKS`, and it stops there.
+    pub fn apply_run_told(&mut self, lane: &mut Lane, now: u64, limit: u32) -> Result<Ran, RunRefusal> {
+        let said = unsafe { raw::bump_apply_run_told(&mut self.raw, &mut lane.raw, now, limit) };
+        done(said.answer).map(|()| Ran { applied: said.applied, freed: chunks_of(said.freed, said.chunks) })
     }
 }
 
@@ -552,7 +512,8 @@ impl Drop for Book {
     }
 }
 
-/// What applies the bumps of one worker.
+/// What applies the bumps of one worker. Apply them all before it is dropped: the chunks of those that are left stay in
+/// DYING for good, once their items end.
 pub struct Lane {
     raw: raw::Handle,
 }
@@ -591,6 +552,7 @@ impl Lane {
             1 => Rest::Open,
             2 => Rest::Left(rest.left),
             3 => Rest::Unseen,
+            4 => Rest::Gone,
             other => no_such_answer("bump_rest", other),
         }
     }
@@ -603,83 +565,30 @@ impl Drop for Lane {
     }
 }
 
-/// Neither compiles: a worker isn't shared, and a hold doesn't outlive its worker.
+/// The first compiles. The others don't: a worker isn't shared, a hold doesn't outlive its worker, and only whoever has
+/// the book alone makes its calls.
 ///
-/// ```compile_fail
+/// ```no_run
+/// fn moved<T: Send>(_: T) {}
+/// fn f(worker: bump::Worker, lane: &mut bump::Lane, item: bump::ItemId) {
+///     drop(worker.get(item));
+///     lane.close(worker).ok();
+/// }
+/// fn g(worker: bump::Worker, mut book: bump::Book) { book.sweep(); moved(worker); moved(book) }
+/// ```
+/// ```compile_fail,E0277
 /// fn shared<T: Sync>(_: &T) {}
 /// fn f(worker: &bump::Worker) { shared(worker) }
 /// ```
-/// ```compile_fail
+/// ```compile_fail,E0505
 /// fn f(worker: bump::Worker, lane: &mut bump::Lane, item: bump::ItemId) {
 ///     let hold = worker.get(item);
 ///     lane.close(worker).ok();
 ///     drop(hold);
 /// }
 /// ```
+/// ```compile_fail,E0596
+/// fn f(book: &bump::Book) { book.sweep(); }
+/// ```
 #[allow(dead_code)]
 struct Promises;
-
-#[cfg(test)]
-mod tests {
-    use super::*;
-
-    const CONFIG: Config = Config { workers: 2, capacity: 1, refs_limit: 4, first_generation: 1 };
-    const CLASS: ClassConfig = ClassConfig { chunks: 2, hot: 0, warm: 1 };
-
-    #[test]
-    fn faults_are_told() {
-        assert_eq!(open(&Config { workers: 0, ..CONFIG }, &[CLASS]).err(), Some(OpenFault::Workers));
-        assert_eq!(open(&Config { refs_limit: 1, ..CONFIG }, &[CLASS]).err(), Some(OpenFault::RefsLimit));
-        assert_eq!(open(&CONFIG, &[]).err(), Some(OpenFault::Classes));
-        assert_eq!(open(&CONFIG, &[ClassConfig { chunks: 0, ..CLASS }]).err(), Some(OpenFault::Chunks));
-    }
-
-    #[test]
-    fn a_hit_in_cold_is_queued_applied_and_settled() {
-        let Parts { mut workers, mut books, mut lanes } = open(&CONFIG, &[CLASS]).unwrap();
-        let (book, lane) = (&mut books[0], &mut lanes[1]);
-        let item = book.link(7, 1).unwrap();
-        assert_eq!(book.pull(Tail::Hot), Pulled::Cold(item));
-        assert_eq!(workers[1].hit(item, 2), Ok((Touch::First, 7)));
-        assert_eq!(workers[1].hit(item, 3), Ok((Touch::Queued, 7)));
-        assert_eq!(lane.class(), Some(0));
-        assert_eq!(book.apply_run(lane, 4, 9), Ok(1));
-        let seen = book.see(item.chunk).unwrap();
-        assert_eq!((seen.segment, seen.time, seen.refs, seen.active), (Place::Warm, 4, 1, false));
-        assert_eq!((book.moves(1), book.moves(2), book.walk(Place::Warm)), (Some(1), None, Some(vec![item.chunk])));
-        assert_eq!(lane.rest(), Rest::Open);
-        let worker = workers.pop().unwrap();
-        let counts = worker.counts();
-        assert!(lane.close(worker).is_ok());
-        assert_eq!(lane.rest(), Rest::Settled { counts, applied: 1 });
-        assert_eq!(book.unlink(item), Ok(Ended::Freed));
-        assert_eq!(book.unlink(item), Err(UnlinkRefusal::NotLinked));
-    }
-
-    #[test]
-    fn a_hold_is_given_back_with_its_value() {
-        let Parts { workers, mut books, .. } = open(&CONFIG, &[CLASS]).unwrap();
-        let item = books[0].link_temp(9, 1).unwrap();
-        let holds: Vec<Hold> = (0..3).map(|_| workers[0].get(item).unwrap()).collect();
-        assert_eq!(workers[1].get(item).err(), Some(GetRefusal::RefsFull));
-        assert_eq!((holds[2].label(), holds[1].touch(2)), (9, Touch::First));
-        assert_eq!(books[0].unlink(item), Ok(Ended::Deferred));
-        assert_eq!((books[0].sweep(), holds[0].label()), (0, 9));
-        drop(holds);
-        assert_eq!((books[0].sweep(), workers[1].get(item).err()), (1, Some(GetRefusal::Stale)));
-    }
-
-    #[test]
-    fn a_worker_comes_back_where_it_is_not_closed() {
-        let Parts { mut workers, mut books, mut lanes } = open(&CONFIG, &[CLASS]).unwrap();
-        let mut other = open(&CONFIG, &[CLASS]).unwrap();
-        assert_eq!(other.books[0].apply_run(&mut lanes[0], 1, 1), Err(OtherStore));
-        let item = books[0].link(1, 1).unwrap();
-        std::mem::forget(workers[1].get(item).unwrap());
-        let Err(Unclosed::OtherStore(worker)) = other.lanes[1].close(workers.pop().unwrap()) else { panic!() };
-        let Err(Unclosed::OtherWorker(worker)) = lanes[0].close(worker) else { panic!() };
-        let Err(Unclosed::HoldsOut(worker)) = lanes[1].close(worker) else { panic!() };
-        drop(worker);
-        assert_eq!(books[0].see(item.chunk).unwrap().refs, 1);
-    }
-}

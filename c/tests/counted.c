@@ -1,7 +1,8 @@
-/* A hit of an item that is marked already, over 1,024 items, to be counted and timed: by four calls, and by bump_hit.
+/* A hit of an item that is marked already, over 1,024 items, to be counted and timed: by four calls; by four that ask
+ * first, and so need no touch; and by bump_hit.
  *
- *   counted four|one ROUNDS      makes 1,024 x ROUNDS hits, and prints nothing
- *   counted time                 prints nanoseconds of a hit each way: the best of 60 passes of 64 rounds */
+ *   counted four|asking|one ROUNDS      makes 1,024 x ROUNDS hits, and prints nothing
+ *   counted time                        prints nanoseconds of a hit each way: the best of 60 passes of 64 rounds */
 #define _POSIX_C_SOURCE 200809L
 #include "bump.h"
 #include <stdio.h>
@@ -27,6 +28,21 @@ static uint64_t four(uint64_t rounds) {
   return sum;
 }
 
+static uint64_t asking(uint64_t rounds) {
+  uint64_t sum = 0;
+  for (uint64_t round = 0; round < rounds; round++)
+    for (int i = 0; i < ITEMS; i++) {
+      if (bump_get(&worker, 0, chunk[i], 1) != BUMP_GET_HELD) return 0;
+      if (bump_marked(&worker, 0))
+        sum++;
+      else
+        bump_touch(&worker, 0, 5);
+      sum += bump_label(&worker, 0).label;
+      bump_release(&worker, 0);
+    }
+  return sum;
+}
+
 static uint64_t one(uint64_t rounds) {
   uint64_t sum = 0;
   for (uint64_t round = 0; round < rounds; round++)
@@ -46,10 +62,10 @@ static double now(void) {
 
 static bool open_all(void) {
   bump_store store = { 0 };
-  const bump_config config = { 1, 1, 16, 65535, 1, 4 };
+  const bump_config config = { 1, 1, 16, 65535, 1, 4, 0 };
   const bump_class_config class = { ITEMS, ITEMS, ITEMS };
   if (bump_open(&store, &config, &class, 1) != BUMP_OPEN_DONE) return false;
-  bool all = bump_take_worker(&store, &worker) && bump_take_book(&store, &book);
+  bool all = bump_take_worker(&store, 0, &worker) && bump_take_book(&store, 0, &book);
   bump_close(store);
   for (uint32_t i = 0; i < ITEMS && all; i++) {
     bump_linked l = bump_link(&book, i, 0);
@@ -64,28 +80,34 @@ static bool open_all(void) {
 /* The labels of all items, and one for each hit. */
 static const uint64_t EACH_ROUND = (uint64_t)ITEMS * (ITEMS - 1) / 2 + ITEMS;
 
-static int time_both(void) {
-  double best_four = 1e18, best_one = 1e18;
-  for (int pass = 0; pass < PASSES; pass++) {
-    double start = now();
-    if (four(ROUNDS) != EACH_ROUND * ROUNDS) return 1;
-    double middle = now();
-    if (one(ROUNDS) != EACH_ROUND * ROUNDS) return 1;
-    double end = now();
-    if (middle - start < best_four) best_four = middle - start;
-    if (end - middle < best_one) best_one = end - middle;
-  }
-  printf("four %.1f\none %.1f\n", best_four / ITEMS / ROUNDS, best_one / ITEMS / ROUNDS);
+typedef uint64_t way(uint64_t rounds);
+static const struct {
+  const char *name;
+  way *hits;
+} WAY[] = { { "four", four }, { "asking", asking }, { "one", one } };
+enum { WAYS = 3 };
+
+static int time_all(void) {
+  double best[WAYS] = { 1e18, 1e18, 1e18 };
+  for (int pass = 0; pass < PASSES; pass++)
+    for (int i = 0; i < WAYS; i++) {
+      double start = now();
+      if (WAY[i].hits(ROUNDS) != EACH_ROUND * ROUNDS) return 1;
+      double took = now() - start;
+      if (took < best[i]) best[i] = took;
+    }
+  for (int i = 0; i < WAYS; i++) printf("%s %.1f\n", WAY[i].name, best[i] / ITEMS / ROUNDS);
   return 0;
 }
 
 int main(int count, char **words) {
   if (!open_all()) return 1;
   int status = 2;
-  if (count == 2 && strcmp(words[1], "time") == 0) status = time_both();
-  if (count == 3) {
+  if (count == 2 && strcmp(words[1], "time") == 0) status = time_all();
+  for (int i = 0; i < WAYS && count == 3; i++) {
+    if (strcmp(words[1], WAY[i].name) != 0) continue;
     uint64_t rounds = strtoull(words[2], NULL, 10);
-    status = (strcmp(words[1], "four") == 0 ? four(rounds) : one(rounds)) != EACH_ROUND * rounds;
+    status = WAY[i].hits(rounds) != EACH_ROUND * rounds;
   }
   bump_worker_free(worker);
   bump_book_free(book);

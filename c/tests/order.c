@@ -1,43 +1,56 @@
-/* Tells ThreadSanitizer what the library's words order, since it doesn't look into the library: whoever links an item
- * in a chunk comes behind each reader that held the chunk and gave it back. Link with -Wl,--wrap=bump_get and so on for
- * bump_release, bump_link and bump_link_temp. It fits programs whose threads have one worker each. */
+/* Tells ThreadSanitizer what the library's words order, since it doesn't look into the library: whoever is told that a
+ * chunk is free, or links an item in it, comes behind each reader that held the chunk and gave it back. Link with
+ * -Wl,--wrap= and the name, for each call that is wrapped here. It fits programs whose threads have one worker each. */
 #include "bump.h"
 
-enum { CHUNKS = 1000000, HOLDS = 64 };
+enum { CHUNKS = 1000000, HOLDS = 256 };
 static char order[CHUNKS];
 static __thread uint32_t held[HOLDS];
 
 void __tsan_acquire(void *at);
 void __tsan_release(void *at);
-enum bump_get __real_bump_get(bump_worker *worker, uint32_t hold, uint32_t chunk, uint32_t generation);
-enum bump_get __wrap_bump_get(bump_worker *worker, uint32_t hold, uint32_t chunk, uint32_t generation);
-bool __real_bump_release(bump_worker *worker, uint32_t hold);
-bool __wrap_bump_release(bump_worker *worker, uint32_t hold);
-bump_linked __real_bump_link(bump_book *book, uint64_t label, uint64_t now);
-bump_linked __wrap_bump_link(bump_book *book, uint64_t label, uint64_t now);
-bump_linked __real_bump_link_temp(bump_book *book, uint64_t label, uint64_t now);
-bump_linked __wrap_bump_link_temp(bump_book *book, uint64_t label, uint64_t now);
 
-enum bump_get __wrap_bump_get(bump_worker *worker, uint32_t hold, uint32_t chunk, uint32_t generation) {
-  enum bump_get got = __real_bump_get(worker, hold, chunk, generation);
-  if (got == BUMP_GET_HELD) held[hold] = chunk;
-  return got;
+static void is_free(bool is, uint32_t chunk) {
+  if (is) __tsan_acquire(&order[chunk]);
 }
 
+static void are_free(const uint32_t *chunks, uint32_t count) {
+  for (uint32_t i = 0; i < count; i++) is_free(true, chunks[i]);
+}
+
+/* Before the call, since behind it another thread may have the chunk. */
+bool __real_bump_release(bump_worker *worker, uint32_t hold);
+bool __wrap_bump_release(bump_worker *worker, uint32_t hold);
 bool __wrap_bump_release(bump_worker *worker, uint32_t hold) {
   __tsan_release(&order[held[hold]]);
   return __real_bump_release(worker, hold);
 }
 
-static bump_linked linked(bump_linked answer) {
-  if (answer.answer == BUMP_LINK_DONE) __tsan_acquire(&order[answer.chunk]);
-  return answer;
-}
+/* The other ones do something behind the library's call, by its answer. */
+#define WRAPPED(type, call, parameters, arguments, behind) \
+  type __real_##call parameters;                           \
+  type __wrap_##call parameters;                           \
+  type __wrap_##call parameters {                          \
+    type answer = __real_##call arguments;                 \
+    behind;                                                \
+    return answer;                                         \
+  }
 
-bump_linked __wrap_bump_link(bump_book *book, uint64_t label, uint64_t now) {
-  return linked(__real_bump_link(book, label, now));
-}
-
-bump_linked __wrap_bump_link_temp(bump_book *book, uint64_t label, uint64_t now) {
-  return linked(__real_bump_link_temp(book, label, now));
-}
+WRAPPED(enum bump_get_answer, bump_get, (bump_worker *w, uint32_t hold, uint32_t chunk, uint32_t generation),
+        (w, hold, chunk, generation), if (answer == BUMP_GET_HELD) held[hold] = chunk)
+WRAPPED(bump_linked, bump_link, (bump_book *b, uint64_t label, uint64_t now), (b, label, now),
+        is_free(answer.answer == BUMP_LINK_DONE, answer.chunk))
+WRAPPED(bump_linked, bump_link_temp, (bump_book *b, uint64_t label, uint64_t now), (b, label, now),
+        is_free(answer.answer == BUMP_LINK_DONE, answer.chunk))
+WRAPPED(bump_linked, bump_link_words, (bump_book *b, uint64_t label, const uint64_t *words, size_t n, uint64_t now),
+        (b, label, words, n, now), is_free(answer.answer == BUMP_LINK_DONE, answer.chunk))
+WRAPPED(bump_linked, bump_link_temp_words,
+        (bump_book *b, uint64_t label, const uint64_t *words, size_t n, uint64_t now), (b, label, words, n, now),
+        is_free(answer.answer == BUMP_LINK_DONE, answer.chunk))
+WRAPPED(bump_unlinked, bump_unlink, (bump_book *b, uint32_t chunk, uint32_t generation), (b, chunk, generation),
+        is_free(answer.answer == BUMP_UNLINK_FREED, chunk))
+WRAPPED(bump_pulled, bump_pull, (bump_book *b, uint32_t tail, uint32_t limit), (b, tail, limit),
+        is_free(answer.answer == BUMP_PULL_FREED, answer.chunk))
+WRAPPED(bump_freed, bump_sweep_told, (bump_book *b), (b), are_free(answer.chunks, answer.count))
+WRAPPED(bump_ran_told, bump_apply_run_told, (bump_book *b, bump_lane *l, uint64_t now, uint32_t limit),
+        (b, l, now, limit), are_free(answer.chunks, answer.freed))

@@ -1,5 +1,6 @@
 -- How C reads what is answered: numbers in the order of the enums of c/bump.h, and plain records.
-use Rattle.std.specs.Prelude.{ℕ, false, Option, Some, None, Result, Ok, Err}
+use Rattle.std.specs.Prelude.{ℕ, Bool, false, ◌&&◌, ◌==◌, if◌then◌else◌, List, replicate, Option, Some, None, unwrap_or}
+use Rattle.std.specs.Prelude.{Result, Ok, Err}
 use Rattle.bump_rules.specs.declared.bumps.Accounts.{Accounts}
 use Rattle.bump_rules.specs.declared.bumps.Ended.{Ended}
 use Rattle.bump_rules.specs.declared.bumps.Ended.TheVariants as ended
@@ -19,25 +20,46 @@ use Rattle.bump_rules.specs.declared.places.Tail.TheVariants as tail
 use Rattle.bump_class.specs.declared.ending.UnlinkRefusal.{UnlinkRefusal}
 use Rattle.bump_class.specs.declared.ending.UnlinkRefusal.TheVariants as unlink
 use Rattle.bump_class.specs.declared.linking.LinkRefusal.{LinkRefusal}
+use Rattle.bump_class.specs.declared.running.RunEnd.{RunEnd}
 use Rattle.bump_parts.specs.declared.refusals.GetRefusal.{GetRefusal}
 use Rattle.bump_parts.specs.declared.refusals.GetRefusal.TheVariants as refused
 use Rattle.bump_handles.specs.declared.drainers.NotClosed.{NotClosed}
 use Rattle.bump_handles.specs.declared.drainers.NotClosed.TheVariants as not_closed
+use Rattle.bump_handles.specs.declared.drainers.OtherClass.{OtherClass}
 use Rattle.bump_handles.specs.declared.drainers.Rested.{Rested}
 use Rattle.bump_handles.specs.declared.drainers.RestState.{RestState}
 use Rattle.bump_handles.specs.declared.drainers.RestState.TheVariants as rest
+use Rattle.bump_handles.specs.declared.linking.WordsRefusal.{WordsRefusal}
+use Rattle.bump_handles.specs.declared.linking.WordsRefusal.TheVariants as with_words
+use Rattle.bump_handles.specs.declared.looking.NotThere.{NotThere}
+use Rattle.bump_handles.specs.declared.looking.Sight.{Sight}
+use Rattle.bump_handles.specs.declared.looking.Walked.{Walked}
 use Rattle.bump_handles.specs.declared.readers.Taken.{Taken}
 use Rattle.bump_handles.specs.declared.readers.Taken.TheVariants as taken
 use Rattle.bump_handles.specs.declared.readers.WholeHit.{WholeHit}
 use Rattle.bump_c.specs.declared.answers.Counts.{Counts}
 use Rattle.bump_c.specs.declared.answers.HitTold.{HitTold}
-use Rattle.bump_c.specs.declared.answers.ItemTold.{ItemTold}
 use Rattle.bump_c.specs.declared.answers.Labelled.{Labelled}
+use Rattle.bump_c.specs.declared.answers.LinkTold.{LinkTold}
+use Rattle.bump_c.specs.declared.answers.MarksTold.{MarksTold}
+use Rattle.bump_c.specs.declared.answers.PullTold.{PullTold}
+use Rattle.bump_c.specs.declared.answers.Ran.{Ran}
+use Rattle.bump_c.specs.declared.answers.RanTold.{RanTold}
 use Rattle.bump_c.specs.declared.answers.RestTold.{RestTold}
 use Rattle.bump_c.specs.declared.answers.Seen.{Seen}
+use Rattle.bump_c.specs.declared.answers.TimeTold.{TimeTold}
 use Rattle.bump_c.specs.declared.answers.Touched.{Touched}
+use Rattle.bump_c.specs.declared.answers.UnlinkTold.{UnlinkTold}
+use Rattle.bump_c.specs.declared.answers.WalkTold.{WalkTold}
+use Rattle.bump_c.specs.declared.answers.WordsTold.{WordsTold}
 
 -- ---- a reader's calls
+
+abbrev pub number_of_segment : Segment → ℕ
+number_of_segment segment.Hot = 0
+number_of_segment segment.Warm = 1
+number_of_segment segment.Cold = 2
+number_of_segment segment.Temp = 3
 
 abbrev pub number_of_taken : Taken → ℕ
 number_of_taken taken.Held = 0
@@ -81,6 +103,34 @@ abbrev pub labelled_of : Option ℕ → Labelled
 labelled_of None = record { answer = 1; label = 0 }
 labelled_of (Some label) = record { answer = 0; label = label }
 
+abbrev pub marks_of : Option Head → MarksTold
+marks_of None = record { answer = 1; refs = 0; segment = 0; linked = false; fetched = false; active = false }
+marks_of (Some head) = record {
+  answer = 0;
+  refs = head.refs;
+  segment = number_of_segment head.segment;
+  linked = head.linked;
+  fetched = head.fetched;
+  active = head.active;
+}
+
+-- an item is held, and it has both marks
+abbrev pub has_both_marks : Option Head → Bool
+has_both_marks None = false
+has_both_marks (Some head) = head.fetched && head.active
+
+abbrev pub time_of : Option ℕ → TimeTold
+time_of None = record { answer = 1; time = 0 }
+time_of (Some time) = record { answer = 0; time = time }
+
+abbrev pub words_of : Option ℕ → List ℕ → WordsTold
+words_of None words = record { answer = 1; count = 0; words = words }
+words_of (Some count) words = record { answer = 0; count = count; words = words }
+
+-- room for some words of an item
+abbrev pub no_words : List ℕ
+no_words = replicate 8 0
+
 abbrev pub told_of_hit : Result WholeHit GetRefusal → HitTold
 told_of_hit (Ok whole) = record { got = 0; touch = number_of_touch whole.touch; label = whole.label }
 told_of_hit (Err refusal) = record { got = number_of_refusal refusal; touch = 8; label = 0 }
@@ -107,15 +157,26 @@ number_of_close (Some why) = number_of_not_closed why
 
 -- ---- a class's calls
 
-abbrev pub linked_of : Result ItemId LinkRefusal → ItemTold
-linked_of (Ok item) = record { answer = 0; chunk = item.chunk; generation = item.generation }
-linked_of (Err refusal) = record { answer = 1; chunk = 0; generation = 0 }
+abbrev pub link_of_item : ItemId → LinkTold
+link_of_item item = record { answer = 0; chunk = item.chunk; generation = item.generation }
 
-abbrev pub number_of_unlinked : Result Ended UnlinkRefusal → ℕ
-number_of_unlinked (Ok ended.Freed) = 0
-number_of_unlinked (Ok ended.Deferred) = 1
-number_of_unlinked (Err unlink.NoSuchChunk) = 2
-number_of_unlinked (Err unlink.NotLinked) = 3
+abbrev pub not_linked_as : ℕ → LinkTold
+not_linked_as number = record { answer = number; chunk = 0; generation = 0 }
+
+abbrev pub linked_of : Result ItemId LinkRefusal → LinkTold
+linked_of (Ok item) = link_of_item item
+linked_of (Err refusal) = not_linked_as 1
+
+abbrev pub words_linked_of : Result ItemId WordsRefusal → LinkTold
+words_linked_of (Ok item) = link_of_item item
+words_linked_of (Err with_words.NoFreeChunk) = not_linked_as 1
+words_linked_of (Err with_words.TooMany) = not_linked_as 2
+
+abbrev pub unlinked_of : Result (Ended × ℕ) UnlinkRefusal → UnlinkTold
+unlinked_of (Ok (ended.Freed, label)) = record { answer = 0; label = label }
+unlinked_of (Ok (ended.Deferred, label)) = record { answer = 1; label = label }
+unlinked_of (Err unlink.NoSuchChunk) = record { answer = 2; label = 0 }
+unlinked_of (Err unlink.NotLinked) = record { answer = 3; label = 0 }
 
 abbrev pub number_of_tail : Tail → ℕ
 number_of_tail tail.Hot = 0
@@ -123,48 +184,82 @@ number_of_tail tail.Warm = 1
 number_of_tail tail.Cold = 2
 number_of_tail tail.Evict = 3
 
-abbrev pub pulled_as : ℕ → ItemId → ItemTold
-pulled_as number item = record { answer = number; chunk = item.chunk; generation = item.generation }
+abbrev pub pulled_as : ℕ → ItemId → ℕ → PullTold
+pulled_as number item label =
+    record { answer = number; chunk = item.chunk; generation = item.generation; label = label }
 
-abbrev pub told_of_pulled : Pulled → ItemTold
-told_of_pulled pulled.Empty = record { answer = 0; chunk = 0; generation = 0 }
-told_of_pulled (pulled.Stay item) = pulled_as 1 item
-told_of_pulled (pulled.Warm item) = pulled_as 2 item
-told_of_pulled (pulled.Again item) = pulled_as 3 item
-told_of_pulled (pulled.Cold item) = pulled_as 4 item
-told_of_pulled (pulled.Freed item) = pulled_as 5 item
-told_of_pulled (pulled.Deferred item) = pulled_as 6 item
+abbrev pub told_of_pulled : Pulled → ℕ → PullTold
+told_of_pulled pulled.Empty label = record { answer = 0; chunk = 0; generation = 0; label = label }
+told_of_pulled (pulled.Stay item) label = pulled_as 1 item label
+told_of_pulled (pulled.Warm item) label = pulled_as 2 item label
+told_of_pulled (pulled.Again item) label = pulled_as 3 item label
+told_of_pulled (pulled.Cold item) label = pulled_as 4 item label
+told_of_pulled (pulled.Freed item) label = pulled_as 5 item label
+told_of_pulled (pulled.Deferred item) label = pulled_as 6 item label
 
-abbrev pub no_such_tail : ItemTold
-no_such_tail = record { answer = 7; chunk = 0; generation = 0 }
+abbrev pub no_such_tail : PullTold
+no_such_tail = record { answer = 7; chunk = 0; generation = 0; label = 0 }
 
-abbrev pub number_of_segment : Segment → ℕ
-number_of_segment segment.Hot = 0
-number_of_segment segment.Warm = 1
-number_of_segment segment.Cold = 2
-number_of_segment segment.Temp = 3
+-- the greatest number of 32 bits stands for the class's own limit
+abbrev pub limit_asked : ℕ → Option ℕ
+limit_asked limit = if limit == 4294967295 then None else Some limit
 
-abbrev pub seen_of : Option (Head × ℕ) → Seen
-seen_of None = record {
-  answer = 1;
+abbrev pub not_seen : ℕ → Seen
+not_seen number = record {
+  answer = number;
+  chunk = 0;
   generation = 0;
   refs = 0;
   segment = 0;
   time = 0;
+  label = 0;
   linked = false;
   fetched = false;
   active = false;
 }
-seen_of (Some found) = record {
+
+abbrev pub sight_of : Sight → Seen
+sight_of it = record {
   answer = 0;
-  generation = found.0.generation;
-  refs = found.0.refs;
-  segment = number_of_segment found.0.segment;
-  time = found.1;
-  linked = found.0.linked;
-  fetched = found.0.fetched;
-  active = found.0.active;
+  chunk = it.chunk;
+  generation = it.head.generation;
+  refs = it.head.refs;
+  segment = number_of_segment it.head.segment;
+  time = it.time;
+  label = it.label;
+  linked = it.head.linked;
+  fetched = it.head.fetched;
+  active = it.head.active;
 }
+
+abbrev pub seen_of : Option Sight → Seen
+seen_of None = not_seen 1
+seen_of (Some it) = sight_of it
+
+-- 1: the given chunk isn't in the list; 2: there is none to look at
+abbrev pub looked_of : Result (Option Sight) NotThere → Seen
+looked_of (Err why) = not_seen 1
+looked_of (Ok None) = not_seen 2
+looked_of (Ok (Some it)) = sight_of it
+
+abbrev pub no_such_list : Seen
+no_such_list = not_seen 3
+
+-- the greatest number of 32 bits stands for no chunk
+abbrev pub chunk_asked : ℕ → Option ℕ
+chunk_asked chunk = if chunk == 4294967295 then None else Some chunk
+
+-- room for the chunks that a call tells
+abbrev pub no_chunks : List ℕ
+no_chunks = replicate 32 0
+
+abbrev pub walked_of : Result Walked NotThere → List ℕ → WalkTold
+walked_of (Err why) chunks = record { answer = 1; count = 0; next = 4294967295; chunks = chunks }
+walked_of (Ok walked) chunks =
+    record { answer = 0; count = walked.count; next = unwrap_or walked.next 4294967295; chunks = chunks }
+
+abbrev pub no_such_walk : WalkTold
+no_such_walk = record { answer = 2; count = 0; next = 4294967295; chunks = no_chunks }
 
 -- the greatest number of 64 bits: there is no such worker
 abbrev pub moves_of_answer : Option ℕ → ℕ
@@ -178,11 +273,28 @@ abbrev pub class_of_answer : Option ℕ → ℕ
 class_of_answer None = 4294967295
 class_of_answer (Some class) = class
 
+-- 2: the next bump is of another class
+abbrev pub run_of : Result ℕ OtherClass → Ran
+run_of (Ok applied) = record { answer = 0; applied = applied }
+run_of (Err why) = record { answer = 2; applied = 0 }
+
+abbrev pub freeing_run_of : Result RunEnd OtherClass → List ℕ → RanTold
+freeing_run_of (Ok end) chunks = record { answer = 0; applied = end.applied; freed = end.freed; chunks = chunks }
+freeing_run_of (Err why) chunks = record { answer = 2; applied = 0; freed = 0; chunks = chunks }
+
+-- 1: book and lane are of two stores
+abbrev pub other_store : Ran
+other_store = record { answer = 1; applied = 0 }
+
+abbrev pub other_store_told : RanTold
+other_store_told = record { answer = 1; applied = 0; freed = 0; chunks = no_chunks }
+
 abbrev pub number_of_rest : RestState → ℕ
 number_of_rest rest.Settled = 0
 number_of_rest rest.Open = 1
 number_of_rest rest.Left = 2
 number_of_rest rest.Unseen = 3
+number_of_rest rest.Gone = 4
 
 abbrev pub rest_of : Rested → RestTold
 rest_of rested = record {

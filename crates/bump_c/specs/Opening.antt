@@ -1,11 +1,11 @@
 -- What opening a store from C comes to.
-use Rattle.std.specs.Prelude.{◌≡◌, ◌⊎◌, ℕ, List, [], ◌∷◌, map, Some}
+use Rattle.std.specs.Prelude.{◌≡◌, ◌⊎◌, ℕ, List, [], ◌∷◌, map, Option, Some}
 use Rattle.atomic_table.specs.Seated.{TableId}
 use Rattle.bump_rules.specs.declared.configs.ClassConfig.{ClassConfig}
 use Rattle.bump_rules.specs.declared.configs.Config.{Config}
 use Rattle.bump_rules.specs.declared.configs.ConfigFault.{ConfigFault}
 use Rattle.bump_rules.specs.Configs.{first_fault}
-use Rattle.bump_handles.specs.Opening.{IsOpened}
+use Rattle.bump_handles.specs.Opening.{IsOpened, TakesPart}
 use Rattle.bump_handles.specs.Views.{OpenedView}
 use Rattle.bump_c.specs.declared.opening.ClassNumbers.{ClassNumbers}
 use Rattle.bump_c.specs.declared.opening.StoreNumbers.{StoreNumbers}
@@ -32,3 +32,10 @@ IsWhyNotOpened numbers classes answer = (answer ≡ 7) ⊎ ((fault : ConfigFault
 abbrev pub HasOpened : ℕ → Config → ℕ → List (TableId × OpenedView) → Type 0
 HasOpened store config holds slot = (table : TableId) × (opened : OpenedView) × (slot ≡ (table, opened) ∷ [])
     × IsOpened store config holds opened
+
+-- The slot has the part with this number, which was taken, of this table.
+pub record HasTaken (A : Type 0) (number : ℕ) (table : TableId) (before after : List (Option A))
+    (slot : List (TableId × A)) : Type 0 where
+  pub part : A
+  pub filled : slot ≡ (table, part) ∷ []
+  pub takes : TakesPart A number before after (Some part)

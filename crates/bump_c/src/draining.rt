@@ -1,18 +1,31 @@
 //! A lane's calls.
 ghost use Rattle.std.specs.Prelude.{◌≡◌, ◌≢◌, ◌<◌, IfSome, IfNone, [], ◌∷◌, None};
-ghost use Rattle.bump_handles.specs.Applying.{DrainerApplies};
 ghost use Rattle.bump_handles.specs.Draining.{why_not_closed};
-ghost use Rattle.bump_c.specs.Numbers.{number_of_close};
+ghost use Rattle.bump_c.specs.Numbers.{number_of_close, other_store, other_store_told};
 ghost use Rattle.bump_c.specs.One.{IsOne};
-ghost use Rattle.bump_c.specs.Tells.{TellsLaneClass, TellsRest, IsClosedBy};
+ghost use Rattle.bump_c.specs.Tells.{IsClosedBy, TellsLaneClass, TellsRest, TellsFreeingRun, TellsRun};
 
-use crate::answers::{Ran, RestTold, not_closed_number, rest_told};
+use crate::answers::{
+    Ran, RanTold, RestTold, freeing_run_told, not_closed_number, rest_told, run_told,
+};
 use crate::book_handle::BookHandle;
 use crate::lane_handle::LaneHandle;
 use crate::worker_handle::{WorkerHandle, WorkerSlot};
 use box_parts::{BoxParts, replace_both};
 use bump_readers::Name;
 use std::marker::Brand;
+
+const OTHER_STORE: Ran = Ran {
+    answer: 1,
+    applied: 0,
+};
+
+const OTHER_STORE_TOLD: RanTold = RanTold {
+    answer: 1,
+    applied: 0,
+    freed: 0,
+    chunks: [0; 32],
+};
 
 fn lane_class_named<N: Name>(h: LaneHandle) -> (LaneHandle, u32)
     requires table { h.table ≡ N.table }
@@ -148,16 +161,15 @@ fn run_named<N: Name>(
     requires one { IsOne N }
     ensures book { result.0.table ≡ book.table }
     ensures lane { result.1.table ≡ lane.table }
-    ensures done { result.2.answer ≡ 0 }
-    ensures applies { DrainerApplies now limit book.held lane.held result.0.held result.1.held result.2.applied }
+    ensures applies { TellsRun now limit book.held lane.held result.0.held result.1.held result.2 }
 {
     let mut tagged = book.into_parts::<N>().into_box();
     let mut drainer = lane.into_parts::<N>().into_box();
-    let applied = drainer.apply(&mut tagged, now, limit);
+    let said = run_told(drainer.apply(&mut tagged, now, limit));
     (
         BookHandle::of_parts(BoxParts::of(tagged)),
         LaneHandle::of_parts(BoxParts::of(drainer)),
-        Ran { answer: 0, applied },
+        said,
     )
 }
 
@@ -165,29 +177,22 @@ fn run_at(book: BookHandle, lane: LaneHandle, now: u64, limit: u32) -> (BookHand
     requires same { book.held.store ≡ lane.held.store → lane.table ≡ book.table }
     ensures book { result.0.table ≡ book.table }
     ensures lane { result.1.table ≡ lane.table }
-    ensures other { book.held.store ≢ lane.held.store → (result.2 ≡ record { answer = 1; applied = 0 })
-        × (result.0.held ≡ book.held) × (result.1.held ≡ lane.held) }
-    ensures done { book.held.store ≡ lane.held.store → result.2.answer ≡ 0 }
+    ensures other { book.held.store ≢ lane.held.store → (result.2 ≡ other_store) × (result.0.held ≡ book.held)
+        × (result.1.held ≡ lane.held) }
     ensures applies { book.held.store ≡ lane.held.store
-        → DrainerApplies now limit book.held lane.held result.0.held result.1.held result.2.applied }
+        → TellsRun now limit book.held lane.held result.0.held result.1.held result.2 }
 {
     let (book, of_book) = book_store_at(book);
     let (lane, of_lane) = lane_store_at(lane);
     if of_book != of_lane {
-        return (
-            book,
-            lane,
-            Ran {
-                answer: 1,
-                applied: 0,
-            },
-        );
+        return (book, lane, OTHER_STORE);
     }
     run_named::<Brand>(book, lane, now, limit)
 }
 
-/// Applies the lane's next bumps as long as they are of the book's class, at most `limit`, and tells how many. Where
-/// book and lane are of two stores, it answers so, and nothing is done: stores that are open have numbers of their own.
+/// Applies the lane's next bumps as long as they are of the book's class, at most `limit`, and tells how many. Where the
+/// next one is of another class it answers so. Where book and lane are of two stores, it answers so, and nothing is done:
+/// stores that are open have numbers of their own.
 #[unsafe(no_mangle)]
 pub extern "C" fn bump_apply_run(
     book: &mut BookHandle,
@@ -198,11 +203,10 @@ pub extern "C" fn bump_apply_run(
     requires same { book.old.held.store ≡ lane.old.held.store → lane.old.table ≡ book.old.table }
     ensures book { book.new.table ≡ book.old.table }
     ensures lane { lane.new.table ≡ lane.old.table }
-    ensures other { book.old.held.store ≢ lane.old.held.store → (result ≡ record { answer = 1; applied = 0 })
+    ensures other { book.old.held.store ≢ lane.old.held.store → (result ≡ other_store)
         × (book.new.held ≡ book.old.held) × (lane.new.held ≡ lane.old.held) }
-    ensures done { book.old.held.store ≡ lane.old.held.store → result.answer ≡ 0 }
     ensures applies { book.old.held.store ≡ lane.old.held.store
-        → DrainerApplies now limit book.old.held lane.old.held book.new.held lane.new.held result.applied }
+        → TellsRun now limit book.old.held lane.old.held book.new.held lane.new.held result }
 {
     replace_both(
         book,
@@ -210,6 +214,78 @@ pub extern "C" fn bump_apply_run(
         (now, limit),
         |book: BookHandle, lane: LaneHandle, x: (u64, u32)| -> (BookHandle, LaneHandle, Ran) {
             run_at(book, lane, x.0, x.1)
+        },
+    )
+}
+
+fn run_told_named<N: Name>(
+    book: BookHandle,
+    lane: LaneHandle,
+    now: u64,
+    limit: u32,
+) -> (BookHandle, LaneHandle, RanTold)
+    requires table { book.table ≡ N.table }
+    requires same { lane.table ≡ N.table }
+    requires one { IsOne N }
+    ensures book { result.0.table ≡ book.table }
+    ensures lane { result.1.table ≡ lane.table }
+    ensures applies { TellsFreeingRun now limit book.held lane.held result.0.held result.1.held result.2 }
+{
+    let mut tagged = book.into_parts::<N>().into_box();
+    let mut drainer = lane.into_parts::<N>().into_box();
+    let mut chunks = [0; 32];
+    let end = drainer.apply_into(&mut tagged, now, limit, &mut chunks);
+    (
+        BookHandle::of_parts(BoxParts::of(tagged)),
+        LaneHandle::of_parts(BoxParts::of(drainer)),
+        freeing_run_told(end, chunks),
+    )
+}
+
+fn run_told_at(
+    book: BookHandle,
+    lane: LaneHandle,
+    now: u64,
+    limit: u32,
+) -> (BookHandle, LaneHandle, RanTold)
+    requires same { book.held.store ≡ lane.held.store → lane.table ≡ book.table }
+    ensures book { result.0.table ≡ book.table }
+    ensures lane { result.1.table ≡ lane.table }
+    ensures other { book.held.store ≢ lane.held.store → (result.2 ≡ other_store_told) × (result.0.held ≡ book.held)
+        × (result.1.held ≡ lane.held) }
+    ensures applies { book.held.store ≡ lane.held.store
+        → TellsFreeingRun now limit book.held lane.held result.0.held result.1.held result.2 }
+{
+    let (book, of_book) = book_store_at(book);
+    let (lane, of_lane) = lane_store_at(lane);
+    if of_book != of_lane {
+        return (book, lane, OTHER_STORE_TOLD);
+    }
+    run_told_named::<Brand>(book, lane, now, limit)
+}
+
+/// The same, and it tells which chunks came free: at most 32, and it stops there.
+#[unsafe(no_mangle)]
+pub extern "C" fn bump_apply_run_told(
+    book: &mut BookHandle,
+    lane: &mut LaneHandle,
+    now: u64,
+    limit: u32,
+) -> RanTold
+    requires same { book.old.held.store ≡ lane.old.held.store → lane.old.table ≡ book.old.table }
+    ensures book { book.new.table ≡ book.old.table }
+    ensures lane { lane.new.table ≡ lane.old.table }
+    ensures other { book.old.held.store ≢ lane.old.held.store → (result ≡ other_store_told)
+        × (book.new.held ≡ book.old.held) × (lane.new.held ≡ lane.old.held) }
+    ensures applies { book.old.held.store ≡ lane.old.held.store
+        → TellsFreeingRun now limit book.old.held lane.old.held book.new.held lane.new.held result }
+{
+    replace_both(
+        book,
+        lane,
+        (now, limit),
+        |book: BookHandle, lane: LaneHandle, x: (u64, u32)| -> (BookHandle, LaneHandle, RanTold) {
+            run_told_at(book, lane, x.0, x.1)
         },
     )
 }

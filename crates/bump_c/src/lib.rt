@@ -7,6 +7,7 @@ mod book_handle;
 mod booking;
 mod draining;
 mod lane_handle;
+mod looking;
 mod opening;
 mod reading;
 mod store_handle;

@@ -1,8 +1,11 @@
 //! A store is opened for C, its parts are taken out, and it is given back.
-ghost use Rattle.std.specs.Prelude.{◌≡◌, ◌<◌, ◌++◌, ◌∷◌, [], IfOk, IfErr, IfSome, IfNone, true, false, map};
+ghost use Rattle.std.specs.Prelude.{◌≡◌, ◌<◌, IfOk, IfErr, IfSome, IfNone, None, true, false, map};
+ghost use Rattle.bump_handles.specs.Opening.{TakesPart};
+ghost use Rattle.bump_handles.specs.Views.{DrainerView as TheDrainerView, ReaderView as TheReaderView};
+ghost use Rattle.bump_handles.specs.Views.{TaggedBookView as TheTaggedBookView};
 ghost use Rattle.bump_rules.specs.declared.configs.Config.{Config as TheConfig};
 ghost use Rattle.bump_c.specs.One.{IsOne};
-ghost use Rattle.bump_c.specs.Opening.{class_config_of, IsConfigOf, IsWhyNotOpened, HasOpened};
+ghost use Rattle.bump_c.specs.Opening.{class_config_of, IsConfigOf, IsWhyNotOpened, HasOpened, HasTaken};
 
 use crate::answers::fault_number;
 use crate::book_handle::BookSlot;
@@ -54,6 +57,9 @@ pub struct StoreNumbers {
 
     /// How many numbered holds each worker has: any number.
     pub holds: u32,
+
+    /// How many words each item has beside its label: any number.
+    pub words: u32,
 }
 
 // The classes of a configuration, or the number of want of memory.
@@ -150,7 +156,7 @@ pub extern "C" fn bump_open(
         Ok(made) => made,
         Err(answer) => return answer,
     };
-    let Ok(blank) = Blank::new(alloc, &made) else {
+    let Ok(blank) = Blank::with_words(alloc, &made, config.words) else {
         return NO_MEMORY;
     };
     match open_at(alloc, blank, &made, config.store, config.holds) {
@@ -162,17 +168,17 @@ pub extern "C" fn bump_open(
     }
 }
 
-fn take_worker_named<N: Name>(h: StoreHandle) -> (StoreHandle, Option<WorkerSlot>)
+fn take_worker_named<N: Name>(h: StoreHandle, number: u32) -> (StoreHandle, Option<WorkerSlot>)
     requires table { h.table ≡ N.table }
     requires one { IsOne N }
     ensures table { result.0.table ≡ h.table }
-    ensures one { IfSome result.1 (λ slot. map (λ s. s.0) slot.slot ≡ h.table ∷ []) }
-    ensures last { IfSome result.1 (λ slot. h.held.readers
-        ≡ result.0.held.readers ++ map (λ s. s.1) slot.slot) }
-    ensures none { IfNone result.1 (h.held.readers ≡ []) }
+    ensures taken { IfSome result.1 (λ slot. HasTaken TheReaderView number h.table h.held.readers result.0.held.readers
+        slot.slot) }
+    ensures none { IfNone result.1 (TakesPart TheReaderView number h.held.readers result.0.held.readers None) }
+    ensures kept { result.0.held ≡ record h.held { readers = result.0.held.readers } }
 {
     let mut it = h.into_parts::<N>().into_box();
-    match it.reader() {
+    match it.reader(number) {
         Some(taken) => (
             StoreHandle::of_parts(BoxParts::of(it)),
             Some(WorkerSlot::of_parts(BoxParts::of(taken))),
@@ -181,30 +187,35 @@ fn take_worker_named<N: Name>(h: StoreHandle) -> (StoreHandle, Option<WorkerSlot
     }
 }
 
-fn take_worker_at(h: StoreHandle) -> (StoreHandle, Option<WorkerSlot>)
+fn take_worker_at(h: StoreHandle, number: u32) -> (StoreHandle, Option<WorkerSlot>)
     ensures table { result.0.table ≡ h.table }
-    ensures one { IfSome result.1 (λ slot. map (λ s. s.0) slot.slot ≡ h.table ∷ []) }
-    ensures last { IfSome result.1 (λ slot. h.held.readers
-        ≡ result.0.held.readers ++ map (λ s. s.1) slot.slot) }
-    ensures none { IfNone result.1 (h.held.readers ≡ []) }
+    ensures taken { IfSome result.1 (λ slot. HasTaken TheReaderView number h.table h.held.readers result.0.held.readers
+        slot.slot) }
+    ensures none { IfNone result.1 (TakesPart TheReaderView number h.held.readers result.0.held.readers None) }
+    ensures kept { result.0.held ≡ record h.held { readers = result.0.held.readers } }
 {
-    take_worker_named::<Brand>(h)
+    take_worker_named::<Brand>(h, number)
 }
 
-/// Takes the last worker out that is left in the store, and fills an empty slot with it. `false`: none is left.
+/// Takes the worker with this number out of the store, and fills an empty slot with it. `false`: there is none, or it is
+/// taken already, and nothing is changed.
 #[unsafe(no_mangle)]
-pub extern "C" fn bump_take_worker(store: &mut StoreHandle, part: &mut WorkerSlot) -> bool
+pub extern "C" fn bump_take_worker(
+    store: &mut StoreHandle,
+    number: u32,
+    part: &mut WorkerSlot,
+) -> bool
     ensures table { store.new.table ≡ store.old.table }
-    ensures one { result ≡ true → map (λ s. s.0) part.new.slot ≡ store.old.table ∷ [] }
-    ensures last { result ≡ true → store.old.held.readers
-        ≡ store.new.held.readers ++ map (λ s. s.1) part.new.slot }
-    ensures none { result ≡ false → store.old.held.readers ≡ [] }
+    ensures taken { result ≡ true → HasTaken TheReaderView number store.old.table store.old.held.readers
+        store.new.held.readers part.new.slot }
+    ensures none { result ≡ false → TakesPart TheReaderView number store.old.held.readers store.new.held.readers None }
+    ensures kept { store.new.held ≡ record store.old.held { readers = store.new.held.readers } }
     ensures unchanged { result ≡ false → part.new ≡ part.old }
 {
     let taken = core::mem::replace_with(
         store,
-        (),
-        |h: StoreHandle, _x: ()| -> (StoreHandle, Option<WorkerSlot>) { take_worker_at(h) },
+        (number,),
+        |h: StoreHandle, x: (u32,)| -> (StoreHandle, Option<WorkerSlot>) { take_worker_at(h, x.0) },
     );
     match taken {
         Some(slot) => {
@@ -215,17 +226,17 @@ pub extern "C" fn bump_take_worker(store: &mut StoreHandle, part: &mut WorkerSlo
     }
 }
 
-fn take_book_named<N: Name>(h: StoreHandle) -> (StoreHandle, Option<BookSlot>)
+fn take_book_named<N: Name>(h: StoreHandle, number: u32) -> (StoreHandle, Option<BookSlot>)
     requires table { h.table ≡ N.table }
     requires one { IsOne N }
     ensures table { result.0.table ≡ h.table }
-    ensures one { IfSome result.1 (λ slot. map (λ s. s.0) slot.slot ≡ h.table ∷ []) }
-    ensures last { IfSome result.1 (λ slot. h.held.books
-        ≡ result.0.held.books ++ map (λ s. s.1) slot.slot) }
-    ensures none { IfNone result.1 (h.held.books ≡ []) }
+    ensures taken { IfSome result.1 (λ slot. HasTaken TheTaggedBookView number h.table h.held.books result.0.held.books
+        slot.slot) }
+    ensures none { IfNone result.1 (TakesPart TheTaggedBookView number h.held.books result.0.held.books None) }
+    ensures kept { result.0.held ≡ record h.held { books = result.0.held.books } }
 {
     let mut it = h.into_parts::<N>().into_box();
-    match it.book() {
+    match it.book(number) {
         Some(taken) => (
             StoreHandle::of_parts(BoxParts::of(it)),
             Some(BookSlot::of_parts(BoxParts::of(taken))),
@@ -234,30 +245,31 @@ fn take_book_named<N: Name>(h: StoreHandle) -> (StoreHandle, Option<BookSlot>)
     }
 }
 
-fn take_book_at(h: StoreHandle) -> (StoreHandle, Option<BookSlot>)
+fn take_book_at(h: StoreHandle, number: u32) -> (StoreHandle, Option<BookSlot>)
     ensures table { result.0.table ≡ h.table }
-    ensures one { IfSome result.1 (λ slot. map (λ s. s.0) slot.slot ≡ h.table ∷ []) }
-    ensures last { IfSome result.1 (λ slot. h.held.books
-        ≡ result.0.held.books ++ map (λ s. s.1) slot.slot) }
-    ensures none { IfNone result.1 (h.held.books ≡ []) }
+    ensures taken { IfSome result.1 (λ slot. HasTaken TheTaggedBookView number h.table h.held.books result.0.held.books
+        slot.slot) }
+    ensures none { IfNone result.1 (TakesPart TheTaggedBookView number h.held.books result.0.held.books None) }
+    ensures kept { result.0.held ≡ record h.held { books = result.0.held.books } }
 {
-    take_book_named::<Brand>(h)
+    take_book_named::<Brand>(h, number)
 }
 
-/// Takes the last book out that is left in the store, and fills an empty slot with it. `false`: none is left.
+/// Takes the book of the class with this number out of the store, and fills an empty slot with it. `false`: there is none, or it is
+/// taken already, and nothing is changed.
 #[unsafe(no_mangle)]
-pub extern "C" fn bump_take_book(store: &mut StoreHandle, part: &mut BookSlot) -> bool
+pub extern "C" fn bump_take_book(store: &mut StoreHandle, number: u32, part: &mut BookSlot) -> bool
     ensures table { store.new.table ≡ store.old.table }
-    ensures one { result ≡ true → map (λ s. s.0) part.new.slot ≡ store.old.table ∷ [] }
-    ensures last { result ≡ true → store.old.held.books
-        ≡ store.new.held.books ++ map (λ s. s.1) part.new.slot }
-    ensures none { result ≡ false → store.old.held.books ≡ [] }
+    ensures taken { result ≡ true → HasTaken TheTaggedBookView number store.old.table store.old.held.books
+        store.new.held.books part.new.slot }
+    ensures none { result ≡ false → TakesPart TheTaggedBookView number store.old.held.books store.new.held.books None }
+    ensures kept { store.new.held ≡ record store.old.held { books = store.new.held.books } }
     ensures unchanged { result ≡ false → part.new ≡ part.old }
 {
     let taken = core::mem::replace_with(
         store,
-        (),
-        |h: StoreHandle, _x: ()| -> (StoreHandle, Option<BookSlot>) { take_book_at(h) },
+        (number,),
+        |h: StoreHandle, x: (u32,)| -> (StoreHandle, Option<BookSlot>) { take_book_at(h, x.0) },
     );
     match taken {
         Some(slot) => {
@@ -268,17 +280,17 @@ pub extern "C" fn bump_take_book(store: &mut StoreHandle, part: &mut BookSlot) -
     }
 }
 
-fn take_lane_named<N: Name>(h: StoreHandle) -> (StoreHandle, Option<LaneSlot>)
+fn take_lane_named<N: Name>(h: StoreHandle, number: u32) -> (StoreHandle, Option<LaneSlot>)
     requires table { h.table ≡ N.table }
     requires one { IsOne N }
     ensures table { result.0.table ≡ h.table }
-    ensures one { IfSome result.1 (λ slot. map (λ s. s.0) slot.slot ≡ h.table ∷ []) }
-    ensures last { IfSome result.1 (λ slot. h.held.lanes
-        ≡ result.0.held.lanes ++ map (λ s. s.1) slot.slot) }
-    ensures none { IfNone result.1 (h.held.lanes ≡ []) }
+    ensures taken { IfSome result.1 (λ slot. HasTaken TheDrainerView number h.table h.held.lanes result.0.held.lanes
+        slot.slot) }
+    ensures none { IfNone result.1 (TakesPart TheDrainerView number h.held.lanes result.0.held.lanes None) }
+    ensures kept { result.0.held ≡ record h.held { lanes = result.0.held.lanes } }
 {
     let mut it = h.into_parts::<N>().into_box();
-    match it.lane() {
+    match it.lane(number) {
         Some(taken) => (
             StoreHandle::of_parts(BoxParts::of(it)),
             Some(LaneSlot::of_parts(BoxParts::of(taken))),
@@ -287,30 +299,31 @@ fn take_lane_named<N: Name>(h: StoreHandle) -> (StoreHandle, Option<LaneSlot>)
     }
 }
 
-fn take_lane_at(h: StoreHandle) -> (StoreHandle, Option<LaneSlot>)
+fn take_lane_at(h: StoreHandle, number: u32) -> (StoreHandle, Option<LaneSlot>)
     ensures table { result.0.table ≡ h.table }
-    ensures one { IfSome result.1 (λ slot. map (λ s. s.0) slot.slot ≡ h.table ∷ []) }
-    ensures last { IfSome result.1 (λ slot. h.held.lanes
-        ≡ result.0.held.lanes ++ map (λ s. s.1) slot.slot) }
-    ensures none { IfNone result.1 (h.held.lanes ≡ []) }
+    ensures taken { IfSome result.1 (λ slot. HasTaken TheDrainerView number h.table h.held.lanes result.0.held.lanes
+        slot.slot) }
+    ensures none { IfNone result.1 (TakesPart TheDrainerView number h.held.lanes result.0.held.lanes None) }
+    ensures kept { result.0.held ≡ record h.held { lanes = result.0.held.lanes } }
 {
-    take_lane_named::<Brand>(h)
+    take_lane_named::<Brand>(h, number)
 }
 
-/// Takes the last lane out that is left in the store, and fills an empty slot with it. `false`: none is left.
+/// Takes the lane of the worker with this number out of the store, and fills an empty slot with it. `false`: there is none, or it is
+/// taken already, and nothing is changed.
 #[unsafe(no_mangle)]
-pub extern "C" fn bump_take_lane(store: &mut StoreHandle, part: &mut LaneSlot) -> bool
+pub extern "C" fn bump_take_lane(store: &mut StoreHandle, number: u32, part: &mut LaneSlot) -> bool
     ensures table { store.new.table ≡ store.old.table }
-    ensures one { result ≡ true → map (λ s. s.0) part.new.slot ≡ store.old.table ∷ [] }
-    ensures last { result ≡ true → store.old.held.lanes
-        ≡ store.new.held.lanes ++ map (λ s. s.1) part.new.slot }
-    ensures none { result ≡ false → store.old.held.lanes ≡ [] }
+    ensures taken { result ≡ true → HasTaken TheDrainerView number store.old.table store.old.held.lanes
+        store.new.held.lanes part.new.slot }
+    ensures none { result ≡ false → TakesPart TheDrainerView number store.old.held.lanes store.new.held.lanes None }
+    ensures kept { store.new.held ≡ record store.old.held { lanes = store.new.held.lanes } }
     ensures unchanged { result ≡ false → part.new ≡ part.old }
 {
     let taken = core::mem::replace_with(
         store,
-        (),
-        |h: StoreHandle, _x: ()| -> (StoreHandle, Option<LaneSlot>) { take_lane_at(h) },
+        (number,),
+        |h: StoreHandle, x: (u32,)| -> (StoreHandle, Option<LaneSlot>) { take_lane_at(h, x.0) },
     );
     match taken {
         Some(slot) => {
@@ -319,6 +332,14 @@ pub extern "C" fn bump_take_lane(store: &mut StoreHandle, part: &mut LaneSlot) -
         }
         None => false,
     }
+}
+
+/// The library's version: 10000 x major + 100 x minor + patch.
+#[unsafe(no_mangle)]
+pub extern "C" fn bump_version() -> u32
+    ensures { result ≡ 100 }
+{
+    100
 }
 
 fn close_named<N: Name>(h: StoreHandle)

@@ -3,10 +3,11 @@ ghost use Rattle.std.specs.Prelude.{◌≡◌};
 ghost use Rattle.bump_handles.specs.Reading.{ReaderReleases};
 ghost use Rattle.bump_c.specs.Numbers.{counts_of};
 ghost use Rattle.bump_c.specs.One.{IsOne};
-ghost use Rattle.bump_c.specs.Tells.{TellsGet, TellsTouch, TellsLabel, TellsHit};
+ghost use Rattle.bump_c.specs.Tells.{TellsGet, TellsHit, TellsLabel, TellsMarked, TellsMarks, TellsTime, TellsTouch, TellsWords};
 
 use crate::answers::{
-    Counts, HitTold, Labelled, Touched, counts_told, hit_told, label_told, taken_number, touch_told,
+    Counts, HitTold, Labelled, MarksTold, TimeTold, Touched, WordsTold, counts_told, hit_told,
+    is_marked, label_told, marks_told, taken_number, time_told, touch_told, words_told,
 };
 use crate::worker_handle::WorkerHandle;
 use box_parts::BoxParts;
@@ -109,6 +110,134 @@ pub extern "C" fn bump_label(worker: &mut WorkerHandle, hold: u32) -> Labelled
         worker,
         (hold,),
         |h: WorkerHandle, x: (u32,)| -> (WorkerHandle, Labelled) { label_at(h, x.0) },
+    )
+}
+
+fn marks_named<N: Name>(h: WorkerHandle, hold: u32) -> (WorkerHandle, MarksTold)
+    requires table { h.table ≡ N.table }
+    requires one { IsOne N }
+    ensures table { result.0.table ≡ h.table }
+    ensures sees { TellsMarks hold h.held result.0.held result.1 }
+{
+    let mut it = h.into_parts::<N>().into_box();
+    let said = marks_told(it.head(hold));
+    (WorkerHandle::of_parts(BoxParts::of(it)), said)
+}
+
+fn marks_at(h: WorkerHandle, hold: u32) -> (WorkerHandle, MarksTold)
+    ensures table { result.0.table ≡ h.table }
+    ensures sees { TellsMarks hold h.held result.0.held result.1 }
+{
+    marks_named::<Brand>(h, hold)
+}
+
+/// The item that is held: its marks, its list and its references, by a load.
+#[unsafe(no_mangle)]
+pub extern "C" fn bump_marks(worker: &mut WorkerHandle, hold: u32) -> MarksTold
+    ensures table { worker.new.table ≡ worker.old.table }
+    ensures sees { TellsMarks hold worker.old.held worker.new.held result }
+{
+    core::mem::replace_with(
+        worker,
+        (hold,),
+        |h: WorkerHandle, x: (u32,)| -> (WorkerHandle, MarksTold) { marks_at(h, x.0) },
+    )
+}
+
+fn marked_named<N: Name>(h: WorkerHandle, hold: u32) -> (WorkerHandle, bool)
+    requires table { h.table ≡ N.table }
+    requires one { IsOne N }
+    ensures table { result.0.table ≡ h.table }
+    ensures sees { TellsMarked hold h.held result.0.held result.1 }
+{
+    let mut it = h.into_parts::<N>().into_box();
+    let said = is_marked(it.head(hold));
+    (WorkerHandle::of_parts(BoxParts::of(it)), said)
+}
+
+fn marked_at(h: WorkerHandle, hold: u32) -> (WorkerHandle, bool)
+    ensures table { result.0.table ≡ h.table }
+    ensures sees { TellsMarked hold h.held result.0.held result.1 }
+{
+    marked_named::<Brand>(h, hold)
+}
+
+/// Whether the item that is held has both marks, by a load.
+#[unsafe(no_mangle)]
+pub extern "C" fn bump_marked(worker: &mut WorkerHandle, hold: u32) -> bool
+    ensures table { worker.new.table ≡ worker.old.table }
+    ensures sees { TellsMarked hold worker.old.held worker.new.held result }
+{
+    core::mem::replace_with(
+        worker,
+        (hold,),
+        |h: WorkerHandle, x: (u32,)| -> (WorkerHandle, bool) { marked_at(h, x.0) },
+    )
+}
+
+fn time_named<N: Name>(h: WorkerHandle, hold: u32) -> (WorkerHandle, TimeTold)
+    requires table { h.table ≡ N.table }
+    requires one { IsOne N }
+    ensures table { result.0.table ≡ h.table }
+    ensures reads { TellsTime hold h.held result.0.held result.1 }
+{
+    let mut it = h.into_parts::<N>().into_box();
+    let said = time_told(it.time(hold));
+    (WorkerHandle::of_parts(BoxParts::of(it)), said)
+}
+
+fn time_at(h: WorkerHandle, hold: u32) -> (WorkerHandle, TimeTold)
+    ensures table { result.0.table ≡ h.table }
+    ensures reads { TellsTime hold h.held result.0.held result.1 }
+{
+    time_named::<Brand>(h, hold)
+}
+
+/// The time of the item that is held.
+#[unsafe(no_mangle)]
+pub extern "C" fn bump_time(worker: &mut WorkerHandle, hold: u32) -> TimeTold
+    ensures table { worker.new.table ≡ worker.old.table }
+    ensures reads { TellsTime hold worker.old.held worker.new.held result }
+{
+    core::mem::replace_with(
+        worker,
+        (hold,),
+        |h: WorkerHandle, x: (u32,)| -> (WorkerHandle, TimeTold) { time_at(h, x.0) },
+    )
+}
+
+fn words_named<N: Name>(h: WorkerHandle, hold: u32, first: u32) -> (WorkerHandle, WordsTold)
+    requires table { h.table ≡ N.table }
+    requires one { IsOne N }
+    ensures table { result.0.table ≡ h.table }
+    ensures copies { TellsWords hold first h.table h.held result.0.held result.1 }
+{
+    let mut it = h.into_parts::<N>().into_box();
+    let mut words = [0; 8];
+    let count = it.words(hold, first, &mut words);
+    (
+        WorkerHandle::of_parts(BoxParts::of(it)),
+        words_told(count, words),
+    )
+}
+
+fn words_at(h: WorkerHandle, hold: u32, first: u32) -> (WorkerHandle, WordsTold)
+    ensures table { result.0.table ≡ h.table }
+    ensures copies { TellsWords hold first h.table h.held result.0.held result.1 }
+{
+    words_named::<Brand>(h, hold, first)
+}
+
+/// The further words of the item that is held, from one on: at most 8.
+#[unsafe(no_mangle)]
+pub extern "C" fn bump_words(worker: &mut WorkerHandle, hold: u32, first: u32) -> WordsTold
+    ensures table { worker.new.table ≡ worker.old.table }
+    ensures copies { TellsWords hold first worker.old.table worker.old.held worker.new.held result }
+{
+    core::mem::replace_with(
+        worker,
+        (hold, first),
+        |h: WorkerHandle, x: (u32, u32)| -> (WorkerHandle, WordsTold) { words_at(h, x.0, x.1) },
     )
 }
 

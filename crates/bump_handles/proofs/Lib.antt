@@ -1,3 +1,5 @@
 mod PlaceLemmas
 mod RestLemmas
 mod RunLemmas
+mod TakeLemmas
+mod LookLemmas

@@ -20,12 +20,14 @@ use Rattle.bump_rules.specs.declared.commands.Touch.TheVariants as touch
 use Rattle.bump_parts.specs.Workers.{WorkerState}
 use Rattle.bump_handles.specs.declared.readers.Taken.{Taken}
 use Rattle.bump_handles.specs.declared.readers.Taken.TheVariants as taken
+use Rattle.bump_parts.specs.Holds.{SeesHead}
 use Rattle.bump_handles.specs.Reading.{ReaderGets, ReaderTouches, ReaderReads, ReaderReleases, ReaderHits}
+use Rattle.bump_handles.specs.Reading.{CopiesWords, ReaderCopies, ReaderSees}
 use Rattle.bump_handles.specs.Reading.{taken_told, HoldsNothing}
 use Rattle.bump_handles.specs.Views.{ReaderView}
 
 -- what is put back where it was read changes nothing
-put_back : {A : Type 0} (xs : List A) (i : ℕ) (x : A) → x ≡ slice_index_or xs i x → slice_set xs i x ≡ xs
+pub put_back : {A : Type 0} (xs : List A) (i : ℕ) (x : A) → x ≡ slice_index_or xs i x → slice_set xs i x ≡ xs
 put_back xs i x read = ap (λ y. slice_set xs i y) read ∙ set-get_or xs i x
 
 -- a place that has a hold isn't free
@@ -175,6 +177,53 @@ reads_there place label v before after x hold left_hold same there is read stays
         in_row,
         as_it_was place v after x (Some left_hold) read (ap (λ (h : HoldPart). Some h) stays ∙ sym is) left,
       );
+    })
+
+-- a look where nothing is held
+pub sees_nothing : (place : ℕ) (v before after : ReaderView) (x : Option HoldPart) → v ≡ before
+    → slice_get v.holds place ≡ Some x → x ≡ None → x ≡ slice_index_or v.holds place x
+    → after ≡ record v { holds = slice_set v.holds place x } → ReaderSees place before after None
+sees_nothing place v before after x same there none read left =
+    subst (λ (b : ReaderView). ReaderSees place b after None) same (record {
+      no_hold = (free_holds_nothing place v x there none, as_it_was place v after x x read refl left);
+      seen = tt;
+    })
+
+-- and at an item that is held
+pub sees_there : (place : ℕ) (v before after : ReaderView) (x : Option HoldPart) (hold left_hold : HoldPart) (head : Head)
+    → v ≡ before → slice_get v.holds place ≡ Some x → x ≡ Some hold → SeesHead hold left_hold head
+    → after ≡ record v { holds = slice_set v.holds place (Some left_hold) }
+    → ReaderSees place before after (Some head)
+sees_there place v before after x hold left_hold head same there is sees left =
+    subst (λ (b : ReaderView). ReaderSees place b after (Some head)) same (record {
+      no_hold = tt;
+      seen = (hold, left_hold, there ∙ ap (λ (z : Option HoldPart). Some z) is, sees, left);
+    })
+
+-- words are to be copied where nothing is held
+pub copies_nothing : (place first further : ℕ) (v before after : ReaderView) (slice : List ℕ) (x : Option HoldPart)
+    → v ≡ before → slice_get v.holds place ≡ Some x → x ≡ None → x ≡ slice_index_or v.holds place x
+    → after ≡ record v { holds = slice_set v.holds place x } → ReaderCopies place first further before after slice slice None
+copies_nothing place first further v before after slice x same there none read left =
+    subst (λ (b : ReaderView). ReaderCopies place first further b after slice slice None) same (record {
+      no_hold = (free_holds_nothing place v x there none, as_it_was place v after x x read refl left, refl);
+      count = tt;
+      same = tt;
+      copied = tt;
+    })
+
+-- and those of an item that is held
+pub copies_there : (place first further count : ℕ) (v before after : ReaderView) (slice told : List ℕ) (x : Option HoldPart)
+    (hold left_hold : HoldPart) → v ≡ before → slice_get v.holds place ≡ Some x → x ≡ Some hold
+    → x ≡ slice_index_or v.holds place x → left_hold ≡ hold → CopiesWords hold.row first further slice told
+    → count ≡ further → after ≡ record v { holds = slice_set v.holds place (Some left_hold) }
+    → ReaderCopies place first further before after slice told (Some count)
+copies_there place first further count v before after slice told x hold left_hold same there is read stays copies many left =
+    subst (λ (b : ReaderView). ReaderCopies place first further b after slice told (Some count)) same (record {
+      no_hold = tt;
+      count = many;
+      same = as_it_was place v after x (Some left_hold) read (ap (λ (h : HoldPart). Some h) stays ∙ sym is) left;
+      copied = (hold, there ∙ ap (λ (z : Option HoldPart). Some z) is, copies);
     })
 
 -- a hold is to be given back where none is

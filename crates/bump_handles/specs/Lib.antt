@@ -1,6 +1,8 @@
 pub mod Views
 pub mod Reading
 pub mod Booking
+pub mod Linking
+pub mod Looking
 pub mod Draining
 pub mod Applying
 pub mod Opening
@@ -12,15 +14,17 @@ pub use Rattle.bump_class.specs.Links
 pub use Rattle.bump_class.specs.Pulls
 pub use Rattle.bump_class.specs.Runs
 pub use Rattle.bump_class.specs.Sweeps
-pub use Rattle.bump_heads.specs.Linking
+pub use Rattle.bump_heads.specs.Linking as HeadsLinking
 pub use Rattle.bump_parts.specs.Closing
 pub use Rattle.bump_parts.specs.Gets
+pub use Rattle.bump_parts.specs.Holds
 pub use Rattle.bump_parts.specs.Parting
 pub use Rattle.bump_parts.specs.StepCounts
 pub use Rattle.bump_parts.specs.Touches
 pub use Rattle.bump_parts.specs.Workers
 pub use Rattle.bump_readers.specs.Attempts
 pub use Rattle.bump_rules.specs.Entries
+pub use Rattle.bump_links.specs.Lists as LinksLists
 pub use Rattle.bump_rules.specs.Labels
 pub use Rattle.bump_rules.specs.Lists
 pub use Rattle.bump_rules.specs.Rings

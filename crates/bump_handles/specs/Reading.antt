@@ -1,14 +1,17 @@
 -- What readers do with numbered holds.
 use Rattle.std.specs.Prelude.{◌≡◌, ◌≢◌, ℕ, Bool, true, false, List, Option, Some, None}
 use Rattle.std.specs.Prelude.{Result, Ok, Err}
-use Rattle.std.specs.Prelude.{IfSome, IfNone, IfOk, IfErr, slice_get, slice_set}
+use Rattle.std.specs.Prelude.{IfSome, IfNone, IfOk, IfErr, ◌+◌, ◌<◌, ◌≤◌, length, slice_get, slice_set, slice_index}
 use Rattle.bump_rules.specs.declared.commands.Touch.{Touch}
+use Rattle.bump_rules.specs.declared.items.Head.{Head}
 use Rattle.bump_rules.specs.declared.items.ItemId.{ItemId}
 use Rattle.bump_steps.specs.declared.views.HoldPart.{HoldPart}
-use Rattle.bump_steps.specs.References.{label_of_row}
+use Rattle.bump_steps.specs.References.{label_of_row, word_of_row}
+use Rattle.bump_steps.specs.Rule.{chunks as all_chunks}
 use Rattle.bump_parts.specs.declared.refusals.GetRefusal.{GetRefusal}
 use Rattle.bump_parts.specs.declared.refusals.GetRefusal.TheVariants as refused
 use Rattle.bump_parts.specs.Gets.{WorkerGets}
+use Rattle.bump_parts.specs.Holds.{SeesHead}
 use Rattle.bump_parts.specs.Touches.{WorkerTouches}
 use Rattle.bump_parts.specs.Workers.{WorkerState}
 use Rattle.bump_handles.specs.declared.readers.Taken.{Taken}
@@ -50,6 +53,10 @@ IsHoldAt place reader hold = slice_get reader.holds place ≡ Some (Some hold)
 abbrev pub HoldsNothing : ℕ → ReaderView → Type 0
 HoldsNothing place reader = (hold : HoldPart) → slice_get reader.holds place ≢ Some (Some hold)
 
+-- an item is held there whose chunk the store doesn't have: no get gives one
+abbrev pub HoldsBehindAll : ℕ → ReaderView → Type 0
+HoldsBehindAll place reader = (hold : HoldPart) × IsHoldAt place reader hold × (all_chunks reader.config ≤ hold.life.chunk)
+
 -- What a touch of the item in a place comes to.
 pub record ReaderTouches (place : ℕ) (now : ℕ) (before after : ReaderView) (answer : Option Touch) : Type 0 where
   pub no_hold : IfNone answer (HoldsNothing place before × (after ≡ before))
@@ -59,11 +66,33 @@ pub record ReaderTouches (place : ℕ) (now : ℕ) (before after : ReaderView) (
   pub ring : after.worker.sender.ring ≡ before.worker.sender.ring
   pub kept : after ≡ record before { worker = after.worker }
 
+-- The further words of a row, from this one on, stand in a slice, as far as there is room, and the rest of it is as it was.
+pub record CopiesWords (row : List ℕ) (first further : ℕ) (slice told : List ℕ) : Type 0 where
+  pub words : (j : ℕ) → first + j < further → j < length slice → slice_index told j ≡ word_of_row row (first + j)
+  pub rest : (j : ℕ) → further ≤ first + j → slice_index told j ≡ slice_index slice j
+  pub long : length told ≡ length slice
+
 -- What reading the label of the item in a place comes to: it is the first word of its hold's row.
 pub record ReaderReads (place : ℕ) (before after : ReaderView) (answer : Option ℕ) : Type 0 where
   pub no_hold : IfNone answer (HoldsNothing place before × (after ≡ before))
   pub read : IfSome answer (λ label. (hold : HoldPart) × IsHoldAt place before hold
       × (label ≡ label_of_row hold.row) × (after ≡ before))
+
+-- What a look at the item in a place comes to: one load of its head, which the hold notes.
+pub record ReaderSees (place : ℕ) (before after : ReaderView) (answer : Option Head) : Type 0 where
+  pub no_hold : IfNone answer (HoldsNothing place before × (after ≡ before))
+  pub seen : IfSome answer (λ head. (hold left : HoldPart) × IsHoldAt place before hold × SeesHead hold left head
+      × (after ≡ record before { holds = slice_set before.holds place (Some left) }))
+
+-- What reading the further words of the item in a place comes to, from this one on: as many as a slice has room for, where
+-- each item has so many; the rest of the slice stays.
+pub record ReaderCopies (place first further : ℕ) (before after : ReaderView) (slice told : List ℕ) (answer : Option ℕ)
+    : Type 0 where
+  pub no_hold : IfNone answer (HoldsNothing place before × (after ≡ before) × (told ≡ slice))
+  pub count : IfSome answer (λ words. words ≡ further)
+  pub same : IfSome answer (λ words. after ≡ before)
+  pub copied : IfSome answer (λ words. (hold : HoldPart) × IsHoldAt place before hold
+      × CopiesWords hold.row first further slice told)
 
 -- What giving back the hold in a place comes to.
 pub record ReaderReleases (place : ℕ) (before after : ReaderView) (answer : Bool) : Type 0 where

@@ -31,8 +31,8 @@ pub record DrainerView : Type 0 where
   -- the first chunk of each class of the store, and behind them the number of all chunks
   pub starts : List ℕ
 
--- what is still to be taken out of a store that was opened
+-- what is still to be taken out of a store that was opened, by numbers from 0: None where it is taken
 pub record OpenedView : Type 0 where
-  pub readers : List ReaderView
-  pub books : List TaggedBookView
-  pub lanes : List DrainerView
+  pub readers : List (Option ReaderView)
+  pub books : List (Option TaggedBookView)
+  pub lanes : List (Option DrainerView)

@@ -1,14 +1,14 @@
 //! Books with the number of their store.
-ghost use Rattle.std.specs.Prelude.{◌≡◌, IfOk, length};
+ghost use Rattle.std.specs.Prelude.{◌≡◌, length};
 ghost use Rattle.bump_rules.specs.declared.places.Start.TheVariants as start;
 ghost use Rattle.bump_rules.specs.Lists.{list_at};
-ghost use Rattle.bump_handles.specs.Booking.{BookLinks, BookUnlinks, BookPulls, BookSweeps, BookSees, AreMovesOfWorker};
+ghost use Rattle.bump_handles.specs.Booking.{AreMovesOfWorker, BookLinks, BookPulls, BookSweeps, BookSweepsInto, BookUnlinks, ReadsLabel, limits_asked};
+ghost use Rattle.bump_class.specs.Pulls.{PullsBy};
 ghost use Rattle.bump_handles.specs.Views.{TaggedBookView as TheTaggedBookView};
 
 use bump_class::{Book, LinkRefusal, UnlinkRefusal};
 use bump_heads::Name;
-use bump_rules::{Ended, Head, ItemId, Place, Pulled, Tail};
-use std::alloc::{AllocError, Global};
+use bump_rules::{Ended, ItemId, Place, Pulled, Tail};
 use std::marker::Model;
 
 /// The Book of a class with the number of its store. Its calls are the Book's: whoever has the class's lock makes them.
@@ -53,18 +53,48 @@ impl<N: Name> TaggedBook<N> {
         self.book.link_temp(label, now)
     }
 
-    /// As `Book::unlink`.
-    pub fn unlink(&mut self, id: ItemId) -> Result<Ended, UnlinkRefusal>
-        ensures unlinks { BookUnlinks id self.old self.new result }
+    // The label of a chunk of the class, by one load; 0, and no load, where the class has no such chunk.
+    fn label_of(&mut self, chunk: u32) -> u64
+        ensures reads { ReadsLabel chunk self.old.book self.new.book result }
+        ensures store { self.new.store ≡ self.old.store }
     {
-        self.book.unlink(id)
+        if !self.book.has_chunk(chunk) {
+            return 0;
+        }
+        self.book.label(chunk)
     }
 
-    /// As `Book::pull`.
-    pub fn pull(&mut self, tail: Tail) -> Pulled
-        ensures pulls { BookPulls tail self.old self.new result }
+    /// As `Book::unlink`, and it tells the label that the item had, by a load more.
+    pub fn unlink(&mut self, id: ItemId) -> Result<(Ended, u64), UnlinkRefusal>
+        ensures unlinks { BookUnlinks id self.old self.new result }
     {
-        self.book.pull(tail)
+        match self.book.unlink(id) {
+            Ok(ended) => Ok((ended, self.label_of(id.chunk))),
+            Err(refusal) => Err(refusal),
+        }
+    }
+
+    // The pull itself.
+    fn pull_by(&mut self, tail: Tail, limit: Option<u32>) -> Pulled
+        ensures pulls { PullsBy (limits_asked limit self.old.book) self.old.book tail result self.new.book }
+        ensures store { self.new.store ≡ self.old.store }
+    {
+        match limit {
+            Some(limit) => self.book.pull_past(tail, limit),
+            None => self.book.pull(tail),
+        }
+    }
+
+    /// As `Book::pull_past` by a limit, or as `Book::pull` where none is given; and it tells the label of the item, by a
+    /// load more, or 0 where there was none.
+    pub fn pull(&mut self, tail: Tail, limit: Option<u32>) -> (Pulled, u64)
+        ensures pulls { BookPulls tail limit self.old self.new result.0 result.1 }
+    {
+        let pulled = self.pull_by(tail, limit);
+        match pulled.item() {
+            Some(item) => (pulled, self.label_of(item.chunk)),
+            None => (pulled, 0),
+        }
     }
 
     /// As `Book::sweep`.
@@ -72,6 +102,13 @@ impl<N: Name> TaggedBook<N> {
         ensures sweeps { BookSweeps self.old self.new result }
     {
         self.book.sweep()
+    }
+
+    /// As `Book::sweep_into`.
+    pub fn sweep_into(&mut self, freed: &mut [u32]) -> u32
+        ensures sweeps { BookSweepsInto self.old freed.old self.new freed.new result }
+    {
+        self.book.sweep_into(freed)
     }
 
     /// As `Book::size`.
@@ -96,22 +133,5 @@ impl<N: Name> TaggedBook<N> {
             return None;
         }
         Some(self.book.moves(worker))
-    }
-
-    /// As `Book::see`; or None, and nothing is changed, exactly where the class has no such chunk.
-    pub fn see(&mut self, chunk: u32) -> Option<(Head, u64)>
-        ensures sees { BookSees chunk self.old self.new result }
-    {
-        if !self.book.has_chunk(chunk) {
-            return None;
-        }
-        Some(self.book.see(chunk))
-    }
-
-    /// As `Book::walk`.
-    pub fn walk(&self, alloc: Global, place: Place) -> Result<Vec<u32>, AllocError>
-        ensures { IfOk result (λ v. v.items ≡ list_at self.now.book.lists place) }
-    {
-        self.book.walk(alloc, place)
     }
 }

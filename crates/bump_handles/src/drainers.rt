@@ -3,16 +3,18 @@ ghost use Rattle.std.specs.Prelude.{◌≡◌, IfSome, IfNone, IsSome, None};
 ghost use Rattle.std.specs.Option.{ForSome};
 ghost use Rattle.bump_parts.specs.Parting.{IsBetweenStarts};
 ghost use Rattle.bump_handles.specs.Draining.{why_not_closed};
-ghost use Rattle.bump_handles.specs.Applying.{DrainerApplies, DrainerRests, TellsClass, HasNoClass, state_of_left};
+ghost use Rattle.bump_handles.specs.Applying.{DrainerApplies, DrainerFrees, DrainerRests, HasNoClass, IsNotClosed, TellsClass, state_of_left};
 ghost use Rattle.bump_handles.specs.Views.{DrainerView as TheDrainerView};
 
 use crate::books::TaggedBook;
 use crate::readers::Reader;
-use bump_class::RawLane;
+use bump_class::{RawLane, RunEnd};
 use bump_heads::Name;
 use bump_parts::ClosedWorker;
 use bump_rules::Accounts;
+use std::alloc::Global;
 use std::marker::Model;
+use std::sync::Arc;
 
 /// Why a worker isn't closed.
 #[derive(Clone, Copy, Debug, PartialEq, Eq)]
@@ -44,6 +46,9 @@ pub enum RestState {
 
     /// Its worker is closed, and the ring can't show its end.
     Unseen,
+
+    /// Its worker was given back without being closed, and never will be.
+    Gone,
 }
 
 /// What is left of a lane's ring.
@@ -55,12 +60,16 @@ pub struct Rested {
     /// How many bumps are left, where it is Left; else 0.
     pub left: u64,
 
-    /// The closed worker's counts; zeros where it is Open.
+    /// The closed worker's counts; zeros where it is Open or Gone.
     pub counts: Accounts,
 
     /// How many bumps the lane ever applied.
     pub applied: u64,
 }
+
+/// The next bump is of another class than the Book.
+#[derive(Clone, Copy, Debug, PartialEq, Eq)]
+pub struct OtherClass;
 
 // How far a lane is whose worker is closed, and whose ring has so many bumps left.
 #[tactic(auto, using(crate::proofs::RestLemmas::left_is_left, crate::proofs::RestLemmas::none_is_settled,))]
@@ -81,6 +90,8 @@ pub struct Drainer<N: Name> {
     raw: RawLane<N>,
     closed: Option<ClosedWorker<N>>,
     starts: Vec<u32>,
+    // Its worker has the other one, and gives it back with all that it has.
+    token: Arc<(), Global>,
 }
 
 impl<N: Name> Model for Drainer<N> {
@@ -93,8 +104,8 @@ impl<N: Name> Model for Drainer<N> {
 
 impl<N: Name> Drainer<N> {
     /// A lane of the store with this number, whose classes have their chunks from these on, behind each of which comes
-    /// the next one's, and at last the number of all chunks. Its worker isn't closed.
-    pub fn new(store: u64, raw: RawLane<N>, starts: Vec<u32>) -> Drainer<N>
+    /// the next one's, and at last the number of all chunks. Its worker isn't closed, and has a clone of the token.
+    pub fn new(store: u64, raw: RawLane<N>, starts: Vec<u32>, token: Arc<(), Global>) -> Drainer<N>
         ensures { result ≡ record { store = store; lane = raw; closed = None; starts = starts.items } }
     {
         Drainer {
@@ -102,6 +113,7 @@ impl<N: Name> Drainer<N> {
             raw,
             closed: None,
             starts,
+            token,
         }
     }
 
@@ -137,17 +149,53 @@ impl<N: Name> Drainer<N> {
 
     /// Applies the next bumps as long as their chunks are the Book's, at most `limit`, as `Book::apply_run` does, and
     /// tells how many. They are fewer than `limit` only where then no bump is aboard or known, or the next is of another
-    /// class. At a `limit` above 0 that is reached nothing is aboard.
-    pub fn apply(&mut self, tagged: &mut TaggedBook<N>, now: u64, limit: u32) -> u32
+    /// class. At a `limit` above 0 that is reached nothing is aboard. It answers OtherClass, and applies nothing, exactly
+    /// where the next bump is of another class at once; it is aboard then.
+    pub fn apply(
+        &mut self,
+        tagged: &mut TaggedBook<N>,
+        now: u64,
+        limit: u32,
+    ) -> Result<u32, OtherClass>
         ensures applies { DrainerApplies now limit tagged.old self.old tagged.new self.new result }
     {
         let Some(bump) = self.raw.fetch() else {
-            return 0;
+            return Ok(0);
         };
-        if limit == 0 || !tagged.book.has_chunk(bump.life.chunk) {
-            return 0;
+        if !tagged.book.has_chunk(bump.life.chunk) {
+            return Err(OtherClass);
         }
-        tagged.book.apply_run(&mut self.raw, now, limit)
+        if limit == 0 {
+            return Ok(0);
+        }
+        Ok(tagged.book.apply_run(&mut self.raw, now, limit))
+    }
+
+    /// The same, as `Book::apply_run_into` does it: it tells in `freed` which chunks came free, in the order in which
+    /// they did, and stops also where `freed` is full; an empty one is at once. The rest of `freed` stays.
+    pub fn apply_into(
+        &mut self,
+        tagged: &mut TaggedBook<N>,
+        now: u64,
+        limit: u32,
+        freed: &mut [u32],
+    ) -> Result<RunEnd, OtherClass>
+        ensures applies { DrainerFrees now limit tagged.old self.old freed.old tagged.new self.new freed.new result }
+    {
+        let none = RunEnd {
+            applied: 0,
+            freed: 0,
+        };
+        let Some(bump) = self.raw.fetch() else {
+            return Ok(none);
+        };
+        if !tagged.book.has_chunk(bump.life.chunk) {
+            return Err(OtherClass);
+        }
+        if limit == 0 || freed.is_empty() {
+            return Ok(none);
+        }
+        Ok(tagged.book.apply_run_into(&mut self.raw, now, limit, freed))
     }
 
     /// Why this worker can't be closed with this lane, if it can't: the first reason that applies.
@@ -181,16 +229,28 @@ impl<N: Name> Drainer<N> {
         self.closed = Some(reader.into_worker().close());
     }
 
-    /// What is left of its ring, once that is closed. It answers Open exactly where its worker isn't closed, and Unseen
-    /// exactly where it is and the ring can't show its end. Where it answers Settled, the lane has applied all that the
-    /// ring accepted, once each and in order. It may be asked again.
+    // How far it is while its worker isn't closed.
+    fn open_state(&self) -> RestState
+        ensures { IsNotClosed result }
+    {
+        if Arc::strong_count(&self.token) == 1 {
+            return RestState::Gone;
+        }
+        RestState::Open
+    }
+
+    /// What is left of its ring, once that is closed. It answers Open or Gone exactly where its worker isn't closed:
+    /// Gone where the worker was given back without that, which no proof sees; and Unseen exactly where it is closed and
+    /// the ring can't show its end. Where it answers Settled, the lane has applied all that the ring accepted, once each
+    /// and in order. It may be asked again.
     pub fn rest(&mut self) -> Rested
         ensures rests { DrainerRests self.old self.new result }
     {
         let applied = self.raw.applied();
+        let open = self.open_state();
         let Some(closed) = &mut self.closed else {
             return Rested {
-                state: RestState::Open,
+                state: open,
                 left: 0,
                 counts: Accounts::none(),
                 applied,

@@ -7,11 +7,13 @@
 
 mod books;
 mod drainers;
+mod linking;
+mod looking;
 mod opening;
 mod readers;
 
 pub use books::TaggedBook;
-pub use bump_class::{Book, LinkRefusal, RawLane, UnlinkRefusal};
+pub use bump_class::{Book, LinkRefusal, RawLane, RunEnd, UnlinkRefusal};
 pub use bump_heads::{Blank, Heads, Name};
 pub use bump_parts::{GetRefusal, Worker};
 pub use bump_rules::{
@@ -19,6 +21,8 @@ pub use bump_rules::{
     Segment, Start, Tail, Touch,
 };
 pub use bump_steps::{AnyRow, HoldPart, RowLaw, Rule};
-pub use drainers::{Drainer, NotClosed, RestState, Rested};
+pub use drainers::{Drainer, NotClosed, OtherClass, RestState, Rested};
+pub use linking::WordsRefusal;
+pub use looking::{NotThere, Sight, Walked};
 pub use opening::{Opened, open};
 pub use readers::{Reader, Taken, WholeHit};

@@ -1,8 +1,9 @@
 //! A store is opened, and what it is made of is taken out of it.
-ghost use Rattle.std.specs.Prelude.{◌≡◌, ◌≤◌, ◌++◌, ◌∷◌, [], length, map, IfOk, IfSome, IfNone};
+ghost use Rattle.std.specs.Prelude.{◌≡◌, ◌≤◌, length, map, option_map, IfOk};
 ghost use Rattle.std.specs.Arc.{arc_value};
-ghost use Rattle.bump_handles.specs.Opening.{IsOpened, readers_of, tagged, drainers_of};
-ghost use Rattle.bump_handles.specs.Views.{OpenedView as TheOpenedView};
+ghost use Rattle.bump_handles.specs.Opening.{IsOpened, TakesPart, all_there, drainers_of, readers_of, tagged};
+ghost use Rattle.bump_handles.specs.Views.{DrainerView as TheDrainerView, OpenedView as TheOpenedView};
+ghost use Rattle.bump_handles.specs.Views.{ReaderView as TheReaderView, TaggedBookView as TheTaggedBookView};
 
 use crate::books::TaggedBook;
 use crate::drainers::Drainer;
@@ -15,52 +16,73 @@ use std::alloc::{AllocError, Global};
 use std::marker::Model;
 use std::sync::Arc;
 
-/// What is still to be taken out of a store that was opened. Each part lies in a box of its own, so that taking it out
-/// needs no memory.
+/// What is still to be taken out of a store that was opened, by numbers from 0. Each part lies in a box of its own, so that
+/// taking it out needs no memory.
 #[derive(Drop)]
 pub struct Opened<N: Name> {
-    readers: Vec<Box<Reader<N>>>,
-    books: Vec<Box<TaggedBook<N>>>,
-    lanes: Vec<Box<Drainer<N>>>,
+    readers: Vec<Option<Box<Reader<N>>>>,
+    books: Vec<Option<Box<TaggedBook<N>>>>,
+    lanes: Vec<Option<Box<Drainer<N>>>>,
 }
 
 impl<N: Name> Model for Opened<N> {
     ghost Value = { TheOpenedView };
 
     ghost view = { λ o. record {
-      readers = map (λ b. b.value) o.readers.items;
-      books = map (λ b. b.value) o.books.items;
-      lanes = map (λ b. b.value) o.lanes.items;
+      readers = map (option_map (λ b. b.value)) o.readers.items;
+      books = map (option_map (λ b. b.value)) o.books.items;
+      lanes = map (option_map (λ b. b.value)) o.lanes.items;
     } };
 }
 
+// Takes the part with this number.
+fn take_at<T>(parts: &mut Vec<Option<T>>, number: u32) -> Option<T>
+    ensures { TakesPart T number parts.old.items parts.new.items result }
+{
+    let Some(part) = parts.get_mut(number as usize) else {
+        return None;
+    };
+    std::mem::replace(part, None)
+}
+
 impl<N: Name> Opened<N> {
-    /// The last reader that is left.
-    pub fn reader(&mut self) -> Option<Box<Reader<N>>>
-        ensures last { IfSome result (λ b. self.old.readers ≡ self.new.readers ++ b.value ∷ []) }
-        ensures none { IfNone result (self.old.readers ≡ []) }
+    /// The reader with this number; or None, and nothing is changed, exactly where there is none, or it is taken already.
+    pub fn reader(&mut self, number: u32) -> Option<Box<Reader<N>>>
+        ensures takes { TakesPart TheReaderView number self.old.readers self.new.readers
+            (option_map (λ b. b.value) result) }
         ensures kept { self.new ≡ record self.old { readers = self.new.readers } }
     {
-        self.readers.pop()
+        take_at(&mut self.readers, number)
     }
 
-    /// The Book of the last class that is left.
-    pub fn book(&mut self) -> Option<Box<TaggedBook<N>>>
-        ensures last { IfSome result (λ b. self.old.books ≡ self.new.books ++ b.value ∷ []) }
-        ensures none { IfNone result (self.old.books ≡ []) }
+    /// The Book of the class with this number, in the same way.
+    pub fn book(&mut self, number: u32) -> Option<Box<TaggedBook<N>>>
+        ensures takes { TakesPart TheTaggedBookView number self.old.books self.new.books
+            (option_map (λ b. b.value) result) }
         ensures kept { self.new ≡ record self.old { books = self.new.books } }
     {
-        self.books.pop()
+        take_at(&mut self.books, number)
     }
 
-    /// The last lane that is left.
-    pub fn lane(&mut self) -> Option<Box<Drainer<N>>>
-        ensures last { IfSome result (λ b. self.old.lanes ≡ self.new.lanes ++ b.value ∷ []) }
-        ensures none { IfNone result (self.old.lanes ≡ []) }
+    /// The lane of the worker with this number, in the same way.
+    pub fn lane(&mut self, number: u32) -> Option<Box<Drainer<N>>>
+        ensures takes { TakesPart TheDrainerView number self.old.lanes self.new.lanes
+            (option_map (λ b. b.value) result) }
         ensures kept { self.new ≡ record self.old { lanes = self.new.lanes } }
     {
-        self.lanes.pop()
+        take_at(&mut self.lanes, number)
     }
+}
+
+// A token for each worker, which it shares with its lane.
+fn make_tokens(alloc: Global, count: usize) -> Result<Vec<Arc<(), Global>>, AllocError>
+    ensures { IfOk result (λ v. length v.items ≡ count) }
+{
+    let mut tokens = Vec::with_capacity(alloc, count)?;
+    for number in 0..count {
+        tokens.push(Arc::new(alloc, ())?)?;
+    }
+    Ok(tokens)
 }
 
 // Readers of these workers, which are numbered from 0.
@@ -68,19 +90,22 @@ fn make_readers<N: Name>(
     alloc: Global,
     store: u64,
     heads: &Arc<Heads<N>, Global>,
+    tokens: &[Arc<(), Global>],
     workers: Vec<Worker<N>>,
     places: u32,
-) -> Result<Vec<Box<Reader<N>>>, AllocError>
+) -> Result<Vec<Option<Box<Reader<N>>>>, AllocError>
     requires few { length workers.items ≤ 64 }
-    ensures { IfOk result (λ v. map (λ b. b.value) v.items
-        ≡ readers_of store (arc_value heads.now) places 0 workers.items) }
+    requires tokens { length workers.items ≤ length tokens.now }
+    ensures { IfOk result (λ v. map (option_map (λ b. b.value)) v.items
+        ≡ all_there (readers_of store (arc_value heads.now) places 0 workers.items)) }
 {
     let mut readers = Vec::with_capacity(alloc, workers.len())?;
     let mut number = 0;
     for worker in workers {
         let heads = Arc::try_clone(heads)?;
-        let reader = Reader::new(alloc, store, number, heads, worker, places)?;
-        readers.push(Box::new(alloc, reader)?)?;
+        let token = Arc::try_clone(&tokens[number as usize])?;
+        let reader = Reader::new(alloc, store, number, heads, worker, places, token)?;
+        readers.push(Some(Box::new(alloc, reader)?))?;
         number += 1;
     }
     Ok(readers)
@@ -91,12 +116,12 @@ fn tag_books<N: Name>(
     alloc: Global,
     store: u64,
     books: Vec<Book<N>>,
-) -> Result<Vec<Box<TaggedBook<N>>>, AllocError>
-    ensures { IfOk result (λ v. map (λ b. b.value) v.items ≡ tagged store books.items) }
+) -> Result<Vec<Option<Box<TaggedBook<N>>>>, AllocError>
+    ensures { IfOk result (λ v. map (option_map (λ b. b.value)) v.items ≡ all_there (tagged store books.items)) }
 {
     let mut all = Vec::with_capacity(alloc, books.len())?;
     for book in books {
-        all.push(Box::new(alloc, TaggedBook::new(store, book))?)?;
+        all.push(Some(Box::new(alloc, TaggedBook::new(store, book))?))?;
     }
     Ok(all)
 }
@@ -106,14 +131,20 @@ fn make_lanes<N: Name>(
     alloc: Global,
     store: u64,
     starts: &[u32],
+    tokens: &[Arc<(), Global>],
     lanes: Vec<RawLane<N>>,
-) -> Result<Vec<Box<Drainer<N>>>, AllocError>
-    ensures { IfOk result (λ v. map (λ b. b.value) v.items ≡ drainers_of store starts.now lanes.items) }
+) -> Result<Vec<Option<Box<Drainer<N>>>>, AllocError>
+    requires tokens { length lanes.items ≤ length tokens.now }
+    ensures { IfOk result (λ v. map (option_map (λ b. b.value)) v.items
+        ≡ all_there (drainers_of store starts.now lanes.items)) }
 {
     let mut all = Vec::with_capacity(alloc, lanes.len())?;
+    let mut number = 0;
     for raw in lanes {
         let starts = Vec::from_slice(alloc, starts)?;
-        all.push(Box::new(alloc, Drainer::new(store, raw, starts))?)?;
+        let token = Arc::try_clone(&tokens[number])?;
+        all.push(Some(Box::new(alloc, Drainer::new(store, raw, starts, token))?))?;
+        number += 1;
     }
     Ok(all)
 }
@@ -139,9 +170,11 @@ pub fn open<N: Name>(
         workers,
         lanes,
     } = StoreParts::<N>::open(alloc, blank, config)?;
+    let tokens = make_tokens(alloc, workers.len())?;
+    let lent = tokens.as_slice();
     Ok(Opened {
-        readers: make_readers(alloc, store, &heads, workers, places)?,
+        readers: make_readers(alloc, store, &heads, lent, workers, places)?,
         books: tag_books(alloc, store, books)?,
-        lanes: make_lanes(alloc, store, starts.as_slice(), lanes)?,
+        lanes: make_lanes(alloc, store, starts.as_slice(), lent, lanes)?,
     })
 }

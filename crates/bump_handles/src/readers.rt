@@ -1,18 +1,18 @@
 //! Readers: a worker with the words that it reads, and numbered places for its holds.
-ghost use Rattle.std.specs.Prelude.{◌≡◌, length, replicate, not, Some, None, Err, IfOk};
+ghost use Rattle.std.specs.Prelude.{◌≡◌, ◌⊎◌, length, replicate, not, Some, None, Err, IfNone, IfOk};
 ghost use Rattle.std.specs.Arc.{arc_value};
 ghost use Rattle.bump_rules.specs.declared.hands.Hand.TheVariants as hand;
 ghost use Rattle.bump_rules.specs.Rings.{IsAccounts};
 ghost use Rattle.bump_readers.specs.Attempts.{attempts_in};
 ghost use Rattle.bump_parts.specs.StepCounts.{MakesAtMost};
 ghost use Rattle.bump_handles.specs.Draining.{has_hold};
-ghost use Rattle.bump_handles.specs.Reading.{taken_told, ReaderGets, ReaderTouches, ReaderReads, ReaderReleases, ReaderHits};
+ghost use Rattle.bump_handles.specs.Reading.{taken_told, CopiesWords, HoldsBehindAll, HoldsNothing, ReaderCopies, ReaderGets, ReaderHits, ReaderReads, ReaderReleases, ReaderSees, ReaderTouches};
 ghost use Rattle.bump_handles.specs.Views.{ReaderView as TheReaderView};
 
 use bump_heads::{Heads, Name};
 use bump_parts::{GetRefusal, Hold, Worker};
 use bump_readers::ReaderHeads;
-use bump_rules::{Accounts, ItemId, Touch};
+use bump_rules::{Accounts, Head, ItemId, Touch};
 use std::alloc::{AllocError, Global};
 use std::marker::Model;
 use std::sync::Arc;
@@ -56,6 +56,8 @@ pub struct Reader<N: Name> {
     heads: Arc<Heads<N>, Global>,
     worker: Worker<N>,
     holds: Vec<Option<Hold<N>>>,
+    // By the other one its lane sees whether it is still there.
+    token: Arc<(), Global>,
 }
 
 impl<N: Name> Model for Reader<N> {
@@ -103,10 +105,28 @@ fn put<N: Name>(free: &mut Option<Hold<N>>, hold: Hold<N>, heads: &ReaderHeads<N
     }
 }
 
+// Copies the further words of an item that is held, from this one on, as many as there is room for.
+fn copy<N: Name>(hold: &mut Hold<N>, heads: &ReaderHeads<N>, first: u32, words: &mut [u64])
+    ensures same { hold.new ≡ hold.old }
+    ensures copies { CopiesWords hold.old.row first N.table.slots words.old words.new }
+{
+    let further = heads.further();
+    if first >= further {
+        return;
+    }
+    for index in first..further {
+        let place = (index - first) as usize;
+        if place >= words.len() {
+            return;
+        }
+        words[place] = hold.word(heads, index);
+    }
+}
+
 impl<N: Name> Reader<N> {
     /// A reader of the store with this number, by the words of its chunks, one of its workers, that worker's number,
-    /// and a number of places, of which none has a hold. It is refused only for want of memory, and the worker is gone
-    /// then.
+    /// and a number of places, of which none has a hold; its lane has a clone of the token. It is refused only for want
+    /// of memory, and the worker is gone then.
     pub fn new(
         alloc: Global,
         store: u64,
@@ -114,6 +134,7 @@ impl<N: Name> Reader<N> {
         heads: Arc<Heads<N>, Global>,
         worker: Worker<N>,
         places: u32,
+        token: Arc<(), Global>,
     ) -> Result<Reader<N>, AllocError>
         ensures { IfOk result (λ r. r ≡ record {
           store = store;
@@ -129,6 +150,7 @@ impl<N: Name> Reader<N> {
             heads,
             worker,
             holds: no_holds(alloc, places)?,
+            token,
         })
     }
 
@@ -198,6 +220,57 @@ impl<N: Name> Reader<N> {
         Some(hold.label(&self.heads))
     }
 
+    /// The head of the item that is held in a place, as `Hold::head` reads it: its marks, its segment and its references.
+    /// It answers None, and nothing is changed, exactly where no item is held there.
+    #[inline(always)]
+    pub fn head(&mut self, place: u32) -> Option<Head>
+        ensures sees { ReaderSees place self.old self.new result }
+    {
+        let Some(held) = self.holds.get_mut(place as usize) else {
+            return None;
+        };
+        let Some(hold) = held else {
+            return None;
+        };
+        Some(hold.head(&self.heads))
+    }
+
+    /// The time of the item that is held in a place, by a load, beside one of its head. Of the time nothing is promised: it
+    /// is what was stored last, by a touch, a link or a bump. It answers None where no item is held there.
+    pub fn time(&mut self, place: u32) -> Option<u64>
+        ensures same { self.new ≡ self.old }
+        ensures none { IfNone result (HoldsNothing place self.old ⊎ HoldsBehindAll place self.old) }
+    {
+        let Some(held) = self.holds.get_mut(place as usize) else {
+            return None;
+        };
+        let Some(hold) = held else {
+            return None;
+        };
+        let chunk = hold.life().chunk;
+        if chunk >= self.heads.chunks() {
+            return None;
+        }
+        let (_, time, _) = self.heads.see(chunk);
+        Some(time)
+    }
+
+    /// The further words of the item that is held in a place, as `Hold::word` reads them, from `first` on: as many as
+    /// there is room for; the rest of `words` stays. It answers how many each item has; or None, and nothing is changed,
+    /// exactly where no item is held there.
+    pub fn words(&mut self, place: u32, first: u32, words: &mut [u64]) -> Option<u32>
+        ensures copies { ReaderCopies place first N.table.slots self.old self.new words.old words.new result }
+    {
+        let Some(held) = self.holds.get_mut(place as usize) else {
+            return None;
+        };
+        let Some(hold) = held else {
+            return None;
+        };
+        copy(hold, &self.heads, first, words);
+        Some(self.heads.further())
+    }
+
     /// Gives the hold in a place back, as `Hold::release` does. It answers false, and nothing is changed, exactly where
     /// no item is held there.
     #[inline(always)]
@@ -261,6 +334,7 @@ impl<N: Name> Reader<N> {
             heads,
             worker,
             mut holds,
+            token: _,
         } = self;
         while let Some(place) = holds.pop() {
             if let Some(hold) = place {

@@ -12,4 +12,9 @@ returns g c =
     let grown : length (entries c.apply_run.new.lane) ≡ length (entries c.self.inside.raw) + c.apply_run.result =
     all.count ∙ ap (λ n. n + c.apply_run.result) (ap length c.fetch.ensures.aboard.kept) in
     let ring : c.apply_run.new.lane.ring ≡ c.self.inside.raw.ring = all.ring ∙ c.fetch.ensures.aboard.ring in
-    record { applies = applies c.args.now c.args.limit _ _ _ _ _ _ c.apply_run.result c.fetch.new.self run.0 c.tagged.view_is c.self.view_is all.some all.most next run.1 run.2 e.over all.empty grown ring refl refl }
+    record {
+      applies = record {
+        applies = applies c.args.now c.args.limit _ _ _ _ _ _ c.apply_run.result c.fetch.new.self run.0 c.tagged.view_is c.self.view_is all.some all.most next run.1 run.2 e.over all.empty grown ring refl refl;
+        other = tt;
+      };
+    }
