@@ -1,0 +1,103 @@
+//! A cache with entries that expire, and two who change it.
+ghost use Rattle.std.specs.Prelude.{◌≡◌, ◌<◌};
+
+use bump_cache::{
+    Cache, CacheBlank, CacheConfig, CacheState, Caller, LogName, Name, Opened, Seed, open,
+};
+use std::alloc::{AllocError, Global};
+use std::sync::Wait;
+
+/// So many keys are put.
+pub const KEYS: u64 = 20;
+
+/// A tend looks at so many chunks, so that one alone doesn't end all entries.
+const LOOKS: u32 = 10;
+
+/// When the entries expire.
+pub const EXPIRY: u64 = 10;
+
+const SEED: Seed = Seed {
+    first: 5,
+    second: 6,
+};
+
+/// Whoever changes a cache: a caller that has a part.
+#[derive(Drop)]
+pub struct Changer<N: Name + LogName> {
+    /// The caller, who has a part.
+    pub me: Caller<N, CacheState>,
+    ghost part: { 0 < me.parts },
+}
+
+impl<N: Name + LogName> Changer<N> {
+    fn new(me: Caller<N, CacheState>) -> Changer<N>
+        requires { 0 < me.parts }
+    {
+        Changer { me }
+    }
+
+    // Puts a key, which expires then; and tells whether that was refused.
+    fn is_refused<W: Wait>(&mut self, rt: &W, cache: &Cache<N, u64, u64>, key: u64) -> bool {
+        cache
+            .put_until(rt, &mut self.me, &key, &key, EXPIRY, 1)
+            .is_err()
+    }
+
+    /// How many entries have ended because they had expired.
+    pub fn reclaimed<W: Wait>(&mut self, rt: &W, cache: &Cache<N, u64, u64>) -> u64 {
+        cache.stats(rt, &mut self.me).crawler_reclaimed
+    }
+}
+
+/// A cache, who tends it and who asks.
+#[derive(Drop)]
+pub struct Stand<N: Name + LogName> {
+    /// The cache.
+    pub cache: Cache<N, u64, u64>,
+
+    /// Who tends.
+    pub tender: Changer<N>,
+
+    /// Who asks.
+    pub other: Changer<N>,
+}
+
+/// The configuration of a cache with room for all keys, whose tends look at few chunks.
+pub fn config() -> CacheConfig {
+    CacheConfig {
+        expiry_looks: LOOKS,
+        ..CacheConfig::new(40, 1, SEED)
+    }
+}
+
+/// Opens a cache, and puts the keys, all of which expire then; and tells how many of the puts were refused.
+pub fn open_filled<N: Name + LogName, W: Wait>(
+    rt: &W,
+    alloc: Global,
+    blank: CacheBlank<u64, u64>,
+) -> Result<(Stand<N>, u64), AllocError>
+    requires table { blank.table ≡ N.table }
+    requires book { blank.log.book ≡ N.book }
+    requires name { blank.log.name ≡ N.name }
+    requires parts { blank.log.parts ≡ N.parts }
+{
+    let Opened {
+        cache,
+        caller: mut me,
+        readers: _readers,
+    } = open::<N, u64, u64, W>(alloc, rt, blank)?;
+    let tender = Changer::new(me.another());
+    let mut other = Changer::new(me);
+    let mut refused = 0u64;
+    for key in 0..KEYS {
+        if other.is_refused(rt, &cache, key) {
+            refused = refused.saturating_add(1);
+        }
+    }
+    let stand = Stand {
+        cache,
+        tender,
+        other,
+    };
+    Ok((stand, refused))
+}
