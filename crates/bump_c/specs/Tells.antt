@@ -28,7 +28,7 @@ use Rattle.bump_handles.specs.Applying.{TellsClass, DrainerApplies, DrainerFrees
 use Rattle.bump_handles.specs.Booking.{BookLinks, BookUnlinks, BookPulls, AreMovesOfWorker}
 use Rattle.bump_handles.specs.Linking.{BookLinksWords}
 use Rattle.bump_handles.specs.Looking.{BookLooks, BookSees, BookWalks}
-use Rattle.bump_handles.specs.Reading.{HoldsBehindAll, HoldsNothing}
+use Rattle.bump_handles.specs.Reading.{HoldsBehindAll, HoldsNothing, HoldsOne}
 use Rattle.bump_handles.specs.Reading.{ReaderCopies, ReaderGets, ReaderHits, ReaderReads, ReaderSees, ReaderTouches}
 use Rattle.bump_handles.specs.Views.{ReaderView, TaggedBookView, DrainerView}
 use Rattle.bump_c.specs.declared.answers.HitTold.{HitTold}
@@ -80,6 +80,7 @@ TellsMarked hold before after said = (answer : Option Head) × (said ≡ has_bot
 -- of the time nothing is promised
 abbrev pub TellsTime : ℕ → ReaderView → ReaderView → TimeTold → Type 0
 TellsTime hold before after said = (answer : Option ℕ) × (said ≡ time_of answer) × (after ≡ before)
+    × IfSome answer (λ time. HoldsOne hold before)
     × IfNone answer (HoldsNothing hold before ⊎ HoldsBehindAll hold before)
 
 abbrev pub TellsWords : ℕ → ℕ → TableId → ReaderView → ReaderView → WordsTold → Type 0

@@ -53,6 +53,10 @@ IsHoldAt place reader hold = slice_get reader.holds place ≡ Some (Some hold)
 abbrev pub HoldsNothing : ℕ → ReaderView → Type 0
 HoldsNothing place reader = (hold : HoldPart) → slice_get reader.holds place ≢ Some (Some hold)
 
+-- an item is held there
+abbrev pub HoldsOne : ℕ → ReaderView → Type 0
+HoldsOne place reader = (hold : HoldPart) × IsHoldAt place reader hold
+
 -- an item is held there whose chunk the store doesn't have: no get gives one
 abbrev pub HoldsBehindAll : ℕ → ReaderView → Type 0
 HoldsBehindAll place reader = (hold : HoldPart) × IsHoldAt place reader hold × (all_chunks reader.config ≤ hold.life.chunk)

@@ -1,12 +1,12 @@
 //! Readers: a worker with the words that it reads, and numbered places for its holds.
-ghost use Rattle.std.specs.Prelude.{◌≡◌, ◌⊎◌, length, replicate, not, Some, None, Err, IfNone, IfOk};
+ghost use Rattle.std.specs.Prelude.{◌≡◌, ◌⊎◌, length, replicate, not, Some, None, Err, IfNone, IfOk, IfSome};
 ghost use Rattle.std.specs.Arc.{arc_value};
 ghost use Rattle.bump_rules.specs.declared.hands.Hand.TheVariants as hand;
 ghost use Rattle.bump_rules.specs.Rings.{IsAccounts};
 ghost use Rattle.bump_readers.specs.Attempts.{attempts_in};
 ghost use Rattle.bump_parts.specs.StepCounts.{MakesAtMost};
 ghost use Rattle.bump_handles.specs.Draining.{has_hold};
-ghost use Rattle.bump_handles.specs.Reading.{taken_told, CopiesWords, HoldsBehindAll, HoldsNothing, ReaderCopies, ReaderGets, ReaderHits, ReaderReads, ReaderReleases, ReaderSees, ReaderTouches};
+ghost use Rattle.bump_handles.specs.Reading.{taken_told, CopiesWords, HoldsBehindAll, HoldsNothing, HoldsOne, ReaderCopies, ReaderGets, ReaderHits, ReaderReads, ReaderReleases, ReaderSees, ReaderTouches};
 ghost use Rattle.bump_handles.specs.Views.{ReaderView as TheReaderView};
 
 use bump_heads::{Heads, Name};
@@ -239,6 +239,7 @@ impl<N: Name> Reader<N> {
     /// is what was stored last, by a touch, a link or a bump. It answers None where no item is held there.
     pub fn time(&mut self, place: u32) -> Option<u64>
         ensures same { self.new ≡ self.old }
+        ensures some { IfSome result (λ time. HoldsOne place self.old) }
         ensures none { IfNone result (HoldsNothing place self.old ⊎ HoldsBehindAll place self.old) }
     {
         let Some(held) = self.holds.get_mut(place as usize) else {
