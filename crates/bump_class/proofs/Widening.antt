@@ -6,7 +6,6 @@ use Rattle.bump_rules.specs.Labels.{label_word}
 use Rattle.bump_steps.specs.declared.views.ClassPart.{ClassPart}
 use Rattle.bump_steps.specs.declared.views.WordStep.{WordStep}
 use Rattle.bump_steps.specs.declared.views.WordStep.TheVariants.{Put}
-use Rattle.bump_steps.specs.declared.views.Kind.TheVariants as kind
 use Rattle.bump_steps.specs.Views.{of_word}
 use Rattle.bump_steps.proofs.LabelLists.{of_word_put, word_stored}
 use Rattle.bump_class.specs.Changes.{puts, put_steps}
