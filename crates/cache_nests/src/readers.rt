@@ -37,7 +37,10 @@ impl Model for IndexReader {
 /// it, and a new life of its key comes into the same lane by one store. So what the index leads to all the while is
 /// among the answers; that is tested, and not proved.
 #[derive(Drop)]
-pub struct Search {
+pub struct Search<'a> {
+    reader: &'a IndexReader,
+    // The reader's nests, looked up once: the compiler can't know that no load of a word changes where they lie.
+    nests: &'a Nests,
     tag: u64,
     // the lanes of this nest that have the tag, and that aren't answered yet: the highest of the 8 bits of each
     lanes: u64,
@@ -48,10 +51,9 @@ pub struct Search {
     nest: u32,
     // so many nests it hasn't come to
     later: u32,
-    nests: u32,
 }
 
-impl Model for Search {
+impl<'a> Model for Search<'a> {
     ghost use Rattle.std.specs.Prelude.{◌≡◌, ◌<◌, ◌≤◌, ◌+◌, ◌*◌, ◌^◌};
     ghost use Rattle.cache_nests.specs.Places.{home_of};
     ghost use Rattle.cache_nests.specs.Walks.{IsBehind};
@@ -59,11 +61,12 @@ impl Model for Search {
 
     ghost Value = { ReaderSearchView };
 
-    ghost view = { λ s. record { nests = s.nests; tag = s.tag; nest = s.nest; later = s.later; lanes = s.lanes } };
+    ghost view = { λ s. record { nests = s.nests.now.nests; tag = s.tag; nest = s.nest; later = s.later; lanes = s.lanes } };
 
-    ghost invariant = { λ s. (s.tag < 256) × (s.lanes < 2 ^ 48) × (s.nest < s.nests) × (s.later < s.nests)
-        × (s.nests ≤ 2 ^ 28 + 1) × (s.word ≡ 8 * s.nest)
-        × (home_of s.nests s.hash < s.nests) × IsBehind s.nests (home_of s.nests s.hash) s.nest s.later };
+    ghost invariant = { λ s. (s.tag < 256) × (s.lanes < 2 ^ 48) × (s.nest < s.nests.now.nests)
+        × (s.later < s.nests.now.nests) × (s.nests.now.nests ≤ 2 ^ 28 + 1) × (s.word ≡ 8 * s.nest)
+        × (home_of s.nests.now.nests s.hash < s.nests.now.nests)
+        × IsBehind s.nests.now.nests (home_of s.nests.now.nests s.hash) s.nest s.later };
 }
 
 impl IndexReader {
@@ -88,44 +91,44 @@ impl IndexReader {
     /// to come. It waits for nobody and takes no memory.
     #[inline(always)]
     #[tactic(auto, using(crate::proofs::WalkLemmas::begins_behind))]
-    pub fn search(&self, hash: u32) -> Search
+    pub fn search(&self, hash: u32) -> Search<'_>
         ensures nests { result.nests ≡ self.now.nests }
         ensures tag { result.tag ≡ tag_of hash }
         ensures home { result.nest ≡ home_of self.now.nests hash }
         ensures later { result.later + 1 ≡ self.now.nests }
     {
-        let nests = self.nests.count();
-        let nest = self.nests.home(hash);
+        let nests: &Nests = &self.nests;
+        let count = nests.count();
+        let nest = nests.home(hash);
         let word = NEST_WORDS * nest;
         let tag = tag_of(hash);
         Search {
+            reader: self,
+            nests,
             tag,
-            lanes: self.nests.lanes_now(word, tag),
+            lanes: nests.lanes_now(word, tag),
             nest,
             word,
-            later: nests - 1,
-            nests,
+            later: count - 1,
             hash,
         }
     }
 }
 
-impl Search {
+impl<'a> Search<'a> {
     // Whether all nests were come to: the next one is the home.
     #[inline(always)]
     #[tactic(auto, using(crate::proofs::WalkLemmas::last_behind, crate::proofs::WalkLemmas::more_behind))]
-    fn is_last(&self, nests: &Nests) -> bool
-        requires nests { self.now.nests ≡ nests.now.nests }
+    fn is_last(&self) -> bool
         ensures last { result ≡ true → self.now.later ≡ 0 }
         ensures more { result ≡ false → 0 < self.now.later }
     {
-        behind(nests.count(), self.word / NEST_WORDS, 1) == nests.home(self.hash)
+        behind(self.nests.count(), self.word / NEST_WORDS, 1) == self.nests.home(self.hash)
     }
 
     // Comes to the next nest.
     #[inline(always)]
-    fn walk(&mut self, nests: &Nests)
-        requires nests { self.old.nests ≡ nests.now.nests }
+    fn walk(&mut self)
         requires later { 0 < self.old.later }
         ensures nests { self.new.nests ≡ self.old.nests }
         ensures tag { self.new.tag ≡ self.old.tag }
@@ -134,19 +137,17 @@ impl Search {
         ensures narrow { self.new.lanes < 2 ^ 48 }
     {
         self.later -= 1;
-        self.nest = behind(nests.count(), self.word / NEST_WORDS, 1);
+        self.nest = behind(self.nests.count(), self.word / NEST_WORDS, 1);
         self.word = NEST_WORDS * self.nest;
-        self.lanes = nests.lanes_now(self.word, self.tag);
+        self.lanes = self.nests.lanes_now(self.word, self.tag);
     }
 
     /// The next life that may be of a key with the search's hash, or `None` where no more may be. Its chunk has its own
-    /// number. The reader is of the index in which the search began. It waits for nobody and takes no memory, and each
-    /// answer brings the search nearer to its end: the lowest lane that is left in its nest is taken, and where none
-    /// is, it walks on to a nest that has one. It walks past a nest only where a key passed it, and ends where none
-    /// did, or behind the last one.
+    /// number. It waits for nobody and takes no memory, and each answer brings the search nearer to its end: the lowest
+    /// lane that is left in its nest is taken, and where none is, it walks on to a nest that has one. It walks past a
+    /// nest only where a key passed it, and ends where none did, or behind the last one.
     #[inline(always)]
-    pub fn next(&mut self, reader: &IndexReader) -> Option<ItemId>
-        requires { self.old.nests ≡ reader.now.nests }
+    pub fn next(&mut self) -> Option<ItemId>
         ensures nests { self.new.nests ≡ self.old.nests }
         ensures tag { self.new.tag ≡ self.old.tag }
         ensures walks { WalksOn self.old self.new }
@@ -155,16 +156,16 @@ impl Search {
         ensures none { IfNone result ((self.old.lanes ≡ 0) × (self.new.lanes ≡ 0)) }
         ensures nearer { IfSome result (λ _. ahead self.new < ahead self.old) }
     {
-        let nests: &Nests = &reader.nests;
         while self.lanes == 0 {
-            if self.is_last(nests) || !nests.is_passed_now(self.word) {
+            if self.is_last() || !self.nests.is_passed_now(self.word) {
                 return None;
             }
-            self.walk(nests);
+            self.walk();
         }
         let lane = lowest(self.lanes);
         self.lanes = without_lowest(self.lanes);
-        let life = life_of(nests.life_now(self.word, lane));
+        let life = life_of(self.nests.life_now(self.word, lane));
+        let reader = self.reader;
         // Nothing is known of a word that a reader loads, so nothing says that the sum fits.
         Some(ItemId {
             chunk: life.chunk.wrapping_add(reader.first),

@@ -113,7 +113,7 @@ fn step(index: &mut Index, plain: &mut Vec<Option<Noted>>, state: &mut u64, hash
 fn times(reader: &IndexReader, hash: u32, chunk: u32, generation: u32) -> u32 {
     let mut search = reader.search(hash);
     let mut count = 0u32;
-    while let Some(life) = search.next(reader) {
+    while let Some(life) = search.next() {
         if life.chunk == chunk && life.generation == generation {
             count = count.saturating_add(1);
         }
@@ -218,7 +218,7 @@ fn missed(reader: &IndexReader) -> u32 {
         let key = look % KEYS;
         let mut search = reader.search(hash_of(u64::from(key), 3));
         let mut is_found = false;
-        while let Some(life) = search.next(reader) {
+        while let Some(life) = search.next() {
             is_found = is_found || life.chunk % KEYS == key;
         }
         if !is_found {

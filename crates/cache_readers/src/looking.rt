@@ -133,7 +133,7 @@ fn look_through<N: Name, L: RowLaw>(
     ensures ring { worker.new.sender.ring ≡ worker.old.sender.ring }
 {
     let mut search = index.search(hash);
-    while let Some(id) = search.next(index) {
+    while let Some(id) = search.next() {
         match look(worker, heads, id, key, now) {
             Ok(took) => return Ok(took),
             Err(Vain::Ended) => return Err(Vain::Ended),
