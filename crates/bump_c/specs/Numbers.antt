@@ -200,9 +200,9 @@ told_of_pulled (pulled.Deferred item) label = pulled_as 6 item label
 abbrev pub no_such_tail : PullTold
 no_such_tail = record { answer = 7; chunk = 0; generation = 0; label = 0 }
 
--- the greatest number of 32 bits stands for the class's own limit
-abbrev pub limit_asked : ℕ → Option ℕ
-limit_asked limit = if limit == 4294967295 then None else Some limit
+-- a number that may be left out: the greatest of 32 bits stands for none
+abbrev pub given_of : ℕ → Option ℕ
+given_of number = if number == 4294967295 then None else Some number
 
 abbrev pub not_seen : ℕ → Seen
 not_seen number = record {
@@ -244,10 +244,6 @@ looked_of (Ok (Some it)) = sight_of it
 
 abbrev pub no_such_list : Seen
 no_such_list = not_seen 3
-
--- the greatest number of 32 bits stands for no chunk
-abbrev pub chunk_asked : ℕ → Option ℕ
-chunk_asked chunk = if chunk == 4294967295 then None else Some chunk
 
 -- room for the chunks that a call tells
 abbrev pub no_chunks : List ℕ

@@ -46,8 +46,8 @@ use Rattle.bump_c.specs.declared.answers.UnlinkTold.{UnlinkTold}
 use Rattle.bump_c.specs.declared.answers.WalkTold.{WalkTold}
 use Rattle.bump_c.specs.declared.answers.WordsTold.{WordsTold}
 use Rattle.bump_c.specs.Numbers.{number_of_taken, touched_of, labelled_of, marks_of, has_both_marks, time_of, words_of}
-use Rattle.bump_c.specs.Numbers.{told_of_hit, linked_of, words_linked_of, unlinked_of, number_of_tail, limit_asked}
-use Rattle.bump_c.specs.Numbers.{told_of_pulled, no_such_tail, seen_of, looked_of, no_such_list, chunk_asked}
+use Rattle.bump_c.specs.Numbers.{told_of_hit, linked_of, words_linked_of, unlinked_of, number_of_tail, given_of}
+use Rattle.bump_c.specs.Numbers.{told_of_pulled, no_such_tail, seen_of, looked_of, no_such_list}
 use Rattle.bump_c.specs.Numbers.{walked_of, no_such_walk, moves_of_answer, class_of_answer, run_of, freeing_run_of, rest_of}
 use Rattle.bump_c.specs.Numbers.{no_words, no_chunks}
 
@@ -105,7 +105,7 @@ TellsUnlink chunk generation before after said = (answer : Result (Ended × ℕ)
 abbrev pub TellsPull : ℕ → ℕ → TaggedBookView → TaggedBookView → PullTold → Type 0
 TellsPull tail limit before after said =
     ((pull : Tail) × (answer : Pulled) × (label : ℕ) × (tail ≡ number_of_tail pull) × (said ≡ told_of_pulled answer label)
-    × BookPulls pull (limit_asked limit) before after answer label)
+    × BookPulls pull (given_of limit) before after answer label)
     ⊎ ((3 < tail) × (said ≡ no_such_tail) × (after ≡ before))
 
 -- the size of the list with this number; or there is none
@@ -122,14 +122,14 @@ TellsSeen chunk before after said = (answer : Option Sight) × (said ≡ seen_of
 abbrev pub TellsLook : ℕ → ℕ → TaggedBookView → TaggedBookView → Seen → Type 0
 TellsLook place behind before after said =
     ((at : Place) × (answer : Result (Option Sight) NotThere) × (place ≡ place_number at) × (said ≡ looked_of answer)
-    × BookLooks at (chunk_asked behind) before after answer)
+    × BookLooks at (given_of behind) before after answer)
     ⊎ ((6 < place) × (said ≡ no_such_list) × (after ≡ before))
 
 -- a walk of the list with this number; or there is none
 abbrev pub TellsWalk : ℕ → ℕ → TaggedBookView → WalkTold → Type 0
 TellsWalk place from book said =
     ((at : Place) × (answer : Result Walked NotThere) × (told : List ℕ) × (place ≡ place_number at)
-    × (said ≡ walked_of answer told) × BookWalks at (chunk_asked from) book no_chunks told answer)
+    × (said ≡ walked_of answer told) × BookWalks at (given_of from) book no_chunks told answer)
     ⊎ ((6 < place) × (said ≡ no_such_walk))
 
 abbrev pub TellsMoveCount : ℕ → TaggedBookView → ℕ → Type 0

@@ -6,7 +6,7 @@ ghost use Rattle.bump_c.specs.Numbers.{labelled_of, told_of_hit, marks_of, has_b
 ghost use Rattle.bump_c.specs.Numbers.{number_of_not_closed, link_of_item, not_linked_as, linked_of, words_linked_of};
 ghost use Rattle.bump_c.specs.Numbers.{unlinked_of, number_of_tail, pulled_as, told_of_pulled, number_of_segment};
 ghost use Rattle.bump_c.specs.Numbers.{not_seen, sight_of, seen_of, looked_of, walked_of, run_of, freeing_run_of};
-ghost use Rattle.bump_c.specs.Numbers.{number_of_rest, rest_of, number_of_fault};
+ghost use Rattle.bump_c.specs.Numbers.{number_of_rest, rest_of, number_of_fault, given_of};
 
 use bump_class::{LinkRefusal, UnlinkRefusal};
 use bump_handles::{
@@ -541,6 +541,17 @@ fn segment_number(segment: Segment) -> u32
         Segment::Warm => 1,
         Segment::Cold => 2,
         Segment::Temp => 3,
+    }
+}
+
+/// A number that may be left out: 4,294,967,295 stands for none.
+pub fn given(number: u32) -> Option<u32>
+    ensures { result ≡ given_of number }
+{
+    if number == u32::MAX {
+        None
+    } else {
+        Some(number)
     }
 }
 

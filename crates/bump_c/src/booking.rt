@@ -2,13 +2,13 @@
 ghost use Rattle.std.specs.Prelude.{◌≡◌};
 ghost use Rattle.bump_rules.specs.declared.places.Start.TheVariants as start;
 ghost use Rattle.bump_handles.specs.Booking.{BookSweeps, BookSweepsInto};
-ghost use Rattle.bump_c.specs.Numbers.{limit_asked, no_chunks};
+ghost use Rattle.bump_c.specs.Numbers.{no_chunks};
 ghost use Rattle.bump_c.specs.One.{IsOne};
 ghost use Rattle.bump_c.specs.Tells.{TellsLink, TellsLinkWords, TellsUnlink, TellsPull};
 
 use crate::answers::{
-    FreedTold, LinkTold, PullTold, UnlinkTold, linked_told, pulled_told, tail_of, unlinked_told,
-    words_linked_told,
+    FreedTold, LinkTold, PullTold, UnlinkTold, given, linked_told, pulled_told, tail_of,
+    unlinked_told, words_linked_told,
 };
 use crate::book_handle::BookHandle;
 use box_parts::BoxParts;
@@ -202,17 +202,6 @@ pub extern "C" fn bump_unlink(book: &mut BookHandle, chunk: u32, generation: u32
     )
 }
 
-// The limit with this number.
-fn limit_of(number: u32) -> Option<u32>
-    ensures { result ≡ limit_asked number }
-{
-    if number == u32::MAX {
-        None
-    } else {
-        Some(number)
-    }
-}
-
 fn pull_named<N: Name>(h: BookHandle, tail: u32, limit: u32) -> (BookHandle, PullTold)
     requires table { h.table ≡ N.table }
     requires one { IsOne N }
@@ -223,7 +212,7 @@ fn pull_named<N: Name>(h: BookHandle, tail: u32, limit: u32) -> (BookHandle, Pul
         return (h, NO_SUCH_TAIL);
     };
     let mut it = h.into_parts::<N>().into_box();
-    let (pulled, label) = it.pull(list, limit_of(limit));
+    let (pulled, label) = it.pull(list, given(limit));
     let said = pulled_told(pulled, label);
     (BookHandle::of_parts(BoxParts::of(it)), said)
 }

@@ -1,11 +1,10 @@
 //! A class's calls that look at it, which are made under the caller's lock of the class.
 ghost use Rattle.std.specs.Prelude.{◌≡◌};
-ghost use Rattle.bump_c.specs.Numbers.{chunk_asked};
 ghost use Rattle.bump_c.specs.One.{IsOne};
 ghost use Rattle.bump_c.specs.Tells.{TellsLook, TellsMoveCount, TellsSeen, TellsSize, TellsWalk};
 
 use crate::answers::{
-    LimitsTold, Seen, WalkTold, looked_told, nothing_seen, place_of, seen_told, walked_told,
+    LimitsTold, Seen, WalkTold, given, looked_told, nothing_seen, place_of, seen_told, walked_told,
 };
 use crate::book_handle::BookHandle;
 use box_parts::BoxParts;
@@ -158,17 +157,6 @@ pub extern "C" fn bump_see(book: &mut BookHandle, chunk: u32) -> Seen
     )
 }
 
-// The chunk with this number, or none.
-fn chunk_of(number: u32) -> Option<u32>
-    ensures { result ≡ chunk_asked number }
-{
-    if number == u32::MAX {
-        None
-    } else {
-        Some(number)
-    }
-}
-
 fn look_named<N: Name>(h: BookHandle, place: u32, behind: u32) -> (BookHandle, Seen)
     requires table { h.table ≡ N.table }
     requires one { IsOne N }
@@ -179,7 +167,7 @@ fn look_named<N: Name>(h: BookHandle, place: u32, behind: u32) -> (BookHandle, S
         return (h, nothing_seen(3));
     };
     let mut it = h.into_parts::<N>().into_box();
-    let said = looked_told(it.look(list, chunk_of(behind)));
+    let said = looked_told(it.look(list, given(behind)));
     (BookHandle::of_parts(BoxParts::of(it)), said)
 }
 
@@ -215,7 +203,7 @@ fn walk_named<N: Name>(h: BookHandle, place: u32, from: u32) -> (BookHandle, Wal
     };
     let it = h.into_parts::<N>().into_box();
     let mut chunks = [0; 32];
-    let walked = it.walk(list, chunk_of(from), &mut chunks);
+    let walked = it.walk(list, given(from), &mut chunks);
     (
         BookHandle::of_parts(BoxParts::of(it)),
         walked_told(walked, chunks),

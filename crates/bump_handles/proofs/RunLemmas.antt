@@ -33,6 +33,7 @@ applies now limit w book left v before after count aboard last same_book same so
     subst (λ (b : TaggedBookView). AppliesBumps now limit b before left after count) same_book
     (subst (λ (d : DrainerView). AppliesBumps now limit w d left after count) same (record {
       none = λ zeroed. absurd (omega (arith, zeroed, some));
+      awaits = λ zeroed. absurd (omega (arith, zeroed, some));
       nothing = λ zeroed asked. absurd (omega (arith, zeroed, some));
       applied = λ _. (aboard, last, next, run, boarded);
       most = most;
@@ -60,6 +61,7 @@ frees now limit w book left v before after slice told end aboard last chunks sam
     subst (λ (b : TaggedBookView). FreesBumps now limit b before slice left after told end) same_book
     (subst (λ (d : DrainerView). FreesBumps now limit w d slice left after told end) same (record {
       none = λ zeroed. absurd (omega (arith, zeroed, some));
+      awaits = λ zeroed. absurd (omega (arith, zeroed, some));
       nothing = λ zeroed asked room. absurd (omega (arith, zeroed, some));
       none_freed = λ zeroed. absurd (omega (arith, zeroed, some));
       applied = λ _. (aboard, last, chunks, next, run, boarded, tells, count);

@@ -38,12 +38,20 @@ pub record TellsClass (before after : DrainerView) (answer : Option ℕ) : Type 
   pub ring : after.lane.ring ≡ before.lane.ring
   pub kept : after ≡ record before { lane = after.lane }
 
+-- What a run that applies none comes to, where the next bump, if there is one, isn't of another class: that one is aboard from
+-- then on, and is the Book's; where there is none, nothing is changed.
+pub record AppliesNone (book : TaggedBookView) (before after : DrainerView) : Type 0 where
+  pub own : IfSome (carries after.lane) (λ bump. owns bump.life.chunk book.book.part ≡ true)
+  pub next : IsSome (carries after.lane) → HasNextAboard (carries before.lane) before.lane after.lane
+  pub empty : IfNone (carries after.lane) ((before.lane.known ≡ []) × (after ≡ before))
+
 -- What a run of bumps that a lane applies to its class's Book comes to, by how many they were.
 pub record AppliesBumps (now limit : ℕ) (book : TaggedBookView) (before : DrainerView) (left : TaggedBookView)
     (after : DrainerView) (count : ℕ) : Type 0 where
   pub none : count ≡ 0 → (left ≡ book) × (entries after.lane ≡ entries before.lane)
-  -- none was applied only where none was to be, or no bump is aboard or known
-  pub nothing : count ≡ 0 → 0 < limit → (carries after.lane ≡ None) × (after.lane.known ≡ [])
+  pub awaits : count ≡ 0 → AppliesNone book before after
+  -- none was applied only where none was to be, or there is no next one
+  pub nothing : count ≡ 0 → 0 < limit → carries after.lane ≡ None
   -- the next bump went aboard, where none was, and it and the next ones were applied, as a Book applies a run
   pub applied : 0 < count → (aboard : LaneView) × (last : LaneView)
       × HasNextAboard (carries before.lane) before.lane aboard
@@ -80,7 +88,8 @@ pub record DrainerApplies (now limit : ℕ) (book : TaggedBookView) (before : Dr
 pub record FreesBumps (now limit : ℕ) (book : TaggedBookView) (before : DrainerView) (slice : List ℕ)
     (left : TaggedBookView) (after : DrainerView) (told : List ℕ) (end : RunEnd) : Type 0 where
   pub none : end.applied ≡ 0 → (left ≡ book) × (entries after.lane ≡ entries before.lane)
-  pub nothing : end.applied ≡ 0 → 0 < limit → 0 < length slice → (carries after.lane ≡ None) × (after.lane.known ≡ [])
+  pub awaits : end.applied ≡ 0 → AppliesNone book before after
+  pub nothing : end.applied ≡ 0 → 0 < limit → 0 < length slice → carries after.lane ≡ None
   pub none_freed : end.applied ≡ 0 → (told ≡ slice) × (end.freed ≡ 0)
   -- the bumps were applied as in a run, and these chunks came free by that, in this order
   pub applied : 0 < end.applied → (aboard : LaneView) × (last : LaneView) × (chunks : List ℕ)
