@@ -4,14 +4,13 @@ use Rattle.std.specs.List.{slice_get}
 use Rattle.std.specs.Prelude.{Vec}
 use Rattle.std.specs.Vec.{with_items}
 use Rattle.std.proofs.lemmas.List.{with_items_is}
-use Rattle.std.proofs.Math.Nat.{div-lt_iff_lt-mul, mod-lt, mul-le-mul_right}
 use Rattle.std.proofs.Math.Seq.{map-set_same}
 use Rattle.std.proofs.lemmas.Option.{get_or_from_slice_get}
 use Rattle.keyed_hash.specs.declared.seed.Seed.{Seed}
 use Rattle.keyed_hash.specs.Hashes.{hash_of}
 use Rattle.bump_ring.specs.Ends.{Ring}
 use Rattle.cache_readers.specs.Readers.{KeepsRing, ReaderView}
-use Rattle.bump_cache.specs.Choosing.{part_of}
+use Rattle.cache_making.specs.Choosing.{part_of}
 use Rattle.bump_cache.specs.Readers.{CacheReaderView, InPart, KeepsRings, readers_by}
 
 -- The reader at this place is that of the key's part, and another one stands in its place now.
@@ -30,13 +29,6 @@ chosen_in seed key words befores from to hash packed hashed read =
       was = ap (λ h. slice_get befores (part_of (length befores) h)) (sym same) ∙ read;
       is = ap (λ h. set befores (part_of (length befores) h) to) same;
     }
-
--- a part chosen by 8 bits is one of the parts
-pub below_parts : (parts hash : ℕ) → 1 ≤ parts → parts ≤ 16 → hash / 256 % 256 * parts / 256 < parts
-below_parts parts hash some few =
-    let eight : hash / 256 % 256 < 256 = mod-lt (hash / 256) (omega arith) in
-    let most : hash / 256 % 256 * parts ≤ 255 * parts = mul-le-mul_right parts (omega (arith, eight)) in
-    (div-lt_iff_lt-mul (omega arith)).1 (omega (arith, most, some))
 
 module _ (seed : Seed) (key : List ℕ) (befores afters : List ReaderView) (from to : ReaderView)
     (choice : IsChosen seed key befores afters from to) where

@@ -1,7 +1,7 @@
 -- The parts of a cache that was opened begin with new shelves.
-use Rattle.std.proofs.Common.{◌≡◌, ℕ, ◌+◌, ◌*◌, ◌<◌, List, length, Option, Some, None, option_map, All, refl, sym, ap, ◌∙◌, subst, arith}
+use Rattle.std.proofs.Common.{◌≡◌, ℕ, ◌+◌, ◌*◌, ◌<◌, List, length, get_or, Option, Some, None, option_map, All, refl, sym, ap, ◌∙◌, subst, arith}
 use Rattle.std.specs.List.{slice_get}
-use Rattle.std.proofs.lemmas.Option.{slice_get-map, slice_get_within}
+use Rattle.std.proofs.lemmas.Option.{slice_get-get_or, slice_get-map, slice_get_within}
 use Rattle.bump_rules.specs.declared.configs.Config.{Config}
 use Rattle.bump_class.specs.Lanes.{LaneView}
 use Rattle.bump_parts.specs.Parting.{raw_rings}
@@ -11,10 +11,10 @@ use Rattle.bump_steps.specs.Rule.{worker_parts}
 use Rattle.call_log.specs.Calls.{CallerView}
 use Rattle.cache_readers.specs.Readers.{ReaderView, new_reader}
 use Rattle.cache_shelf.specs.Shelves.{ShelfView}
-use Rattle.bump_cache.specs.declared.config.CacheConfig.{CacheConfig}
-use Rattle.bump_cache.specs.Configs.{IsStoreOf}
-use Rattle.bump_cache.specs.Making.{AreMadeShelves, BeginsAll, IsMadeShelf}
-use Rattle.bump_cache.specs.Opening.{AreNewReaders, CacheBlankView, IsNewPart, IsNewReader, IsNewShelf}
+use Rattle.cache_making.specs.declared.config.CacheConfig.{CacheConfig}
+use Rattle.cache_making.specs.Configs.{IsStoreOf}
+use Rattle.cache_making.specs.Making.{AreMadeShelves, IsMadeShelf}
+use Rattle.bump_cache.specs.Opening.{AreNewReaders, BeginsAll, CacheBlankView, IsNewPart, IsNewReader, IsNewShelf, IsWide}
 use Rattle.bump_cache.specs.Readers.{CacheReaderView, rings_of}
 use Rattle.bump_cache.specs.States.{PartState}
 
@@ -51,7 +51,7 @@ module _ (config : CacheConfig) (store : Config) (workers : List WorkerState) (l
       ∙ sym (slice_get-map ring_of_part reader.parts part)))))))
 
   -- the shelf of a part is new
-  new_of_made : (part : ℕ) (shelf : ShelfView) → IsMadeShelf config part key_width value_width lanes shelf
+  pub new_of_made : (part : ℕ) (shelf : ShelfView) → IsMadeShelf config part key_width value_width lanes shelf
       → part < config.parts → IsNewShelf config part key_width value_width readers shelf
   new_of_made part shelf is low =
       subst (IsNewShelf config part key_width value_width readers) (sym is.made) (record {
@@ -104,3 +104,14 @@ opened_readers view blank store heads workers readers same store_of words made n
       capacity = subst (λ (most : ℕ). All (λ (worker : WorkerState). worker.sender.capacity ≡ most) workers)
           store_of.capacity capacity;
     })
+
+-- the shelves that were made are as wide as they were to be
+pub shelves_wide : (config : CacheConfig) (key_width value_width count : ℕ) (lanes : List LaneView)
+    (shelves : List ShelfView) → AreMadeShelves config key_width value_width lanes count shelves
+    → All (IsWide key_width value_width) shelves
+shelves_wide config key_width value_width count lanes shelves are = λ k none low.
+    let had : slice_get shelves k ≡ Some (get_or shelves k none) = slice_get-get_or shelves k none low in
+    let it = are.each k (omega (arith, low, are.count_is)) in
+    let both : Some it.0 ≡ Some (get_or shelves k none) = sym it.1 ∙ had in
+    let same : it.0 ≡ get_or shelves k none = cc both in
+    subst (IsWide key_width value_width) (sym it.2.made ∙ same) (refl, refl)

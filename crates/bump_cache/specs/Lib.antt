@@ -1,12 +1,9 @@
-pub mod Configs
-pub mod Choosing
 pub mod Pairs
 pub mod States
 pub mod Readers
 pub mod Many
 pub mod Held
 pub mod Opening
-pub mod Making
 pub mod Putting
 pub mod Changing
 pub mod Sums
@@ -15,7 +12,6 @@ pub mod Visiting
 pub mod Ending
 pub mod Caches
 pub mod Bytes
-pub mod Memory
 pub use Rattle.atomic_table.specs.Seated
 pub use Rattle.bump_class.specs.Books
 pub use Rattle.bump_class.specs.Lanes
@@ -31,6 +27,9 @@ pub use Rattle.bump_rules.specs.Rings
 pub use Rattle.bump_steps.specs.References
 pub use Rattle.bump_steps.specs.Rule
 pub use Rattle.bump_steps.specs.Views
+pub use Rattle.cache_making.specs.Choosing
+pub use Rattle.cache_making.specs.Configs
+pub use Rattle.cache_making.specs.Making
 pub use Rattle.cache_lists.specs.Counts
 pub use Rattle.cache_lists.specs.Items
 pub use Rattle.cache_lists.specs.Segments

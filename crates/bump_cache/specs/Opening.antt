@@ -14,8 +14,9 @@ use Rattle.cache_readers.specs.Readers.{new_reader}
 use Rattle.cache_lists.specs.Counts.{no_evictions, no_flow}
 use Rattle.cache_shelf.specs.Shelves.{ShelfView}
 use Rattle.cache_shelf.specs.declared.limits.Limits.{Limits}
-use Rattle.bump_cache.specs.declared.config.CacheConfig.{CacheConfig}
-use Rattle.bump_cache.specs.Configs.{IsStoreOf, bounds_of, class_of, first_cache_fault, items_in}
+use Rattle.cache_making.specs.declared.config.CacheConfig.{CacheConfig}
+use Rattle.cache_making.specs.Configs.{IsStoreOf, class_of, first_cache_fault, items_in}
+use Rattle.cache_making.specs.Making.{chunks_before, limits_of}
 use Rattle.bump_cache.specs.Readers.{CacheReaderView, rings_of}
 use Rattle.bump_cache.specs.States.{PartState, number_of}
 
@@ -38,19 +39,6 @@ pub record IsCacheBlank (blank : BlankView) (store : Config) (config : CacheConf
   pub words : blank.config ≡ store
   pub store_of : IsStoreOf config store
   pub no_fault : first_cache_fault config ≡ None
-
--- the first chunk of a part: as many as the parts before it have together
-abbrev pub chunks_before : CacheConfig → ℕ → ℕ
-chunks_before config zero = 0
-chunks_before config (suc part) = chunks_before config part + (class_of config part).chunks
-
--- the limits of a part
-abbrev pub limits_of : CacheConfig → ℕ → Limits
-limits_of config part = record {
-  bounds = bounds_of config part;
-  most = config.ring;
-  looks = config.expiry_looks;
-}
 
 -- The reader of this number got nothing yet: in each part it has one of the new workers, which are numbered part by
 -- part.
@@ -108,3 +96,13 @@ pub record IsNewPart (config : CacheConfig) (part key_width value_width : ℕ) (
   pub shelf : ShelfView
   pub new : IsNewShelf config part key_width value_width readers shelf
   pub begins : BeginsWith part shelf me
+
+-- each shelf is what the first call of its part left
+abbrev pub BeginsAll : List ShelfView → CallerView PartState → Type 0
+BeginsAll shelves me =
+    (part : ℕ) (shelf : ShelfView) → slice_get shelves part ≡ Some shelf → BeginsWith part shelf me
+
+-- the keys and the values of a shelf have so many words
+abbrev pub IsWide : ℕ → ℕ → ShelfView → Type 0
+IsWide key_width value_width shelf =
+    (shelf.part.key_words ≡ key_width) × (shelf.part.value_words ≡ value_width)

@@ -1,17 +1,13 @@
 -- What contracts see of the readers of a cache, and what their calls come to.
-use Rattle.std.specs.Prelude.{◌≡◌, ℕ, ◌+◌, List, length, map, slice_get, slice_set, sum_by, Some}
-use Rattle.bump_rules.specs.declared.bumps.Accounts.{Accounts}
-use Rattle.bump_rules.specs.declared.hands.Hand.TheVariants as hand
-use Rattle.bump_rules.specs.Rings.{IsAccounts}
+use Rattle.std.specs.Prelude.{◌≡◌, ℕ, List, length, map, slice_get, slice_set, Some}
 use Rattle.bump_steps.specs.declared.views.HoldPart.{HoldPart}
 use Rattle.bump_steps.specs.Rule.{RowPredicate}
 use Rattle.bump_ring.specs.Ends.{Ring}
-use Rattle.cache_lists.specs.Counts.{capped}
 use Rattle.cache_readers.specs.Looks.{Finds, HasWords, Hits, Peeks, Sees}
 use Rattle.cache_readers.specs.Readers.{ReaderView}
 use Rattle.keyed_hash.specs.declared.seed.Seed.{Seed}
 use Rattle.keyed_hash.specs.Hashes.{hash_of}
-use Rattle.bump_cache.specs.Choosing.{part_of}
+use Rattle.cache_making.specs.Choosing.{part_of}
 
 -- the seed of the keys' hashes, and a reader of each part, by number
 pub record CacheReaderView : Type 0 where
@@ -42,32 +38,6 @@ rings_of reader = map (λ (part : ReaderView). part.worker.sender.ring) reader.p
 -- its rings are those that it had
 abbrev pub KeepsRings : CacheReaderView → CacheReaderView → Type 0
 KeepsRings before after = rings_of after ≡ rings_of before
-
--- how many of its gets found something, over all parts, as far as the count goes
-abbrev pub hits_of : List ReaderView → ℕ
-hits_of parts = capped (sum_by (λ (part : ReaderView). part.hits) parts)
-
--- how many found nothing
-abbrev pub misses_of : List ReaderView → ℕ
-misses_of parts = capped (sum_by (λ (part : ReaderView). part.misses) parts)
-
--- its counts of bumps, each over all parts, as far as the count goes
-abbrev pub bumps_of : List ReaderView → Accounts
-bumps_of parts = record {
-  attempted = capped (sum_by (λ (part : ReaderView). part.worker.part.accounts.attempted) parts);
-  accepted = capped (sum_by (λ (part : ReaderView). part.worker.part.accounts.accepted) parts);
-  full = capped (sum_by (λ (part : ReaderView). part.worker.part.accounts.full) parts);
-  busy = capped (sum_by (λ (part : ReaderView). part.worker.part.accounts.busy) parts);
-  refs = capped (sum_by (λ (part : ReaderView). part.worker.part.accounts.refs) parts);
-}
-
--- what a part's reader sent adds up: bumps that were accepted and dropped are those attempted
-abbrev pub AddsUp : ReaderView → Type 0
-AddsUp part = IsAccounts part.worker.part.accounts (length part.worker.sender.sent) hand.Idle
-
--- how many bumps were dropped, as far as the count goes
-abbrev pub dropped_of : Accounts → ℕ
-dropped_of accounts = capped (accounts.full + accounts.busy + accounts.refs)
 
 -- a get found this value
 abbrev pub FindsValue : RowPredicate → List ℕ → List ℕ → ℕ → ReaderView → ReaderView → Type 0

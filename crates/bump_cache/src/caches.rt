@@ -38,7 +38,7 @@ pub struct Cache<N: Name + LogName, K: Packed, V: Packed> {
 impl<N: Name + LogName, K: Packed, V: Packed> Model for Cache<N, K, V> {
     ghost use Rattle.std.specs.Prelude.{◌+◌, ◌≤◌, vec_len};
     ghost use Rattle.bump_cache.specs.Caches.{CacheView};
-    ghost use Rattle.bump_cache.specs.Choosing.{IsPartCount};
+    ghost use Rattle.cache_making.specs.Choosing.{IsPartCount};
     ghost use Rattle.bump_cache.specs.Opening.{most_words};
 
     ghost Value = { CacheView };

@@ -1,25 +1,13 @@
 //! Which part of a cache a key is of.
 ghost use Rattle.std.specs.Prelude.{◌≡◌, ◌<◌, ◌≤◌};
 ghost use Rattle.keyed_hash.specs.Hashes.{hash_of};
-ghost use Rattle.bump_cache.specs.Choosing.{IsPartCount, part_of};
+ghost use Rattle.cache_making.specs.Choosing.{IsPartCount, part_of};
 ghost use Rattle.bump_cache.specs.Opening.{most_words};
 
 use crate::law::MOST_WORDS;
+use cache_making::part_of_hash;
 use keyed_hash::Seed;
 use packed_words::Packed;
-
-/// The part, of so many, that a key with this hash is of: by 8 bits that make neither the tag nor the home by which the
-/// part's index is searched. So the keys of one part have tags and homes of all kinds. It divides by nothing but powers
-/// of two.
-#[inline(always)]
-#[tactic(auto, using(crate::proofs::Choices::below_parts))]
-pub(crate) fn part_of_hash(parts: usize, hash: u32) -> usize
-    requires { IsPartCount parts }
-    ensures part { result ≡ part_of parts hash }
-    ensures within { result < parts }
-{
-    (hash / 256 % 256) as usize * parts / 256
-}
 
 /// The part, of so many, that a key is of.
 pub(crate) fn part_of_key<K: Packed>(parts: usize, seed: Seed, key: &K) -> usize

@@ -1,34 +1,18 @@
 //! Gets by the reader of a key's part.
-ghost use Rattle.std.specs.Prelude.{◌≡◌, ◌+◌, ◌≤◌, true, false, length, slice_get, Some, IfSome, IfNone};
-ghost use Rattle.std.specs.Borrow.{sem};
-ghost use Rattle.std.specs.Slice.{slice_follows_item};
+ghost use Rattle.std.specs.Prelude.{◌≡◌, ◌+◌, ◌≤◌, true, false, length, IfSome, IfNone};
 ghost use Rattle.cache_readers.specs.Readers.{CountsHit, CountsNothing, KeepsRing, Misses, ReadsNothing};
-ghost use Rattle.bump_cache.specs.Choosing.{IsPartCount, part_of};
+ghost use Rattle.cache_making.specs.Choosing.{IsPartCount};
 ghost use Rattle.bump_cache.specs.Opening.{most_words};
 ghost use Rattle.bump_cache.specs.Pairs.{IsPair};
 ghost use Rattle.bump_cache.specs.Readers.{FindsValue, HitsItem, HoldsValue, InPart, KeepsRings, PeeksValue, SeesItem, readers_by};
 
-use crate::choosing::part_of_hash;
 use crate::held::PairHold;
 use crate::law::PairLaw;
 use bump_heads::Name;
+use cache_making::part_in;
 use cache_readers::WordReader;
 use keyed_hash::Seed;
 use packed_words::Packed;
-
-// The part that a key with this hash is of. Where there is but one nothing is reckoned.
-#[inline(always)]
-fn part_in<T>(parts: &mut [T], hash: u32) -> &mut T
-    requires { IsPartCount (length parts.old) }
-    ensures* writes_back { sem 𝓛 (slice_follows_item T.row parts.entry (part_of (length parts.old) hash) result) }
-    ensures part { slice_get parts.old (part_of (length parts.old) hash) ≡ Some result.now }
-{
-    if parts.len() == 1 {
-        return &mut parts[0];
-    }
-    let part = part_of_hash(parts.len(), hash);
-    &mut parts[part]
-}
 
 // Gets a value by a reader of words, with the words of the key, and room for those of the value.
 #[inline(always)]

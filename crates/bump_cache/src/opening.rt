@@ -5,12 +5,13 @@ ghost use Rattle.bump_cache.specs.Opening.{AreNewReaders, IsNewPart, most_caller
 use crate::blanks::CacheBlank;
 use crate::caches::Cache;
 use crate::law::PairLaw;
-use crate::making::{make_indexes, make_locks, make_shelves};
+use crate::making::{make_locks, make_pairs};
 use crate::readers::CacheReader;
 use crate::rows::make_readers;
 use crate::states::CacheState;
 use bump_heads::Name;
 use bump_parts::StoreParts;
+use cache_making::{make_indexes, make_part_readers, make_shelves};
 use call_log::{Caller, LogName};
 use packed_words::Packed;
 use std::alloc::{AllocError, Global};
@@ -69,10 +70,21 @@ pub fn open<N: Name + LogName, K: Packed, V: Packed, W: Wait>(
         lanes,
     } = StoreParts::<N, PairLaw<K, V>>::open(alloc, words, &store)?;
     let indexes = make_indexes(alloc, &config)?;
-    let readers = make_readers(alloc, &heads, workers, &indexes, &config)?;
-    let shelves = make_shelves(alloc, books, indexes, lanes, &config)?;
+    let rows = make_part_readers(alloc, &heads, workers, &indexes, &config)?;
+    let readers = make_readers(alloc, rows, config.seed)?;
+    let (key_words, value_words) = (K::words() as u32, V::words() as u32);
+    let shelves = make_shelves(
+        alloc,
+        books,
+        indexes,
+        lanes,
+        &config,
+        key_words,
+        value_words,
+    )?;
+    let pairs = make_pairs(alloc, shelves)?;
     let (logs, mut caller) = log.open::<N>();
-    let parts = make_locks(alloc, rt, logs, &mut caller, shelves)?;
+    let parts = make_locks(alloc, rt, logs, &mut caller, pairs)?;
     let cache = Cache {
         parts,
         seed: config.seed,

@@ -2,7 +2,7 @@ pub mod Counting
 pub mod Faults
 pub mod Plans
 pub mod Writing
-pub use Rattle.bump_cache.specs.Configs
+pub use Rattle.cache_making.specs.Configs
 pub use Rattle.bump_rules.specs.Caches
 pub use Rattle.bump_trace.specs.Meaning
 pub use Rattle.bump_trace.specs.Runs

@@ -1,6 +1,6 @@
 //! An access log is run through a cache.
 ghost use Rattle.std.specs.Prelude.{◌≡◌, ◌+◌, ◌<◌, ◌≤◌, IfOk, IfErr, IfSome, IfNone, Err, length};
-ghost use Rattle.bump_cache.specs.Configs.{first_cache_fault};
+ghost use Rattle.cache_making.specs.Configs.{first_cache_fault};
 ghost use Rattle.replay_runs.specs.declared.faults.ReplayFault.TheVariants.{Config, Memory};
 
 use crate::faults::ReplayFault;

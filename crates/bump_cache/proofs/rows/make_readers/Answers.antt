@@ -1,79 +1,25 @@
-use Rattle.std.proofs.Common.{◌≡◌, ◌+◌, ◌*◌, ◌<◌, List, length, drop, sym, ap, ◌∙◌, subst, arith}
-use Rattle.std.specs.Arc.{arc_value}
+use Rattle.std.proofs.Common.{rules, ◌≡◌, ◌++◌, List, [], ◌∷◌, length, map, sym, ap, ◌∙◌}
+use Rattle.std.proofs.lemmas.List.{append_assoc}
 use Rattle.std.specs.Vec.Iter.{into_iter_items}
-use Rattle.bump_parts.specs.Workers.{WorkerState}
 use Rattle.cache_readers.specs.Readers.{ReaderView}
-use Rattle.std.specs.List.{slice_get}
-use Rattle.std.proofs.lemmas.List.{length-map, with_items_is}
-use Rattle.cache_shelf.proofs.Keeping.{where_ok}
-use Rattle.bump_cache.specs.Making.{AddsPart, AreRows}
-use Rattle.bump_cache.specs.Readers.{CacheReaderView}
-use Rattle.bump_cache.proofs.RowLemmas.{rows_all, rows_counted, rows_next, rows_none}
-use Rattle.bump_cache.proofs.ShelfLemmas.{room_for, rest_next}
-use Rattle.bump_cache.proofs.Soundness.{sound}
+use Rattle.cache_making.specs.Choosing.{IsPartCount}
+use Rattle.bump_cache.specs.Readers.{CacheReaderView, readers_by}
+use Rattle.cache_making.proofs.Places.{all_rest}
 use Rattle.bump_cache.proofs.rows.make_readers.Goals as goal
 
-pub loop-index-init : goal.loop-index-init
-loop-index-init g c =
-    let zero : 0 ≡ 0 * c.args.config.now.readers = omega arith in record {
-      rows = rows_none (arc_value c.args.heads.now) c.args.config.now.readers c.args.workers.items _
-          c.in_ok-rows.ensures.count c.in_ok-rows.ensures.rows;
-      rest = c.into_iter-workers.ensures.rest ∙ ap (λ n. drop n c.args.workers.items) zero;
-    }
-
-pub add_part-requires : goal.add_part-requires
-add_part-requires g c =
-    let so_far = c.loop-index.invariant in
-    let low : c.loop-index.index-index < c.args.config.now.parts =
-    omega (arith, c.loop-index-test.true, c.requires.indexes) in
-    let room = room_for c.args.config.now.parts c.args.config.now.readers c.loop-index.index-index
-    c.args.workers.items _
-    c.requires.workers low so_far.rest in
-    omega (arith, room, so_far.rows.count)
-
-pub loop-index-preserved : goal.loop-index-preserved
-loop-index-preserved g c =
-    let so_far = c.loop-index.invariant in
-    let store = arc_value c.args.heads.now in
-    let readers = c.args.config.now.readers in
-    let did = c.in_ok-add_part.ensures in
-    let before = c.deref_mut.ensures.value in
-    let place = c.loop-index.index-index * readers in
-    let adds = subst (λ (rows : List (List ReaderView)).
-    AddsPart store (drop place c.args.workers.items) rows c.add_part.new.rows) before
-    (subst (λ (ws : List WorkerState). AddsPart store ws c.deref_mut.result.now c.add_part.new.rows) so_far.rest
-    did.rows) in
-    let long : length c.add_part.new.rows ≡ c.loop-index.rows.len =
-    omega (arith, c.add_part.auto.rows, c.deref_mut.ensures.len) in
-    let after = sym (with_items_is c.loop-index.rows c.add_part.new.rows long) in
+pub loop-row-preserved : goal.loop-row-preserved
+loop-row-preserved g c =
+    let so_far = c.loop-row.invariant in
+    let made = c.loop-row.readers.items in
+    let make = readers_by c.args.seed in
+    let rest = into_iter_items c.next.new.self in
+    let next : into_iter_items c.loop-row.row-iterator ≡ c.in-Some.row ∷ rest = c.in-Some.ensures.steps.0 in
+    let reader : c.new.result ≡ make c.in-Some.row = search rules in
     record {
-      rows = subst (λ (rows : List (List ReaderView)).
-          AreRows store readers (c.loop-index.index-index + 1) c.args.workers.items rows) after
-          (rows_next store readers c.loop-index.index-index c.args.workers.items c.loop-index.rows.items
-          c.add_part.new.rows so_far.rows adds);
-      rest = rest_next readers c.loop-index.index-index c.args.workers.items (into_iter_items c.loop-index.workers) _
-          so_far.rest (did.rest ∙ ap (λ n. drop n (into_iter_items c.loop-index.workers))
-          (ap length before ∙ so_far.rows.count));
+      made = ap (λ (rs : List CacheReaderView). rs ++ map make rest) c.in_ok-push.ensures.items
+          ∙ (append_assoc made (c.new.result ∷ []) (map make rest)
+          ∙ (ap (λ (r : CacheReaderView). made ++ (r ∷ map make rest)) reader
+          ∙ (ap (λ (rows : List (List ReaderView)). made ++ map make rows) (sym next) ∙ so_far.made)));
+      parts = all_rest (λ (row : List ReaderView). IsPartCount (length row)) (into_iter_items c.loop-row.row-iterator)
+          c.in-Some.row rest next so_far.parts;
     }
-
-pub finish_rows-requires-clause-parts : goal.finish_rows-requires-clause-parts
-finish_rows-requires-clause-parts g c =
-    let is = sound c.args.config.now c.requires.sound in
-    let so_far = c.loop-index.invariant in
-    let all : c.loop-index.index-index ≡ c.args.config.now.parts =
-    omega (arith, c.loop-index-test.false, c.loop-index.auto.index-index-end, c.requires.indexes) in
-    rows_counted _ _ _ _ _ so_far.rows (omega (arith, all, is.parts_least)) (omega (arith, all, is.parts_most))
-
-pub returns-clause-count : goal.returns-clause-count
-returns-clause-count g c = where_ok c.finish_rows.result _ _ (λ readers is.
-    ap length is ∙ (length-map _ _ ∙ c.loop-index.invariant.rows.count)) c.finish_rows.ensures
-
-pub returns-clause-made : goal.returns-clause-made
-returns-clause-made g c =
-    let so_far = c.loop-index.invariant in
-    let all : c.loop-index.index-index ≡ c.args.config.now.parts =
-    omega (arith, c.loop-index-test.false, c.loop-index.auto.index-index-end, c.requires.indexes) in
-    where_ok c.finish_rows.result _ _ (λ readers is number reader had.
-    rows_all c.args.config.now (arc_value c.args.heads.now) c.args.workers.items c.loop-index.rows.items
-    c.loop-index.index-index number reader all so_far.rows
-    (ap (λ (rs : List CacheReaderView). slice_get rs number) (sym is) ∙ had)) c.finish_rows.ensures

@@ -1,12 +1,15 @@
-use Rattle.std.proofs.Common.{◌≡◌, ◌*◌, drop}
-use Rattle.std.specs.Arc.{arc_value}
+use Rattle.std.proofs.Common.{◌≡◌, ◌++◌, List, length, map}
+use Rattle.std.specs.List.{All}
 use Rattle.std.specs.Vec.Iter.{into_iter_items}
-use Rattle.bump_cache.specs.Making.{AreRows}
+use Rattle.cache_readers.specs.Readers.{ReaderView}
+use Rattle.cache_making.specs.Choosing.{IsPartCount}
+use Rattle.bump_cache.specs.Readers.{readers_by}
 use Rattle.bump_cache.proofs.rows.make_readers.Given as goal
 
--- so many parts the rows have, by the workers that came first
-abbrev pub invariant-loop-index : goal.invariant-loop-index
-invariant-loop-index g l = record {
-  rows : AreRows (arc_value l.heads) l.config.readers l.index-index l.fn.workers.items l.rows.items;
-  rest : into_iter_items l.workers ≡ drop (l.index-index * l.config.readers) l.fn.workers.items;
+-- those that were made, and those that are still to come
+abbrev pub invariant-loop-row : goal.invariant-loop-row
+invariant-loop-row g l = record {
+  made : l.readers.items ++ map (readers_by l.seed) (into_iter_items l.row-iterator)
+      ≡ map (readers_by l.seed) l.fn.rows.items;
+  parts : All (λ (row : List ReaderView). IsPartCount (length row)) (into_iter_items l.row-iterator);
 }

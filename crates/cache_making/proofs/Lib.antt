@@ -1,0 +1,9 @@
+pub mod Evens
+pub mod Choices
+pub mod Places
+pub mod Soundness
+pub mod Openings
+pub mod ShelfLemmas
+pub mod RowLemmas
+pub mod MemoryLemmas
+pub mod PartSums
