@@ -94,10 +94,10 @@ def crates():
           "bump_word": (620, 480), "bump_steps": (620, 420), "bump_readers": (620, 360), "bump_heads": (520, 300),
           "bump_ring": (720, 300), "bump_class": (620, 240), "bump_parts": (620, 180), "bump_store": (475, 120),
           "bump_handles": (620, 120), "bump_c": (620, 60), "box_parts": (455, 60), "trace_lines": (330, 460),
-          "bump_trace": (200, 300), "store_trace": (330, 180), "bumpsim": (330, 110), "cache_lists": (900, 300),
-          "cache_part": (900, 240), "cache_shelf": (900, 180), "cache_readers": (1080, 240), "cache_nests": (1080, 300),
+          "bump_trace": (200, 300), "store_trace": (330, 180), "bumpsim": (330, 110), "cache_lists": (900, 320),
+          "cache_part": (900, 268), "cache_shelf": (900, 216), "cache_making": (900, 164), "cache_readers": (1080, 240), "cache_nests": (1080, 300),
           "pen_words": (1080, 360), "call_log": (900, 400), "entry_times": (1080, 410), "packed_words": (900, 460),
-          "keyed_hash": (1080, 460), "bump_cache": (900, 120), "replay_runs": (900, 60), "bump_replay": (1080, 60),
+          "keyed_hash": (1080, 460), "bump_cache": (900, 112), "replay_runs": (900, 60), "bump_replay": (1080, 60),
           "access_logs": (1080, 120), "replay_policies": (1080, 180)}
     down = [("bump_rules", "bump_links"), ("bump_state", "bump_rules"), ("bump_core", "bump_state"),
             ("bump_word", "bump_rules"), ("bump_steps", "bump_word"), ("bump_readers", "bump_steps"),
@@ -106,14 +106,15 @@ def crates():
             ("bump_handles", "bump_parts"), ("bump_c", "bump_handles"), ("trace_lines", "bump_rules"),
             ("bump_trace", "trace_lines"), ("bump_trace", "bump_core"), ("store_trace", "bump_trace"), ("bumpsim", "store_trace"),
             ("cache_shelf", "cache_part"), ("cache_part", "cache_lists"),
-            ("cache_readers", "cache_nests"), ("cache_nests", "pen_words"), ("bump_cache", "cache_shelf"), ("replay_runs", "bump_cache"),
+            ("cache_readers", "cache_nests"), ("cache_nests", "pen_words"), ("cache_making", "cache_shelf"), ("bump_cache", "cache_making"),
+            ("replay_runs", "bump_cache"),
             ("bump_replay", "access_logs")]
     used = {"bump_core", "bump_store", "bump_c", "bumpsim", "bump_links", "bump_cache", "bump_replay"}
     boxes = [(x, y, 130, name, MOVE if name in used else STEP) for name, (x, y) in at.items()]
     arrows = [([(at[a][0] + 65, at[a][1] + 33), (at[b][0] + 65, at[b][1])], "", None) for a, b in down]
     arrows += [([(460, 196), (500, 196), (500, 153)], "", None), ([(620, 76), (585, 76)], "", None),
-               ([(900, 136), (750, 190)], "", None), ([(900, 316), (750, 262)], "", None), ([(1030, 256), (1080, 310)], "", None),
-               ([(1030, 142), (1050, 142), (1050, 250), (1080, 250)], "", None),
+               ([(900, 180), (750, 190)], "", None), ([(900, 336), (750, 262)], "", None), ([(1030, 284), (1080, 310)], "", None),
+               ([(1030, 180), (1050, 180), (1050, 250), (1080, 250)], "", None),
                ([(1080, 76), (1030, 76)], "", None), ([(1210, 76), (1225, 76), (1225, 196), (1210, 196)], "", None),
                ([(1030, 88), (1055, 88), (1055, 650), (20, 650), (20, 290), (240, 290), (240, 300)], "", None)]
     titles = [(20, 28, "Who stands on whom: an arrow goes to what is below"), (60, 360, "the World"),
