@@ -1,5 +1,5 @@
 -- What a cache is opened from, and what it is once it is opened.
-use Rattle.std.specs.Prelude.{◌≡◌, ℕ, zero, suc, ◌+◌, ◌*◌, ◌<◌, List, [], length, replicate, slice_get, option_map, All, None, Some}
+use Rattle.std.specs.Prelude.{◌≡◌, ℕ, suc, ◌+◌, ◌*◌, ◌<◌, List, [], length, replicate, slice_get, option_map, All, None, Some}
 use mathlib.Core.List.{IsPrefix}
 use Rattle.atomic_table.specs.Seated.{TableId}
 use Rattle.bump_rules.specs.declared.configs.Config.{Config}
@@ -13,7 +13,6 @@ use Rattle.call_log.specs.Logs.{calls_of, state_of}
 use Rattle.cache_readers.specs.Readers.{new_reader}
 use Rattle.cache_lists.specs.Counts.{no_evictions, no_flow}
 use Rattle.cache_shelf.specs.Shelves.{ShelfView}
-use Rattle.cache_shelf.specs.declared.limits.Limits.{Limits}
 use Rattle.cache_making.specs.declared.config.CacheConfig.{CacheConfig}
 use Rattle.cache_making.specs.Configs.{IsStoreOf, class_of, first_cache_fault, items_in}
 use Rattle.cache_making.specs.Making.{chunks_before, limits_of}

@@ -1,5 +1,5 @@
 //! A cache is opened.
-ghost use Rattle.std.specs.Prelude.{◌≡◌, ◌<◌, ◌≤◌, ℕ, IfOk, length};
+ghost use Rattle.std.specs.Prelude.{◌≡◌, ◌<◌, ℕ, IfOk, length};
 ghost use Rattle.bump_cache.specs.Opening.{AreNewReaders, IsNewPart, most_callers};
 
 use crate::blanks::CacheBlank;

@@ -1,13 +1,13 @@
 //! A reader of a cache.
 ghost use Rattle.std.specs.Prelude.{◌≡◌, ◌+◌, ◌≤◌, true, false, length, All, IfSome, IfNone};
-ghost use Rattle.cache_readers.specs.Readers.{CountsHit, CountsNothing, KeepsRing, Misses, ReadsNothing};
+ghost use Rattle.cache_readers.specs.Readers.{CountsHit, CountsNothing, Misses, ReadsNothing};
 ghost use Rattle.cache_making.specs.Choosing.{IsPartCount};
 ghost use Rattle.bump_cache.specs.Opening.{most_words};
 ghost use Rattle.bump_cache.specs.Pairs.{IsPair};
 ghost use Rattle.bump_cache.specs.Readers.{FindsValue, HitsItem, HoldsValue, InPart, KeepsRings, PeeksValue, SeesItem};
 ghost use Rattle.cache_making.specs.Sums.{AddsUp, bumps_of, dropped_of, hits_of, misses_of};
 
-use crate::held::{HeldItem, PairHold};
+use crate::held::HeldItem;
 use crate::law::{MOST_WORDS, PairLaw};
 use crate::looking::{get_in, hold_in, peek_in, see_in};
 use bump_heads::Name;

@@ -1,6 +1,6 @@
 //! What a cache is made from.
 ghost use Rattle.std.specs.Prelude.{◌≡◌, ◌*◌, ◌≤◌, ◌<◌, min, IfOk, None};
-ghost use Rattle.cache_making.specs.Configs.{IsStoreOf, bounds_of, class_of, even_share, first_cache_fault, items_in, new_config, share_of, spare_in};
+ghost use Rattle.cache_making.specs.Configs.{IsStoreOf, bounds_of, class_of, even_share, first_cache_fault, items_in, new_config, share_of};
 
 use bump_rules::{CACHE_REFS, ClassConfig, Classes, Config, MAX_CAPACITY, MAX_CHUNKS};
 use cache_shelf::Bounds;
