@@ -13,17 +13,17 @@ use Rattle.cache_readers.specs.Readers.{ReaderView, new_reader}
 use Rattle.cache_shelf.specs.Shelves.{ShelfView}
 use Rattle.cache_making.specs.declared.config.CacheConfig.{CacheConfig}
 use Rattle.cache_making.specs.Configs.{IsStoreOf}
-use Rattle.cache_making.specs.Making.{AreMadeShelves, IsMadeShelf}
+use Rattle.cache_making.specs.Making.{AreMadeShelves, IsMadeShelf, chunks_before}
 use Rattle.bump_cache.specs.Opening.{AreNewReaders, BeginsAll, CacheBlankView, IsNewPart, IsNewReader, IsNewShelf, IsWide}
 use Rattle.bump_cache.specs.Readers.{CacheReaderView, rings_of}
 use Rattle.bump_cache.specs.States.{PartState}
 
 -- a new reader of a worker sends into the worker's ring
-ring_of_reader : (store : Config) (worker : Option WorkerState)
-    → option_map (λ (part : ReaderView). part.worker.sender.ring) (option_map (new_reader store) worker)
+ring_of_reader : (store : Config) (chunk : ℕ) (worker : Option WorkerState)
+    → option_map (λ (part : ReaderView). part.worker.sender.ring) (option_map (new_reader store chunk) worker)
     ≡ option_map (λ (w : WorkerState). w.sender.ring) worker
-ring_of_reader store None = refl
-ring_of_reader store (Some worker) = refl
+ring_of_reader store chunk None = refl
+ring_of_reader store chunk (Some worker) = refl
 
 module _ (config : CacheConfig) (store : Config) (workers : List WorkerState) (lanes : List LaneView)
     (readers : List CacheReaderView) (rings : worker_rings workers ≡ raw_rings lanes)
@@ -46,7 +46,7 @@ module _ (config : CacheConfig) (store : Config) (workers : List WorkerState) (l
       ∙ (sym (slice_get-map ring_of_lane lanes (part * config.readers + number))
       ∙ (ap (λ (rs : List Ring). slice_get rs (part * config.readers + number)) (sym rings)
       ∙ (slice_get-map ring_of_worker workers (part * config.readers + number)
-      ∙ (sym (ring_of_reader store (slice_get workers (part * config.readers + number)))
+      ∙ (sym (ring_of_reader store (chunks_before config part) (slice_get workers (part * config.readers + number)))
       ∙ (ap (option_map ring_of_part) (sym ((made number reader had).each part low))
       ∙ sym (slice_get-map ring_of_part reader.parts part)))))))
 

@@ -7,7 +7,7 @@ use Rattle.bump_rules.specs.declared.configs.Config.{Config}
 use Rattle.bump_parts.specs.Workers.{WorkerState}
 use Rattle.cache_readers.specs.Readers.{ReaderView}
 use Rattle.cache_making.specs.declared.config.CacheConfig.{CacheConfig}
-use Rattle.cache_making.specs.Making.{AreRows}
+use Rattle.cache_making.specs.Making.{AreRows, chunks_before}
 use Rattle.cache_making.proofs.Places.{get_within}
 use Rattle.bump_cache.specs.Opening.{IsNewReader}
 use Rattle.bump_cache.specs.Readers.{CacheReaderView, readers_by}
@@ -15,7 +15,7 @@ use Rattle.bump_cache.specs.Readers.{CacheReaderView, readers_by}
 -- rows of all parts are those of new readers
 pub rows_all : (config : CacheConfig) (store : Config) (workers : List WorkerState) (rows : List (List ReaderView))
     (parts number : ℕ) (reader : CacheReaderView) → parts ≡ config.parts
-    → AreRows store config.readers parts workers rows
+    → AreRows store (chunks_before config) config.readers parts workers rows
     → slice_get (map (readers_by config.seed) rows) number ≡ Some reader
     → IsNewReader config store workers number reader
 rows_all config store workers rows parts number reader all are had =

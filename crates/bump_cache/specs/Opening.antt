@@ -39,14 +39,15 @@ pub record IsCacheBlank (blank : BlankView) (store : Config) (config : CacheConf
   pub store_of : IsStoreOf config store
   pub no_fault : first_cache_fault config ≡ None
 
--- The reader of this number got nothing yet: in each part it has one of the new workers, which are numbered part by
--- part.
+-- The reader of this number got nothing yet: in each part it searches the index of the part's chunks, and has one of the
+-- new workers, which are numbered part by part.
 pub record IsNewReader (config : CacheConfig) (store : Config) (workers : List WorkerState) (number : ℕ)
     (reader : CacheReaderView) : Type 0 where
   pub seed : reader.seed ≡ config.seed
   pub parts : length reader.parts ≡ config.parts
   pub each : (part : ℕ) → part < config.parts
-      → slice_get reader.parts part ≡ option_map (new_reader store) (slice_get workers (part * config.readers + number))
+      → slice_get reader.parts part ≡ option_map (new_reader store (chunks_before config part))
+      (slice_get workers (part * config.readers + number))
 
 -- These are the readers of a cache of this configuration that was just opened, whose store's workers made no step.
 pub record AreNewReaders (config : CacheConfig) (readers : List CacheReaderView) : Type 0 where

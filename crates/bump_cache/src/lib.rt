@@ -19,7 +19,6 @@ mod numbered;
 mod opening;
 mod pairs;
 mod readers;
-mod rows;
 mod states;
 mod statistics;
 mod tending;

@@ -1,19 +1,42 @@
-//! The locks of a cache's parts, when it is opened.
-ghost use Rattle.std.specs.Prelude.{◌≡◌, ◌+◌, ◌<◌, ◌≤◌, ◌^◌, IfOk, All, length, vec_len};
-ghost use Rattle.bump_cache.specs.Opening.{BeginsAll, IsWide};
+//! The readers and the locks of a cache, when it is opened.
+ghost use Rattle.std.specs.Prelude.{◌≡◌, ◌+◌, ◌<◌, ◌≤◌, ◌^◌, IfOk, All, length, map, vec_len};
+ghost use Rattle.cache_making.specs.Choosing.{IsPartCount};
 ghost use Rattle.cache_making.specs.Configs.{most_parts};
+ghost use Rattle.bump_cache.specs.Opening.{BeginsAll, IsWide, most_words};
+ghost use Rattle.bump_cache.specs.Readers.{readers_by};
 
 use crate::law::PairLaw;
 use crate::numbered::Numbered;
 use crate::pairs::Pairs;
+use crate::readers::CacheReader;
 use crate::states::CacheState;
 use bump_heads::Name;
+use cache_making::PartReaders;
 use cache_shelf::Shelf;
 use call_log::{Caller, LogName, Logged, Logs};
 use crossbeam_utils::CachePadded;
+use keyed_hash::Seed;
 use packed_words::Packed;
 use std::alloc::{AllocError, Global};
 use std::sync::{Mutex, Wait};
+
+/// The readers that these rows make.
+pub(crate) fn make_readers<N: Name, K: Packed, V: Packed>(
+    alloc: Global,
+    rows: Vec<PartReaders<N, PairLaw<K, V>>>,
+    seed: Seed,
+) -> Result<Vec<CacheReader<N, K, V>>, AllocError>
+    requires few { K.width + V.width ≤ N.table.slots }
+    requires words { K.width + V.width ≤ most_words }
+    requires parts { All (λ row. IsPartCount (length row)) rows.items }
+    ensures { IfOk result (λ readers. readers.items ≡ map (readers_by seed) rows.items) }
+{
+    let mut readers = Vec::with_capacity(alloc, rows.len())?;
+    for row in rows {
+        readers.push(CacheReader::new(row.parts, seed))?;
+    }
+    Ok(readers)
+}
 
 /// Each shelf, with room for what a call packs and unpacks.
 pub(crate) fn make_pairs<N: Name, K: Packed, V: Packed>(

@@ -5,9 +5,8 @@ ghost use Rattle.bump_cache.specs.Opening.{AreNewReaders, IsNewPart, most_caller
 use crate::blanks::CacheBlank;
 use crate::caches::Cache;
 use crate::law::PairLaw;
-use crate::making::{make_locks, make_pairs};
+use crate::making::{make_locks, make_pairs, make_readers};
 use crate::readers::CacheReader;
-use crate::rows::make_readers;
 use crate::states::CacheState;
 use bump_heads::Name;
 use bump_parts::StoreParts;

@@ -89,17 +89,19 @@ pub record AreMadeShelves (config : CacheConfig) (key_width value_width : ℕ) (
   pub each : (part : ℕ) → part < count → (shelf : ShelfView) × (slice_get shelves part ≡ Some shelf)
       × IsMadeShelf config part key_width value_width lanes shelf
 
--- Each row has a reader more: those of the workers that come next, in their order.
-pub record AddsPart (store : Config) (workers : List WorkerState) (before after : List (List ReaderView)) : Type 0 where
+-- Each row has a reader more, of the index with this first chunk: those of the workers that come next, in their order.
+pub record AddsPart (store : Config) (chunk : ℕ) (workers : List WorkerState) (before after : List (List ReaderView))
+    : Type 0 where
   pub count : length after ≡ length before
   pub each : (number : ℕ) (row : List ReaderView) → slice_get before number ≡ Some row
       → (worker : WorkerState) × (slice_get workers number ≡ Some worker)
-      × (slice_get after number ≡ Some (row ++ new_reader store worker ∷ []))
+      × (slice_get after number ≡ Some (row ++ new_reader store chunk worker ∷ []))
 
--- The rows are those of readers of so many parts, by workers that are numbered part by part.
-pub record AreRows (store : Config) (readers parts : ℕ) (workers : List WorkerState) (rows : List (List ReaderView))
-    : Type 0 where
+-- The rows are those of readers of so many parts, by the first chunk of each part, and by workers that are numbered part
+-- by part.
+pub record AreRows (store : Config) (chunks : ℕ → ℕ) (readers parts : ℕ) (workers : List WorkerState)
+    (rows : List (List ReaderView)) : Type 0 where
   pub count : length rows ≡ readers
   pub length_is : (number : ℕ) (row : List ReaderView) → slice_get rows number ≡ Some row → length row ≡ parts
   pub each : (number : ℕ) (row : List ReaderView) → slice_get rows number ≡ Some row → (part : ℕ) → part < parts
-      → slice_get row part ≡ option_map (new_reader store) (slice_get workers (part * readers + number))
+      → slice_get row part ≡ option_map (new_reader store (chunks part)) (slice_get workers (part * readers + number))

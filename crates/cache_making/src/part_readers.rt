@@ -2,7 +2,7 @@
 ghost use Rattle.std.specs.Prelude.{◌≡◌, ◌*◌, ◌<◌, ◌≤◌, ◌++◌, ◌∷◌, ℕ, IfOk, Some, [], drop, length, slice_get};
 ghost use Rattle.std.specs.Arc.{arc_value};
 ghost use Rattle.std.specs.Vec.Iter.{into_iter_items};
-ghost use Rattle.cache_making.specs.Making.{AddsPart, AreRows};
+ghost use Rattle.cache_making.specs.Making.{AddsPart, AreNewIndexes, AreRows, chunks_before};
 
 use crate::config::CacheConfig;
 use bump_heads::{Heads, Name};
@@ -74,8 +74,8 @@ fn add_part<N: Name, L: RowLaw>(
     index: &Index,
 ) -> Result<(), AllocError>
     requires { length rows.old ≤ length (into_iter_items workers.old) }
-    ensures rows { IfOk result (λ done. AddsPart (arc_value heads.now) (into_iter_items workers.old) rows.old
-        rows.new) }
+    ensures rows { IfOk result (λ done. AddsPart (arc_value heads.now) index.now.first (into_iter_items workers.old)
+        rows.old rows.new) }
     ensures rest { IfOk result (λ done. into_iter_items workers.new
         ≡ drop (length rows.old) (into_iter_items workers.old)) }
 {
@@ -84,14 +84,15 @@ fn add_part<N: Name, L: RowLaw>(
             unreachable!()
         };
         let heads = Arc::try_clone(heads)?;
-        let reader = WordReader::new(worker, heads, index.reader()?);
+        let nests = index.reader()?;
+        let reader = WordReader::new(worker, heads, nests);
         rows[number].push(reader)?;
     }
     Ok(())
 }
 
 /// What each reader of a cache reads by, by the workers of its store, which are numbered part by part, and the indexes
-/// of the parts. The configuration has no fault. It is refused only for want of memory.
+/// of the parts. It is refused only for want of memory.
 pub fn make_part_readers<N: Name, L: RowLaw>(
     alloc: Global,
     heads: &Arc<Heads<N, L>, Global>,
@@ -100,9 +101,9 @@ pub fn make_part_readers<N: Name, L: RowLaw>(
     config: &CacheConfig,
 ) -> Result<Vec<PartReaders<N, L>>, AllocError>
     requires workers { length workers.items ≡ config.now.parts * config.now.readers }
-    requires indexes { length indexes.now ≡ config.now.parts }
-    ensures { IfOk result (λ rows. AreRows (arc_value heads.now) config.now.readers config.now.parts workers.items
-        rows.items) }
+    requires indexes { AreNewIndexes config.now config.now.parts indexes.now }
+    ensures { IfOk result (λ rows. AreRows (arc_value heads.now) (chunks_before config.now) config.now.readers
+        config.now.parts workers.items rows.items) }
 {
     let mut rows = empty_rows(alloc, config)?;
     let mut workers = workers.into_iter();

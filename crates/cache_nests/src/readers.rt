@@ -1,5 +1,5 @@
 //! Readers, which search the index without a lock while the writer changes it.
-ghost use Rattle.std.specs.Prelude.{◌≡◌, ◌<◌, ◌+◌, ◌^◌, ℕ, true, false, IfOk, IfSome, IfNone};
+ghost use Rattle.std.specs.Prelude.{◌≡◌, ◌<◌, ◌+◌, ◌^◌, true, false, IfOk, IfSome, IfNone};
 ghost use Rattle.std.specs.Arc.{arc_value};
 ghost use Rattle.cache_nests.specs.Tags.{tag_of};
 ghost use Rattle.cache_nests.specs.Places.{home_of, nest_behind};

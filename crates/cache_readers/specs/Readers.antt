@@ -1,23 +1,25 @@
 -- What contracts see of a reader of a cache, and what a get that found nothing leaves of it.
-use Rattle.std.specs.Prelude.{◌≡◌, ℕ, ◌+◌, List, min}
+use Rattle.std.specs.Prelude.{◌≡◌, ℕ, ◌+◌, ◌%◌, ◌^◌, List}
 use Rattle.bump_rules.specs.declared.configs.Config.{Config}
 use Rattle.bump_parts.specs.Workers.{WorkerState}
 use Rattle.cache_readers.specs.Looks.{FindsNothing}
 
--- the configuration of the cache's store, the worker, and how many of its gets found something, and how many nothing
+-- the configuration of the cache's store, the first chunk of the index that it searches, the worker, and how many of its
+-- gets found something, and how many nothing
 pub record ReaderView : Type 0 where
   pub config : Config
+  pub first : ℕ
   pub worker : WorkerState
   pub hits : ℕ
   pub misses : ℕ
 
--- one more, as far as the count goes
+-- one more, in a count of 64 bits: behind its greatest number comes 0
 abbrev pub one_more : ℕ → ℕ
-one_more count = min (count + 1) 18446744073709551615
+one_more count = (count + 1) % 2 ^ 64
 
--- a reader that got nothing yet, with this worker of a store of this configuration
-abbrev pub new_reader : Config → WorkerState → ReaderView
-new_reader config worker = record { config = config; worker = worker; hits = 0; misses = 0 }
+-- a reader that got nothing yet, of a store of this configuration and of the index with this first chunk, with this worker
+abbrev pub new_reader : Config → ℕ → WorkerState → ReaderView
+new_reader config first worker = record { config = config; first = first; worker = worker; hits = 0; misses = 0 }
 
 -- the reader's worker made steps, and nothing is counted
 abbrev pub CountsNothing : ReaderView → ReaderView → Type 0

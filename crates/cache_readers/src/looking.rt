@@ -170,14 +170,12 @@ pub(crate) fn find<N: Name, L: RowLaw>(
     None
 }
 
-// One more, as far as the count goes.
+// One more. A count that stopped at its greatest number would cost each get a comparison.
 #[inline(always)]
 fn count_one(count: &mut u64)
     ensures { count.new ≡ one_more count.old }
 {
-    if let Some(more) = count.checked_add(1) {
-        *count = more;
-    }
+    *count = count.wrapping_add(1);
 }
 
 // Finds the item of a key, touches it and counts a hit, and answers the hold of it; or counts a miss.

@@ -33,6 +33,7 @@ impl<N: Name, L: RowLaw> Model for WordReader<N, L> {
 
     ghost view = { λ r. record {
       config = arc_value r.heads;
+      first = r.index.first;
       worker = r.worker;
       hits = r.hits;
       misses = r.misses;
@@ -47,7 +48,7 @@ impl<N: Name, L: RowLaw> WordReader<N, L> {
         heads: Arc<Heads<N, L>, Global>,
         index: IndexReader,
     ) -> WordReader<N, L>
-        ensures { result ≡ new_reader (arc_value heads) worker }
+        ensures { result ≡ new_reader (arc_value heads) index.first worker }
     {
         WordReader {
             worker,
@@ -210,14 +211,14 @@ impl<N: Name, L: RowLaw> WordReader<N, L> {
         let _search = self.index.search(hash);
     }
 
-    /// How many gets found something (memcached's `get_hits`), at most 2^64 - 1.
+    /// How many gets found something (memcached's `get_hits`), in 64 bits: behind 2^64 - 1 it begins anew at 0.
     pub fn hits(&self) -> u64
         ensures { result ≡ self.now.hits }
     {
         self.hits
     }
 
-    /// How many gets found nothing (memcached's `get_misses`), at most 2^64 - 1.
+    /// How many gets found nothing (memcached's `get_misses`), in the same way.
     pub fn misses(&self) -> u64
         ensures { result ≡ self.now.misses }
     {

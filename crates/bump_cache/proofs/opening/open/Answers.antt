@@ -18,7 +18,7 @@ returns-clause-count g c = ap length c.in_ok-readers.ensures ∙ (length-map _ _
 pub make_readers-requires-clause-parts : goal.make_readers-requires-clause-parts
 make_readers-requires-clause-parts g c =
     let is = sound c.blank.inside.config c.blank.invariant.0.no_fault in
-    rows_counted _ _ _ _ _ c.in_ok-rows.ensures is.parts_least is.parts_most
+    rows_counted _ _ _ _ _ _ c.in_ok-rows.ensures is.parts_least is.parts_most
 
 pub make_pairs-requires-clause-words : goal.make_pairs-requires-clause-words
 make_pairs-requires-clause-words g c =

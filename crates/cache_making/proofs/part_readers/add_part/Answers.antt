@@ -1,4 +1,4 @@
-use Rattle.std.proofs.Common.{rules, ◌≡◌, ◌++◌, ◌<◌, ◌+◌, List, [], ◌∷◌, length, drop, get_or, refl, sym, ap, ◌∙◌, subst, arith}
+use Rattle.std.proofs.Common.{rules, ◌≡◌, ℕ, ◌++◌, ◌<◌, ◌+◌, List, [], ◌∷◌, length, drop, get_or, refl, sym, ap, ◌∙◌, subst, arith}
 use Rattle.std.specs.Arc.{arc_value}
 use Rattle.std.specs.Prelude.{slice_set}
 use Rattle.std.specs.Vec.Iter.{into_iter_items}
@@ -10,7 +10,7 @@ use Rattle.cache_making.proofs.RowLemmas.{AddsFirst, adds_all, adds_next, adds_n
 use Rattle.cache_making.proofs.part_readers.add_part.Goals as goal
 
 pub loop-number-init : goal.loop-number-init
-loop-number-init g c = record { rows = adds_none _ _ _; rest = refl }
+loop-number-init g c = record { rows = adds_none _ _ _ _; rest = refl }
 
 pub unreachable-requires : goal.unreachable-requires
 unreachable-requires g c =
@@ -26,6 +26,7 @@ loop-number-preserved g c =
     let so_far = c.loop-number.invariant in
     let number = c.loop-number.number in
     let store = arc_value c.args.heads.now in
+    let chunk = c.args.index.now.first in
     let workers = into_iter_items c.args.workers.now in
     let row = get_or c.loop-number.rows number c.index-rows-number.result in
     let low : number < length c.args.rows.now = omega (arith, c.loop-number-test.true) in
@@ -33,19 +34,19 @@ loop-number-preserved g c =
     let next = drop_first workers number c.in-Some.worker _ (sym so_far.rest ∙ c.in-Some.ensures.items) in
     let at = slice_get-get_or c.loop-number.rows number c.index-rows-number.result room in
     let heads : arc_value c.in_ok-heads.heads ≡ store = search rules in
-    let grown : c.push.new.self ≡ row ++ new_reader store c.in-Some.worker ∷ [] =
+    let grown : c.push.new.self ≡ row ++ new_reader store chunk c.in-Some.worker ∷ [] =
     c.in_ok-push.ensures ∙ ap (λ (r : ReaderView). row ++ r ∷ []) (c.new-reader.ensures
-    ∙ (ap (new_reader (arc_value c.in_ok-heads.heads)) c.worker.view_is
-    ∙ ap (λ (config : Config). new_reader config c.in-Some.worker) heads)) in
+    ∙ (ap (λ (config : Config). new_reader config c.in_ok-nests.nests.first c.in-Some.worker) heads
+    ∙ ap (λ (first : ℕ). new_reader store first c.in-Some.worker) c.in_ok-nests.ensures.first)) in
     record {
-      rows = subst (λ (r : List ReaderView). AddsFirst store workers (number + 1) c.args.rows.now
+      rows = subst (λ (r : List ReaderView). AddsFirst store chunk workers (number + 1) c.args.rows.now
           (slice_set c.loop-number.rows number r)) (sym grown)
-          (adds_next store workers number c.args.rows.now c.loop-number.rows row c.in-Some.worker so_far.rows low at
+          (adds_next store chunk workers number c.args.rows.now c.loop-number.rows row c.in-Some.worker so_far.rows low at
           next.0);
       rest = sym next.1;
     }
 
 pub returns-clause-rows : goal.returns-clause-rows
 returns-clause-rows g c =
-    adds_all _ _ c.loop-number.number _ _ (omega (arith, c.loop-number-test.false, c.loop-number.auto.number-end))
+    adds_all _ _ _ c.loop-number.number _ _ (omega (arith, c.loop-number-test.false, c.loop-number.auto.number-end))
     c.loop-number.invariant.rows

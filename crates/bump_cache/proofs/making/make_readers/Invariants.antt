@@ -4,7 +4,7 @@ use Rattle.std.specs.Vec.Iter.{into_iter_items}
 use Rattle.cache_readers.specs.Readers.{ReaderView}
 use Rattle.cache_making.specs.Choosing.{IsPartCount}
 use Rattle.bump_cache.specs.Readers.{readers_by}
-use Rattle.bump_cache.proofs.rows.make_readers.Given as goal
+use Rattle.bump_cache.proofs.making.make_readers.Given as goal
 
 -- those that were made, and those that are still to come
 abbrev pub invariant-loop-row : goal.invariant-loop-row

@@ -5,7 +5,7 @@ use Rattle.cache_readers.specs.Readers.{ReaderView}
 use Rattle.cache_making.specs.Choosing.{IsPartCount}
 use Rattle.bump_cache.specs.Readers.{CacheReaderView, readers_by}
 use Rattle.cache_making.proofs.Places.{all_rest}
-use Rattle.bump_cache.proofs.rows.make_readers.Goals as goal
+use Rattle.bump_cache.proofs.making.make_readers.Goals as goal
 
 pub loop-row-preserved : goal.loop-row-preserved
 loop-row-preserved g c =
