@@ -2,11 +2,12 @@
  * whether a thread is in a call with it. A handle's second word says which entry is its own, and which of the entry's
  * uses: so an entry is found without a lock, and a copy of a handle that is gone finds another use.
  *
- * This file sees the library's own declarations. Those that the program sees, with two parameters more, are of the
- * functions here, by their symbols: so these have to have the same parameters. */
+ * This file sees the library's own declarations, and the calls that bump_cache.h makes of others. Those that the
+ * program sees, with two parameters more, are of the functions here, by their symbols: so these have to have the same
+ * parameters. */
 #undef BUMP_DEBUG
 #define BUMP_DEBUG_ITSELF
-#include "bump.h"
+#include "bump_cache.h"
 #pragma GCC diagnostic ignored "-Wmissing-prototypes"
 #pragma GCC diagnostic ignored "-Wmissing-declarations"
 
@@ -24,17 +25,22 @@ static bump_store *store_of(struct handle *h) { return (bump_store *)h; }
 static bump_worker *worker_of(struct handle *h) { return (bump_worker *)h; }
 static bump_book *book_of(struct handle *h) { return (bump_book *)h; }
 static bump_lane *lane_of(struct handle *h) { return (bump_lane *)h; }
+static bump_cache *cache_of(struct handle *h) { return (bump_cache *)h; }
+static bump_cache_part *part_of(struct handle *h) { return (bump_cache_part *)h; }
+static bump_cache_reader *reader_of(struct handle *h) { return (bump_cache_reader *)h; }
 
-enum kind { GONE, STORE, WORKER, BOOK, LANE };
-static const char *const KIND[] = { "gone", "store", "worker", "book", "lane" };
+enum kind { GONE, STORE, WORKER, BOOK, LANE, CACHE, CACHE_PART, CACHE_READER };
+static const char *const KIND[] = {
+  "gone", "store", "worker", "book", "lane", "cache", "cache's part", "cache's reader"
+};
 
 struct known {
   void *p;
   uint64_t check;     /* its handle's second word: the number of this entry, and 2^32 x its uses */
   int kind;
   int busy;           /* a thread is in a call with the handle */
-  uint64_t opening;   /* of which bump_open it is, from 1 */
-  uint64_t number;    /* the number that its store was given */
+  uint64_t opening;   /* of which bump_open or bump_cache_open it is, from 1 */
+  uint64_t number;    /* the number that its store was given; a cache has none */
   const char *file;   /* the last call with it */
   int line;
   struct known *next; /* of the entries that are free */
@@ -163,7 +169,8 @@ static const struct known *same_number(uint64_t number, uint64_t opening) {
   pthread_mutex_lock(&changing);
   for (uint32_t i = 1; i < used && !found; i++) {
     const struct known *e = &block[i / BLOCK][i % BLOCK];
-    bool is_open = __atomic_load_n(&e->kind, __ATOMIC_SEQ_CST) != GONE;
+    int kind = __atomic_load_n(&e->kind, __ATOMIC_SEQ_CST);
+    bool is_open = kind != GONE && kind < CACHE;
     if (is_open && e->number == number && e->opening != opening) found = e;
   }
   pthread_mutex_unlock(&changing);
@@ -248,19 +255,19 @@ enum bump_open_answer bump_debug_open(struct handle *store, const bump_config *c
   return answer;
 }
 
-#define TAKE(call_name, kind, part_of)                                                          \
-  bool bump_debug_##call_name(struct handle *store, uint32_t number, struct handle *part, AT) { \
+#define TAKE(call_name, from, from_of, kind, kind_of)                                           \
+  bool bump_debug_##call_name(struct handle *whole, uint32_t number, struct handle *part, AT) { \
     CALL(call_name);                                                                            \
     is_empty(&c, part);                                                                         \
-    struct known *e = enter(&c, store, STORE);                                                  \
-    bool answer = bump_##call_name(store_of(store), number, part_of(part));                     \
+    struct known *e = enter(&c, whole, from);                                                   \
+    bool answer = bump_##call_name(from_of(whole), number, kind_of(part));                      \
     leave(&c);                                                                                  \
     if (answer) give(&c, part, kind, e);                                                        \
     return answer;                                                                              \
   }
-TAKE(take_worker, WORKER, worker_of)
-TAKE(take_book, BOOK, book_of)
-TAKE(take_lane, LANE, lane_of)
+TAKE(take_worker, STORE, store_of, WORKER, worker_of)
+TAKE(take_book, STORE, store_of, BOOK, book_of)
+TAKE(take_lane, STORE, store_of, LANE, lane_of)
 
 /* ------------------------------------------------------------------------------------------------ a worker's calls */
 
@@ -414,3 +421,158 @@ FREE(close, STORE, bump_store)
 FREE(worker_free, WORKER, bump_worker)
 FREE(book_free, BOOK, bump_book)
 FREE(lane_free, LANE, bump_lane)
+
+/* ------------------------------------------------------------------------------------------------------- a cache */
+
+enum bump_cache_open_answer bump_debug_cache_open(struct handle *cache, const bump_cache_config *config, AT) {
+  CALL(cache_open);
+  is_empty(&c, cache);
+  is_there(&c, config);
+  enum bump_cache_open_answer answer = bump_cache_open(cache_of(cache), config);
+  if (answer != BUMP_CACHE_OPEN_DONE) return answer;
+  struct known its = { .opening = __atomic_add_fetch(&openings, 1, __ATOMIC_SEQ_CST) };
+  give(&c, cache, CACHE, &its);
+  return answer;
+}
+TAKE(cache_take_part, CACHE, cache_of, CACHE_PART, part_of)
+TAKE(cache_take_reader, CACHE, cache_of, CACHE_READER, reader_of)
+
+uint32_t bump_debug_cache_part_of(const bump_cache_config *config, const void *key, size_t key_length, AT) {
+  CALL(cache_part_of);
+  is_there(&c, config);
+  is_array(&c, key, key_length);
+  return bump_cache_part_of(config, key, key_length);
+}
+
+bump_cache_got bump_debug_cache_get(struct handle *r, const void *key, size_t key_length, void *value, size_t room,
+                                    uint64_t now, AT) {
+  CALL(cache_get);
+  is_array(&c, key, key_length);
+  is_array(&c, value, room);
+  WITH(r, CACHE_READER, bump_cache_got, bump_cache_get(reader_of(r), key, key_length, value, room, now));
+}
+bump_cache_got_words bump_debug_cache_get_words(struct handle *r, const void *key, size_t key_length, uint64_t now,
+                                                AT) {
+  CALL(cache_get_words);
+  is_array(&c, key, key_length);
+  WITH(r, CACHE_READER, bump_cache_got_words, bump_cache_get_words(reader_of(r), key, key_length, now));
+}
+bump_cache_got bump_debug_cache_hold(struct handle *r, uint32_t hold, const void *key, size_t key_length, uint64_t now,
+                                     AT) {
+  CALL(cache_hold);
+  is_array(&c, key, key_length);
+  WITH(r, CACHE_READER, bump_cache_got, bump_cache_hold(reader_of(r), hold, key, key_length, now));
+}
+void bump_debug_cache_read(struct handle *r, uint32_t hold, uint32_t from, void *bytes, size_t count, AT) {
+  CALL(cache_read);
+  is_array(&c, bytes, count);
+  enter(&c, r, CACHE_READER);
+  bump_cache_read(reader_of(r), hold, from, bytes, count);
+  leave(&c);
+}
+bump_cache_words_of bump_debug_cache_read_words(struct handle *r, uint32_t hold, uint32_t from, AT) {
+  CALL(cache_read_words);
+  WITH(r, CACHE_READER, bump_cache_words_of, bump_cache_read_words(reader_of(r), hold, from));
+}
+bool bump_debug_cache_release(struct handle *r, uint32_t hold, AT) {
+  CALL(cache_release);
+  WITH(r, CACHE_READER, bool, bump_cache_release(reader_of(r), hold));
+}
+bump_cache_counts bump_debug_cache_reader_counts(struct handle *r, AT) {
+  CALL(cache_reader_counts);
+  WITH(r, CACHE_READER, bump_cache_counts, bump_cache_reader_counts(reader_of(r)));
+}
+
+#define PUT(call_name)                                                                                                \
+  bump_cache_put_told bump_debug_##call_name(struct handle *p, const void *key, size_t key_length, const void *value, \
+                                             size_t value_length, uint32_t flags, uint64_t expires, uint64_t now,     \
+                                             AT) {                                                                    \
+    CALL(call_name);                                                                                                  \
+    is_array(&c, key, key_length);                                                                                    \
+    is_array(&c, value, value_length);                                                                                \
+    WITH(p, CACHE_PART, bump_cache_put_told,                                                                          \
+         bump_##call_name(part_of(p), key, key_length, value, value_length, flags, expires, now));                    \
+  }
+PUT(cache_put)
+PUT(cache_add)
+PUT(cache_replace)
+
+bump_cache_put_told bump_debug_cache_update(struct handle *p, const void *key, size_t key_length, const void *value,
+                                            size_t value_length, uint64_t now, AT) {
+  CALL(cache_update);
+  is_array(&c, key, key_length);
+  is_array(&c, value, value_length);
+  WITH(p, CACHE_PART, bump_cache_put_told,
+       bump_cache_update(part_of(p), key, key_length, value, value_length, now));
+}
+bump_cache_put_told bump_debug_cache_touch(struct handle *p, const void *key, size_t key_length, uint64_t expires,
+                                           uint64_t now, AT) {
+  CALL(cache_touch);
+  is_array(&c, key, key_length);
+  WITH(p, CACHE_PART, bump_cache_put_told, bump_cache_touch(part_of(p), key, key_length, expires, now));
+}
+bump_cache_looked bump_debug_cache_look(struct handle *p, const void *key, size_t key_length, void *value, size_t room,
+                                        uint64_t now, AT) {
+  CALL(cache_look);
+  is_array(&c, key, key_length);
+  is_array(&c, value, room);
+  WITH(p, CACHE_PART, bump_cache_looked, bump_cache_look(part_of(p), key, key_length, value, room, now));
+}
+bump_cache_looked bump_debug_cache_find(struct handle *p, const void *key, size_t key_length, uint64_t now, AT) {
+  CALL(cache_find);
+  is_array(&c, key, key_length);
+  WITH(p, CACHE_PART, bump_cache_looked, bump_cache_find(part_of(p), key, key_length, now));
+}
+bump_cache_words_of bump_debug_cache_found_words(struct handle *p, uint32_t from, AT) {
+  CALL(cache_found_words);
+  WITH(p, CACHE_PART, bump_cache_words_of, bump_cache_found_words(part_of(p), from));
+}
+bool bump_debug_cache_remove(struct handle *p, const void *key, size_t key_length, uint64_t now, AT) {
+  CALL(cache_remove);
+  is_array(&c, key, key_length);
+  WITH(p, CACHE_PART, bool, bump_cache_remove(part_of(p), key, key_length, now));
+}
+void bump_debug_cache_tend(struct handle *p, uint64_t now, AT) {
+  CALL(cache_tend);
+  enter(&c, p, CACHE_PART);
+  bump_cache_tend(part_of(p), now);
+  leave(&c);
+}
+void bump_debug_cache_clear(struct handle *p, AT) {
+  CALL(cache_clear);
+  enter(&c, p, CACHE_PART);
+  bump_cache_clear(part_of(p));
+  leave(&c);
+}
+uint32_t bump_debug_cache_chunks(struct handle *p, AT) {
+  CALL(cache_chunks);
+  WITH(p, CACHE_PART, uint32_t, bump_cache_chunks(part_of(p)));
+}
+bump_cache_entry_of bump_debug_cache_each(struct handle *p, uint32_t number, void *key, size_t key_room, void *value,
+                                          size_t value_room, uint64_t now, AT) {
+  CALL(cache_each);
+  is_array(&c, key, key_room);
+  is_array(&c, value, value_room);
+  WITH(p, CACHE_PART, bump_cache_entry_of,
+       bump_cache_each(part_of(p), number, key, key_room, value, value_room, now));
+}
+bump_cache_entry_of bump_debug_cache_entry(struct handle *p, uint32_t number, uint64_t now, AT) {
+  CALL(cache_entry);
+  WITH(p, CACHE_PART, bump_cache_entry_of, bump_cache_entry(part_of(p), number, now));
+}
+bump_cache_words_of bump_debug_cache_entry_key(struct handle *p, uint32_t from, AT) {
+  CALL(cache_entry_key);
+  WITH(p, CACHE_PART, bump_cache_words_of, bump_cache_entry_key(part_of(p), from));
+}
+bump_cache_words_of bump_debug_cache_entry_value(struct handle *p, uint32_t from, AT) {
+  CALL(cache_entry_value);
+  WITH(p, CACHE_PART, bump_cache_words_of, bump_cache_entry_value(part_of(p), from));
+}
+bump_cache_stats_of bump_debug_cache_stats(struct handle *p, AT) {
+  CALL(cache_stats);
+  WITH(p, CACHE_PART, bump_cache_stats_of, bump_cache_stats(part_of(p)));
+}
+
+FREE(cache_close, CACHE, bump_cache)
+FREE(cache_part_free, CACHE_PART, bump_cache_part)
+FREE(cache_reader_free, CACHE_READER, bump_cache_reader)

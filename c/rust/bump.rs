@@ -1,6 +1,7 @@
 //! bump for Rust, over the C library: its types make the promises of `bump.h` hold. A store's parts are values; a
 //! `Worker` may go to another thread and is never shared (`!Sync`); a `Hold` borrows its worker and gives itself back;
-//! a `Book` is lent by the caller's own `Mutex<Book>`. `std` alone, and no `unsafe` for whoever uses it.
+//! a `Book` is lent by the caller's own `Mutex<Book>`. `std` alone, and no `unsafe` for whoever uses it. The module
+//! `cache` has a whole cache, as `bump_cache.h`.
 //!
 //! ```
 //! let config = bump::Config { workers: 1, capacity: 16, refs_limit: 8, first_generation: 1, words: 0 };
@@ -17,6 +18,9 @@ use std::ops::Deref;
 use std::sync::atomic::{AtomicU64, Ordering};
 
 mod answers;
+pub mod cache;
+#[cfg(test)]
+mod cache_tests;
 mod raw;
 #[cfg(test)]
 mod tests;

@@ -1,4 +1,5 @@
-//! The C library, as `bump.h` declares it. Its enums are numbers of 32 bits.
+//! The C library, as `bump.h` and `bump_cache.h` declare it, but what the latter makes itself of other calls. Its enums
+//! are numbers of 32 bits.
 use std::ffi::c_void;
 
 #[repr(C)]
@@ -121,6 +122,60 @@ pub struct Rested {
     pub counts: super::Counts,
     pub applied: u64,
 }
+#[repr(C)]
+pub struct CacheConfig {
+    pub seed_first: u64,
+    pub seed_second: u64,
+    pub temporary: u64,
+    pub key_bytes: u32,
+    pub value_bytes: u32,
+    pub items: u32,
+    pub spare: u32,
+    pub hot: u32,
+    pub warm: u32,
+    pub hot_age: u32,
+    pub warm_age: u32,
+    pub parts: u32,
+    pub readers: u32,
+    pub ring: u32,
+    pub looks: u32,
+    pub holds: u32,
+}
+#[repr(C)]
+pub struct CacheGot {
+    pub answer: u32,
+    pub flags: u32,
+    pub length: u64,
+}
+#[repr(C)]
+pub struct CacheWords {
+    pub words: [u64; super::MOST_WORDS],
+}
+#[repr(C)]
+pub struct CacheGotWords {
+    pub got: CacheGot,
+    pub words: [u64; super::MOST_WORDS],
+}
+#[repr(C)]
+pub struct CachePut {
+    pub answer: u32,
+    pub evicted: bool,
+}
+#[repr(C)]
+pub struct CacheLooked {
+    pub answer: u32,
+    pub flags: u32,
+    pub length: u64,
+    pub expires: u64,
+}
+#[repr(C)]
+pub struct CacheEntry {
+    pub found: bool,
+    pub flags: u32,
+    pub key_length: u64,
+    pub value_length: u64,
+    pub expires: u64,
+}
 
 extern "C" {
     pub fn bump_version() -> u32;
@@ -162,4 +217,76 @@ extern "C" {
     pub fn bump_worker_free(worker: Handle);
     pub fn bump_book_free(book: Handle);
     pub fn bump_lane_free(lane: Handle);
+}
+
+/// A call that takes a part out, or a reader.
+pub type CacheTakes = unsafe extern "C" fn(*mut Handle, u32, *mut Handle) -> bool;
+/// A call that tells words of what was found.
+pub type CacheTells = unsafe extern "C" fn(*mut Handle, u32) -> CacheWords;
+/// A call that puts.
+pub type CachePuts = unsafe extern "C" fn(*mut Handle, *const u8, usize, *const u8, usize, u32, u64, u64) -> CachePut;
+
+extern "C" {
+    pub fn bump_cache_defaults(items: u32, readers: u32, key_bytes: u32, value_bytes: u32) -> CacheConfig;
+    pub fn bump_cache_open(out: *mut Handle, config: *const CacheConfig) -> u32;
+    pub fn bump_cache_take_part(cache: *mut Handle, number: u32, part: *mut Handle) -> bool;
+    pub fn bump_cache_take_reader(cache: *mut Handle, number: u32, part: *mut Handle) -> bool;
+    pub fn bump_cache_part_of(config: *const CacheConfig, key: *const u8, key_length: usize) -> u32;
+    pub fn bump_cache_get_words(reader: *mut Handle, key: *const u8, key_length: usize, now: u64) -> CacheGotWords;
+    pub fn bump_cache_hold(reader: *mut Handle, hold: u32, key: *const u8, key_length: usize, now: u64) -> CacheGot;
+    pub fn bump_cache_read_words(reader: *mut Handle, hold: u32, from: u32) -> CacheWords;
+    pub fn bump_cache_release(reader: *mut Handle, hold: u32) -> bool;
+    pub fn bump_cache_reader_counts(reader: *mut Handle) -> super::cache::Counts;
+    pub fn bump_cache_put(
+        part: *mut Handle,
+        key: *const u8,
+        key_length: usize,
+        value: *const u8,
+        value_length: usize,
+        flags: u32,
+        expires: u64,
+        now: u64,
+    ) -> CachePut;
+    pub fn bump_cache_add(
+        part: *mut Handle,
+        key: *const u8,
+        key_length: usize,
+        value: *const u8,
+        value_length: usize,
+        flags: u32,
+        expires: u64,
+        now: u64,
+    ) -> CachePut;
+    pub fn bump_cache_replace(
+        part: *mut Handle,
+        key: *const u8,
+        key_length: usize,
+        value: *const u8,
+        value_length: usize,
+        flags: u32,
+        expires: u64,
+        now: u64,
+    ) -> CachePut;
+    pub fn bump_cache_update(
+        part: *mut Handle,
+        key: *const u8,
+        key_length: usize,
+        value: *const u8,
+        value_length: usize,
+        now: u64,
+    ) -> CachePut;
+    pub fn bump_cache_touch(part: *mut Handle, key: *const u8, key_length: usize, expires: u64, now: u64) -> CachePut;
+    pub fn bump_cache_find(part: *mut Handle, key: *const u8, key_length: usize, now: u64) -> CacheLooked;
+    pub fn bump_cache_found_words(part: *mut Handle, from: u32) -> CacheWords;
+    pub fn bump_cache_remove(part: *mut Handle, key: *const u8, key_length: usize, now: u64) -> bool;
+    pub fn bump_cache_tend(part: *mut Handle, now: u64);
+    pub fn bump_cache_clear(part: *mut Handle);
+    pub fn bump_cache_chunks(part: *mut Handle) -> u32;
+    pub fn bump_cache_entry(part: *mut Handle, number: u32, now: u64) -> CacheEntry;
+    pub fn bump_cache_entry_key(part: *mut Handle, from: u32) -> CacheWords;
+    pub fn bump_cache_entry_value(part: *mut Handle, from: u32) -> CacheWords;
+    pub fn bump_cache_stats(part: *mut Handle) -> super::cache::Stats;
+    pub fn bump_cache_close(cache: Handle);
+    pub fn bump_cache_part_free(part: Handle);
+    pub fn bump_cache_reader_free(reader: Handle);
 }

@@ -1,4 +1,5 @@
--- What a worker, a book, a lane and a store own names no thread: so their handles may go to another one.
+-- What a worker, a book, a lane and a store own names no thread, nor what the parts and the readers of a cache do: so their
+-- handles may go to another one.
 use mathlib.Core.HProp.{HProp}
 use base.Shift.{Keyless}
 use mir.Raw.{raw}
@@ -35,6 +36,11 @@ use Rattle.bump_handles.specs.contracts.opening.Opened as Opened
 use Rattle.bump_handles.specs.contracts.readers.Reader as Reader
 use Rattle.bump_handles.proofs.books.TaggedBook.TheSendSync as tagged_book
 use Rattle.bump_handles.proofs.readers.Reader.TheSendSync as reader
+use Rattle.cache_handles.specs.contracts.opening.OpenedCache as OpenedCache
+use Rattle.cache_handles.specs.contracts.parts.BytePart as BytePart
+use Rattle.cache_handles.specs.contracts.readers.ByteReader as ByteReader
+use Rattle.cache_handles.proofs.parts.BytePart.TheSendSync as byte_part
+use Rattle.cache_handles.proofs.readers.ByteReader.TheSendSync as byte_reader
 use Rattle.bump_c.specs.One.{any, trivial_proposition}
 use Rattle.bump_c.specs.Seals.{owns}
 
@@ -73,6 +79,18 @@ module _ (z : TableId) where
   -- what is still to be taken out of a store
   pub store_sends : IsSend (Opened.the_row (any trivial_proposition) named)
   store_sends = search (sendable, crosses, worker_sends, book_sends, lane_sends) depth 20
+
+  -- a part of a cache
+  pub cache_part_sends : IsSend (BytePart.the_row (any trivial_proposition) named)
+  cache_part_sends = byte_part.the_send (any trivial_proposition) named
+
+  -- a reader of it
+  pub cache_reader_sends : IsSend (ByteReader.the_row (any trivial_proposition) named)
+  cache_reader_sends = byte_reader.the_send (any trivial_proposition) named
+
+  -- what is still to be taken out of it
+  pub cache_sends : IsSend (OpenedCache.the_row (any trivial_proposition) named)
+  cache_sends = search (sendable, crosses, cache_part_sends, cache_reader_sends) depth 20
 
 -- what a handle owns of a part whose row names no thread
 pub owned_sends : (row : HProp {0} → TableId → RattleType) → ((z : TableId) → IsSend (row trivial_proposition z)) → (alloc : Global) (p : Ptr) (z : TableId) (v : (row trivial_proposition z).Denot) → Keyless (owns row alloc p z v)

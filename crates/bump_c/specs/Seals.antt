@@ -1,4 +1,4 @@
--- What a handle owns: what a `Box` of its part of a store owns, under the name that the handle keeps. No type stands for
+-- What a handle owns: what a `Box` of its part of a store or of a cache owns, under the name that the handle keeps. No type stands for
 -- the name, and what a part owns doesn't depend on one.
 use base.Fml.{Fml, ftrue}
 use base.Stored.{Coded, coded_list, coded×}
@@ -16,6 +16,9 @@ use Rattle.bump_handles.specs.contracts.books.TaggedBook as Book
 use Rattle.bump_handles.specs.contracts.drainers.Drainer as Lane
 use Rattle.bump_handles.specs.contracts.opening.Opened as Store
 use Rattle.bump_handles.specs.contracts.readers.Reader as Worker
+use Rattle.cache_handles.specs.contracts.opening.OpenedCache as Cache
+use Rattle.cache_handles.specs.contracts.parts.BytePart as CachePart
+use Rattle.cache_handles.specs.contracts.readers.ByteReader as CacheReader
 
 -- a name of this table, for which this type stands
 abbrev pub named : (A : HProp {0}) → TableId → Ghosts A.0
@@ -33,6 +36,16 @@ store_row A z = Store.the_row (any A) (named A z)
 
 abbrev pub worker_row : HProp {0} → TableId → RattleType
 worker_row A z = Worker.the_row (any A) (named A z)
+
+-- and those of the three parts of a cache
+abbrev pub cache_row : HProp {0} → TableId → RattleType
+cache_row A z = Cache.the_row (any A) (named A z)
+
+abbrev pub cache_part_row : HProp {0} → TableId → RattleType
+cache_part_row A z = CachePart.the_row (any A) (named A z)
+
+abbrev pub cache_reader_row : HProp {0} → TableId → RattleType
+cache_reader_row A z = CacheReader.the_row (any A) (named A z)
 
 module _ (row : HProp {0} → TableId → RattleType) where
   -- what a handle of such a part owns

@@ -1,5 +1,5 @@
 mod PlaceLemmas
 mod RestLemmas
 mod RunLemmas
-mod TakeLemmas
+pub mod TakeLemmas
 mod LookLemmas

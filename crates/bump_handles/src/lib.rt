@@ -24,5 +24,5 @@ pub use bump_steps::{AnyRow, HoldPart, RowLaw, Rule};
 pub use drainers::{Drainer, NotClosed, OtherClass, RestState, Rested};
 pub use linking::WordsRefusal;
 pub use looking::{NotThere, Sight, Walked};
-pub use opening::{Opened, open};
-pub use readers::{Reader, Taken, WholeHit};
+pub use opening::{Opened, open, take_at};
+pub use readers::{Reader, Taken, WholeHit, no_holds, put_hold};

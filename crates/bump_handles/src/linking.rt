@@ -1,7 +1,6 @@
 //! Links with further words.
 ghost use Rattle.std.specs.Prelude.{◌≡◌};
 ghost use Rattle.bump_rules.specs.declared.places.Start.TheVariants as start;
-ghost use Rattle.bump_class.specs.declared.linking.LinkRefusal.{LinkRefusal as TheLinkRefusal};
 ghost use Rattle.bump_handles.specs.Linking.{BookLinksWords, words_refusal};
 
 use crate::books::TaggedBook;

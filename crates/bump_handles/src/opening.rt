@@ -35,8 +35,9 @@ impl<N: Name> Model for Opened<N> {
     } };
 }
 
-// Takes the part with this number.
-fn take_at<T>(parts: &mut Vec<Option<T>>, number: u32) -> Option<T>
+/// Takes the one with this number, which counts from 0, out of its place; or answers None, and nothing is changed, exactly
+/// where there is no such place, or it is empty already.
+pub fn take_at<T>(parts: &mut Vec<Option<T>>, number: u32) -> Option<T>
     ensures { TakesPart T number parts.old.items parts.new.items result }
 {
     let Some(part) = parts.get_mut(number as usize) else {

@@ -72,8 +72,8 @@ impl<N: Name> Model for Reader<N> {
     } };
 }
 
-// So many places without a hold.
-fn no_holds<N: Name>(alloc: Global, places: u32) -> Result<Vec<Option<Hold<N>>>, AllocError>
+/// So many places without a hold. It is refused only for want of memory.
+pub fn no_holds<N: Name>(alloc: Global, places: u32) -> Result<Vec<Option<Hold<N>>>, AllocError>
     ensures { IfOk result (λ holds. holds.items ≡ replicate places None) }
 {
     let mut holds = Vec::with_capacity(alloc, places as usize)?;
@@ -95,9 +95,9 @@ fn refused_as(refusal: GetRefusal) -> Taken
     }
 }
 
-// Puts a hold into a place that has none.
+/// Puts a hold into a place. Where that has one already, this one is given back by the words that it reads.
 #[inline(always)]
-fn put<N: Name>(free: &mut Option<Hold<N>>, hold: Hold<N>, heads: &ReaderHeads<N>)
+pub fn put_hold<N: Name>(free: &mut Option<Hold<N>>, hold: Hold<N>, heads: &ReaderHeads<N>)
     ensures { free.new ≡ Some hold }
 {
     if let Some(old) = std::mem::replace(free, Some(hold)) {
@@ -185,7 +185,7 @@ impl<N: Name> Reader<N> {
             Ok(hold) => hold,
             Err(refusal) => return refused_as(refusal),
         };
-        put(free, hold, &self.heads);
+        put_hold(free, hold, &self.heads);
         Taken::Held
     }
 

@@ -20,5 +20,5 @@ pub returns-clause-gets : goal.returns-clause-gets
 returns-clause-gets g c =
     let there = slice_get_read c.self.inside.holds.items _ c.args.place c.in-Some.free.now c.self.inside.holds.ok.0 (c.in-Some.ensures.variant.0 refl) c.in-Some.ensures.value in
     let words : c.deref-2.result.now ≡ arc_value c.self.inside.heads = search rules in
-    gets_held c.args.place c.args.id _ _ _ c.in-Some.free.now c.put.new.free c.in-Ok.hold c.self.view_is there (search rules)
-    (worker_gets _ _ _ _ _ _ words c.in-Ok.ensures.missing c.in-Ok.ensures.got) c.put.ensures refl
+    gets_held c.args.place c.args.id _ _ _ c.in-Some.free.now c.put_hold.new.free c.in-Ok.hold c.self.view_is there (search rules)
+    (worker_gets _ _ _ _ _ _ words c.in-Ok.ensures.missing c.in-Ok.ensures.got) c.put_hold.ensures refl

@@ -1,0 +1,79 @@
+//! The handle by which C has what is still to be taken out of any cache, and the slot that it lies in.
+ghost use Rattle.std.specs.Prelude.{◌≡◌, List, [], ◌∷◌};
+ghost use Rattle.atomic_table.specs.Seated.{TableId, table_id_coded};
+ghost use Rattle.cache_handles.specs.Views.{OpenedCacheView};
+ghost use Rattle.bump_c.specs.One.{IsOne};
+ghost use Rattle.bump_c.specs.Seals.{cache_row, owns, part_coded, slot_owns, slot_coded};
+
+use box_parts::BoxParts;
+use bump_heads::Name;
+use cache_handles::OpenedCache;
+use std::alloc::Global;
+use std::marker::Model;
+
+/// What is still to be taken out of the cache whose table this is.
+#[repr(C)]
+pub struct CacheHandle {
+    ptr: *mut (),
+    alloc: Global,
+    pub ghost table: { TableId } by { table_id_coded },
+    pub ghost held: { OpenedCacheView } by { part_coded cache_row },
+}
+
+impl Model for CacheHandle {
+    ghost also_owns = { λ h. owns cache_row h.alloc h.ptr h.table h.held };
+}
+
+impl CacheHandle {
+    pub(crate) fn of_parts<N: Name>(parts: BoxParts<OpenedCache<N>, Global>) -> CacheHandle
+        requires one { IsOne N }
+        ensures table { result.table ≡ N.table }
+        ensures held { result.held ≡ parts.value }
+    {
+        let BoxParts { ptr, alloc } = parts;
+        CacheHandle {
+            ptr: ptr as *mut (),
+            alloc,
+        }
+    }
+
+    pub(crate) fn into_parts<N: Name>(self) -> BoxParts<OpenedCache<N>, Global>
+        requires table { self.table ≡ N.table }
+        requires one { IsOne N }
+        ensures { result.value ≡ self.held }
+    {
+        let CacheHandle { ptr, alloc } = self;
+        BoxParts {
+            ptr: ptr as *mut OpenedCache<N>,
+            alloc,
+        }
+    }
+}
+
+/// What C passes to be filled: with nothing, or what is still to be taken out of a cache, and its table.
+#[repr(C)]
+#[derive(Drop)]
+pub struct CacheSlot {
+    ptr: *mut (),
+    alloc: Global,
+    pub ghost slot: { List (TableId × OpenedCacheView) } by { slot_coded (part_coded cache_row) },
+}
+
+impl Model for CacheSlot {
+    ghost also_owns = { λ s. slot_owns (owns cache_row) s.alloc s.ptr s.slot };
+}
+
+impl CacheSlot {
+    pub(crate) fn of_parts<N: Name>(parts: BoxParts<OpenedCache<N>, Global>) -> CacheSlot
+        requires one { IsOne N }
+        ensures { result.slot ≡ (N.table, parts.value) ∷ [] }
+    {
+        let BoxParts { ptr, alloc } = parts;
+        CacheSlot {
+            ptr: ptr as *mut (),
+            alloc,
+        }
+    }
+}
+
+unsafe impl Send for CacheHandle {}

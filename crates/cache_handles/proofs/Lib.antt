@@ -1,0 +1,5 @@
+pub mod ConfigLemmas
+pub mod ShelfPuts
+pub mod DeskLemmas
+pub mod ReaderLemmas
+pub mod OpeningLemmas

@@ -1,0 +1,9 @@
+pub mod Configs
+pub mod Rows
+pub mod Views
+pub mod Desks
+pub mod Putting
+pub mod Looking
+pub mod Visiting
+pub mod Reading
+pub mod Opening

@@ -1,0 +1,91 @@
+-- What a reader of a cache of byte strings does.
+use Rattle.std.specs.Prelude.{◌≡◌, ◌≢◌, ℕ, ◌+◌, ◌<◌, ◌≤◌, Bool, true, false, List, length, replicate, slice_get, slice_set, None, Some}
+use Rattle.bump_steps.specs.declared.views.HoldPart.{HoldPart}
+use Rattle.bump_steps.specs.References.{word_of_row}
+use Rattle.cache_readers.specs.Readers.{ReaderView, CountsHit, Misses}
+use Rattle.byte_words.specs.Strings.{long_string}
+use Rattle.bump_cache.specs.Readers.{HitsItem, InPart}
+use Rattle.cache_handles.specs.declared.reading.GetTold.{GetTold}
+use Rattle.cache_handles.specs.declared.reading.GetTold.TheVariants as got
+use Rattle.cache_handles.specs.declared.reading.HeldTold.{HeldTold}
+use Rattle.cache_handles.specs.declared.reading.HeldTold.TheVariants as held
+use Rattle.cache_handles.specs.Rows.{TellsValue, eight_words}
+use Rattle.cache_handles.specs.Views.{ByteReaderView, any_row}
+
+-- the words of a key
+abbrev pub key_of : ByteReaderView → List ℕ → List ℕ
+key_of reader key = long_string reader.key_words key
+
+-- the words of the value of a hold, by number, which stand behind so many of its key
+abbrev pub value_word : ℕ → HoldPart → ℕ → ℕ
+value_word key_words hold i = word_of_row hold.row (key_words + i)
+
+-- A get took this hold of an item with the key, touched it and counted a hit.
+pub record HitsHeld (key : List ℕ) (now : ℕ) (hold : HoldPart) (before after : ReaderView) : Type 0 where
+  pub hits : HitsItem any_row key now hold before after
+  pub counted : CountsHit before after
+
+-- The flags and the length of the value of a hold are told, and its first eight words behind these two.
+pub record TellsHeld (key_words value_words : ℕ) (hold : HoldPart) (flags value_length : ℕ) (told : List ℕ) : Type 0
+  where
+    pub value : TellsValue (value_word key_words hold) flags value_length
+    pub words : told ≡ eight_words (value_word key_words hold) 2 value_words
+
+-- what a get comes to, in the reader of the key's part
+abbrev pub Gets : List ℕ → ℕ → ℕ → ℕ → GetTold → ReaderView → ReaderView → Type 0
+Gets key key_words value_words now (got.Found value words) before after = (hold : HoldPart)
+    × HitsHeld key now hold before after × TellsHeld key_words value_words hold value.flags value.length words
+Gets key key_words value_words now got.Nothing before after = Misses key now before after
+Gets key key_words value_words now got.KeyBytes before after = ⊥
+
+-- What reading a value comes to: exactly where the key is too long that is told, and nothing is changed; else the reader
+-- of the key's part does this.
+pub record TellsGet (Does : List ℕ → ℕ → ℕ → ℕ → GetTold → ReaderView → ReaderView → Type 0) (key : List ℕ) (now : ℕ)
+    (before after : ByteReaderView) (answer : GetTold) : Type 0 where
+  pub too_long : before.key_bytes < length key → (answer ≡ got.KeyBytes) × (after ≡ before)
+  pub does : length key ≤ before.key_bytes → InPart (Does (key_of before key) before.key_words before.value_words now
+      answer) (key_of before key) before.reader after.reader
+  pub rest : after ≡ record before { reader = after.reader }
+
+-- What a get comes to that holds: the hold that it took stands in the place.
+abbrev pub Holds : List ℕ → ℕ → ℕ → ByteReaderView → ByteReaderView → HeldTold → Type 0
+Holds key place now before after (held.Found value) = (hold : HoldPart)
+    × InPart (HitsHeld key now hold) key before.reader after.reader
+    × TellsValue (value_word before.key_words hold) value.flags value.length
+    × (after.holds ≡ slice_set before.holds place (Some hold))
+Holds key place now before after held.Nothing = InPart (Misses key now) key before.reader after.reader
+    × (after.holds ≡ before.holds)
+Holds key place now before after other = ⊥
+
+-- What it comes to: exactly where there is no such place, or it has a hold, that is told; and behind that exactly where
+-- the key is too long. Then nothing is changed.
+pub record TellsHold (place : ℕ) (key : List ℕ) (now : ℕ) (before after : ByteReaderView) (answer : HeldTold) : Type 0
+  where
+    pub no_place : slice_get before.holds place ≢ Some None → (answer ≡ held.NoPlace) × (after ≡ before)
+    pub too_long : slice_get before.holds place ≡ Some None → before.key_bytes < length key
+        → (answer ≡ held.KeyBytes) × (after ≡ before)
+    pub holds : slice_get before.holds place ≡ Some None → length key ≤ before.key_bytes
+        → Holds (key_of before key) place now before after answer
+    pub rest : after ≡ record before { reader = after.reader; holds = after.holds }
+
+-- this hold stands in the place
+abbrev pub IsHoldAt : ℕ → ByteReaderView → HoldPart → Type 0
+IsHoldAt place reader hold = slice_get reader.holds place ≡ Some (Some hold)
+
+-- none does, or there is no such place
+abbrev pub HoldsNothing : ℕ → ByteReaderView → Type 0
+HoldsNothing place reader = (hold : HoldPart) → slice_get reader.holds place ≢ Some (Some hold)
+
+-- What reading in place comes to: eight words of the value's bytes, from one on; or 0 where the place holds nothing.
+-- Nothing is changed.
+pub record TellsRead (place from : ℕ) (before after : ByteReaderView) (told : List ℕ) : Type 0 where
+  pub nothing : HoldsNothing place before → told ≡ replicate 8 0
+  pub held : (hold : HoldPart) → IsHoldAt place before hold
+      → told ≡ eight_words (value_word before.key_words hold) (from + 2) before.value_words
+  pub same : after ≡ before
+
+-- What giving a hold back comes to.
+pub record TellsRelease (place : ℕ) (before after : ByteReaderView) (answer : Bool) : Type 0 where
+  pub nothing : answer ≡ false → HoldsNothing place before × (after ≡ before)
+  pub released : answer ≡ true → (hold : HoldPart) × IsHoldAt place before hold
+      × (after ≡ record before { holds = slice_set before.holds place None })
