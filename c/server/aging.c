@@ -1,0 +1,242 @@
+#include "aging.h"
+#include "settings.h"
+#include "table.h"
+
+/* memcached's numbers: of pulls while a lock is kept, and of tries to find an item that may be ended. */
+enum { PULLS_MOST = 500, PULLS_WITH_LOCK = 50, TRIES = 5, EVICTIONS_MOST = 100000 };
+
+/* A pull names a list by the number that the list has. */
+_Static_assert((int)BUMP_TAIL_HOT == (int)BUMP_PLACE_HOT && (int)BUMP_TAIL_WARM == (int)BUMP_PLACE_WARM &&
+                   (int)BUMP_TAIL_COLD == (int)BUMP_PLACE_COLD,
+               "lists and pulls have the same numbers");
+
+/* The shelf whose next item to be evicted is the oldest. */
+static _Atomic(struct shelf *) oldest;
+
+static struct item *item_of(const bump_seen *seen) { return (struct item *)(uintptr_t)seen->label; }
+
+/* Ends an item that was met at a list's end, or by the crawler, where it expired or was flushed. It is linked. */
+static bool reclaim(struct shelf *shelf, struct counters *counters, struct item *item, uint32_t now) {
+  if (!item_is_expired(item, now) && !item_is_flushed(item, now)) return false;
+  if (!table_forget(item)) return false; /* who took it out of the table is about to end it */
+  if (!bump_see(&shelf->book, item->chunk).fetched) {
+    shelf->counts.expired_unfetched++;
+    count(counters, COUNT_expired_unfetched, 1);
+  }
+  shelf->counts.reclaimed++;
+  count(counters, COUNT_reclaimed, 1);
+  shelf_end(shelf, item_name(item));
+  return true;
+}
+
+/* One pull at the end of a list. Whether something changed. */
+static bool pull(struct shelf *shelf, struct counters *counters, uint32_t tail, uint32_t limit, uint32_t now) {
+  bump_pulled pulled = bump_pull(&shelf->book, tail, limit);
+  switch (pulled.answer) {
+    case BUMP_PULL_WARM: shelf->counts.moves_to_warm++; break;
+    case BUMP_PULL_AGAIN: shelf->counts.moves_within_lru++; break;
+    case BUMP_PULL_COLD: shelf->counts.moves_to_cold++; break;
+    case BUMP_PULL_STAY: break;
+    default: return false;
+  }
+  struct item *item = (struct item *)(uintptr_t)pulled.label;
+  return reclaim(shelf, counters, item, now) || pulled.answer != BUMP_PULL_STAY;
+}
+
+/* Fills an empty COLD, from HOT or else from WARM. Items there that are ACTIVE move within WARM. */
+static void fill_cold(struct shelf *shelf, struct counters *counters, uint32_t now) {
+  for (int tries = 0; tries < TRIES && bump_size(&shelf->book, BUMP_PLACE_COLD) == 0; tries++)
+    if (!pull(shelf, counters, BUMP_TAIL_HOT, 0, now)) pull(shelf, counters, BUMP_TAIL_WARM, 0, now);
+}
+
+/* The last item of a list that nobody holds; or, where the last few are held, the last one. */
+static bump_seen last_unheld(struct shelf *shelf, uint32_t place) {
+  bump_seen last = bump_look(&shelf->book, place, BUMP_NONE), seen = last;
+  for (int tries = 0; tries < TRIES && seen.answer == BUMP_SEE_SEEN; tries++) {
+    if (seen.refs <= 1) return seen;
+    shelf->counts.lrutail_reflocked++;
+    seen = bump_look(&shelf->book, place, seen.chunk);
+  }
+  return last;
+}
+
+/* The item to be evicted: COLD's, or where it is empty all the same, that of another list. */
+static bump_seen to_be_evicted(struct shelf *shelf) {
+  static const uint32_t PLACES[] = { BUMP_PLACE_COLD, BUMP_PLACE_WARM, BUMP_PLACE_HOT, BUMP_PLACE_TEMP };
+  bump_seen seen = { 0 };
+  for (int i = 0; i < 4; i++) {
+    seen = last_unheld(shelf, PLACES[i]);
+    if (seen.answer == BUMP_SEE_SEEN) break;
+  }
+  return seen;
+}
+
+bool shelf_evict(struct shelf *shelf, struct counters *counters, uint32_t now) {
+  uint64_t reclaimed = shelf->counts.reclaimed;
+  for (int tries = 0; tries < TRIES && pull(shelf, counters, BUMP_TAIL_COLD, 0, now);) tries++;
+  fill_cold(shelf, counters, now);
+  if (shelf->counts.reclaimed != reclaimed) return true;
+  bump_seen seen = to_be_evicted(shelf);
+  if (seen.answer != BUMP_SEE_SEEN) return false;
+  struct item *item = item_of(&seen);
+  shelf->counts.evicted++;
+  shelf->counts.direct_reclaims++;
+  shelf->counts.evicted_time = now - seen.time;
+  shelf->counts.evicted_nonzero += atomic_load(&item->expires) != 0;
+  shelf->counts.evicted_unfetched += !seen.fetched;
+  shelf->counts.evicted_active += seen.active;
+  count(counters, COUNT_evictions, 1);
+  count(counters, COUNT_evicted_unfetched, !seen.fetched);
+  count(counters, COUNT_evicted_active, seen.active);
+  if (seen.refs > 1) count(counters, COUNT_lrutail_reflocked, 1);
+  table_forget(item);
+  shelf_end(shelf, item_name(item));
+  return true;
+}
+
+static bool is_over(void) {
+  return items_charged() + settings.bytes_before > atomic_load_explicit(&settings.memory, memory_order_relaxed);
+}
+
+/* Gives back what ended items still had, and where that isn't enough evicts one. Whether something came of it. */
+static bool relieve(struct shelf *shelf, struct counters *counters, uint32_t now) {
+  if (!shelf_is_open(shelf)) return false;
+  pthread_mutex_lock(&shelf->lock);
+  shelf_reap(shelf);
+  bool done = !is_over() || (settings.evicts && shelf_evict(shelf, counters, now));
+  pthread_mutex_unlock(&shelf->lock);
+  return done;
+}
+
+/* The shelf that gives: this one, unless its items are much younger than those of the oldest one. */
+static struct shelf *giver(struct shelf *shelf) {
+  struct shelf *other = atomic_load(&oldest);
+  if (other == NULL || other == shelf) return shelf;
+  return atomic_load(&shelf->age) < atomic_load(&other->age) * atomic_load(&settings.balance) ? other : shelf;
+}
+
+static struct shelf *largest(void) {
+  struct shelf *found = shelf_at(0);
+  for (uint32_t number = 1; number < shelf_count(); number++)
+    if (atomic_load(&shelf_at(number)->charged) > atomic_load(&found->charged)) found = shelf_at(number);
+  return found;
+}
+
+bool room_make(struct counters *counters, struct shelf *shelf, uint32_t now) {
+  for (int tries = 0; is_over(); tries++) {
+    if (tries == EVICTIONS_MOST) return false;
+    if (!relieve(giver(shelf), counters, now) && !relieve(shelf, counters, now) && !relieve(largest(), counters, now))
+      return !is_over();
+  }
+  return true;
+}
+
+/* What a list may have: so many items, and its last one may be so old. */
+struct measure {
+  uint64_t items;
+  double age;
+};
+
+/* A look at the end of a list, and a pull where that would move or end its last item. Whether something changed. */
+static bool shorten(struct shelf *shelf, struct counters *counters, uint32_t tail, struct measure most, uint32_t now) {
+  bump_seen last = bump_look(&shelf->book, tail, BUMP_NONE);
+  if (last.answer != BUMP_SEE_SEEN) return false;
+  if (reclaim(shelf, counters, item_of(&last), now)) return true;
+  bool is_past = bump_size(&shelf->book, tail) > most.items || (double)(now - last.time) > most.age;
+  return (is_past || last.active) && pull(shelf, counters, tail, 0, now);
+}
+
+/* Ends expired items at the end of TEMP, where no pull looks. */
+static bool shorten_temp(struct shelf *shelf, struct counters *counters, uint32_t now) {
+  bump_seen last = bump_look(&shelf->book, BUMP_PLACE_TEMP, BUMP_NONE);
+  return last.answer == BUMP_SEE_SEEN && reclaim(shelf, counters, item_of(&last), now);
+}
+
+/* What HOT and WARM may have now: a share of the class, and a part of COLD's age. */
+static struct measure measure(struct shelf *shelf, int percent, double factor, uint32_t now) {
+  bump_seen last = bump_look(&shelf->book, BUMP_PLACE_COLD, BUMP_NONE);
+  double age = last.answer == BUMP_SEE_SEEN ? (double)(now - last.time) : 0;
+  uint64_t all = (uint64_t)bump_size(&shelf->book, BUMP_PLACE_HOT) + bump_size(&shelf->book, BUMP_PLACE_WARM) +
+                 bump_size(&shelf->book, BUMP_PLACE_COLD);
+  return (struct measure){ all * (uint64_t)percent / 100, age * factor };
+}
+
+/* Some looks at the end of each list; answers how many changed something. Under the shelf's lock. */
+static uint32_t juggle(struct shelf *shelf, struct counters *counters, uint32_t now) {
+  static const struct measure ANY = { UINT64_MAX, 1e18 }; /* only what is ACTIVE leaves COLD */
+  const struct measure hot = measure(shelf, atomic_load(&settings.hot_percent), atomic_load(&settings.hot_factor), now);
+  const struct measure warm =
+      measure(shelf, atomic_load(&settings.warm_percent), atomic_load(&settings.warm_factor), now);
+  uint32_t moves = 0;
+  for (int i = 0; i < PULLS_WITH_LOCK; i++) {
+    bool moved = shorten_temp(shelf, counters, now);
+    moved |= shorten(shelf, counters, BUMP_TAIL_HOT, hot, now);
+    moved |= shorten(shelf, counters, BUMP_TAIL_WARM, warm, now);
+    moved |= shorten(shelf, counters, BUMP_TAIL_COLD, ANY, now);
+    if (!moved) break;
+    moves++;
+  }
+  return moves;
+}
+
+static void note_age(struct shelf *shelf, uint32_t now) {
+  bump_seen last = bump_look(&shelf->book, BUMP_PLACE_COLD, BUMP_NONE);
+  if (last.answer != BUMP_SEE_SEEN) last = bump_look(&shelf->book, BUMP_PLACE_HOT, BUMP_NONE);
+  atomic_store(&shelf->age, last.answer == BUMP_SEE_SEEN ? now - (uint32_t)last.time : 0);
+}
+
+uint32_t shelf_juggle(struct shelf *shelf, struct counters *counters, uint32_t now) {
+  uint32_t moves = 0, more = PULLS_WITH_LOCK;
+  while (more == PULLS_WITH_LOCK && moves < PULLS_MOST) {
+    pthread_mutex_lock(&shelf->lock);
+    more = juggle(shelf, counters, now);
+    moves += more;
+    shelf_reap(shelf);
+    note_age(shelf, now);
+    pthread_mutex_unlock(&shelf->lock);
+  }
+  return moves;
+}
+
+void shelves_compare(void) {
+  struct shelf *found = NULL;
+  for (uint32_t number = 0; number < shelf_count(); number++) {
+    struct shelf *shelf = shelf_at(number);
+    if (shelf_is_open(shelf) && (found == NULL || atomic_load(&shelf->age) > atomic_load(&found->age))) found = shelf;
+  }
+  atomic_store(&oldest, found);
+}
+
+uint32_t shelf_drain(struct shelf *shelf, uint32_t now) {
+  uint32_t applied = 0;
+  for (uint32_t thread = 0; thread < (uint32_t)settings.threads; thread++) {
+    struct shelf_lane *lane = &shelf->lane[thread];
+    uint32_t before = applied;
+    while (bump_lane_class(&lane->lane) != BUMP_NONE) {
+      pthread_mutex_lock(&shelf->lock);
+      bump_ran_told ran = bump_apply_run_told(&shelf->book, &lane->lane, now, BUMP_MOST_CHUNKS);
+      shelf_give_back(shelf, ran.chunks, ran.freed);
+      pthread_mutex_unlock(&shelf->lock);
+      applied += ran.applied;
+      if (ran.applied == 0) break;
+    }
+    if (applied != before) atomic_store_explicit(&lane->applied, bump_rest(&lane->lane).applied, memory_order_relaxed);
+  }
+  return applied;
+}
+
+uint32_t shelf_crawl(struct shelf *shelf, struct counters *counters, uint32_t from, uint32_t most, uint32_t now) {
+  pthread_mutex_lock(&shelf->lock);
+  uint32_t chunk = from;
+  for (; chunk < shelf->used && chunk - from < most; chunk++) {
+    shelf->counts.crawler_items_checked++;
+    count(counters, COUNT_crawler_items_checked, 1);
+    bump_seen seen = bump_see(&shelf->book, chunk);
+    if (!seen.linked || !reclaim(shelf, counters, item_of(&seen), now)) continue;
+    shelf->counts.crawler_reclaimed++;
+    count(counters, COUNT_crawler_reclaimed, 1);
+  }
+  bool more = chunk < shelf->used;
+  pthread_mutex_unlock(&shelf->lock);
+  return more ? chunk : BUMP_NONE;
+}

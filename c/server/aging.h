@@ -1,0 +1,31 @@
+/* What becomes of items by and by: they move between a shelf's lists, are evicted to make room, and are ended once they
+ * expired. How an item moves is bump's to decide, by its marks; when lists are looked at, and how many items they may
+ * have, is decided here, by memcached's rules. */
+#ifndef AGING_H
+#define AGING_H
+
+#include "shelf.h"
+
+/* Makes room for an item of this shelf that is charged already: until what is charged fits into the memory. false: it
+ * can't be made. Takes shelves' locks. */
+bool room_make(struct counters *counters, struct shelf *shelf, uint32_t now);
+
+/* Ends one item, so that memory and a chunk come free: the last of COLD that nobody holds. Under the shelf's lock.
+ * false: there is none. */
+bool shelf_evict(struct shelf *shelf, struct counters *counters, uint32_t now);
+
+/* Looks at the ends of a shelf's lists: a while, or until nothing moves. Answers how many items moved or were ended.
+ * Takes the shelf's lock. */
+uint32_t shelf_juggle(struct shelf *shelf, struct counters *counters, uint32_t now);
+
+/* Applies the bumps of all rings of a shelf, and answers how many. Takes the shelf's lock. The maintainer's. */
+uint32_t shelf_drain(struct shelf *shelf, uint32_t now);
+
+/* Ends expired items among so many chunks from one on, and answers the chunk behind them; BUMP_NONE: there are no
+ * more. Takes the shelf's lock. */
+uint32_t shelf_crawl(struct shelf *shelf, struct counters *counters, uint32_t from, uint32_t count, uint32_t now);
+
+/* Tells which shelf's items are the oldest: it gives its memory to the others. The maintainer's. */
+void shelves_compare(void);
+
+#endif

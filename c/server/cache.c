@@ -1,0 +1,269 @@
+#define _GNU_SOURCE
+#include "cache.h"
+#include <string.h>
+#include "aging.h"
+#include "clock.h"
+#include "table.h"
+#include "words.h"
+
+enum { THE_HOLD = 0, LINK_TRIES = 50, NUMBER_MOST = 63 };
+
+static struct shelf_reader *reader_of(const struct thread *thread, const struct item *item) {
+  return &shelf_at(item->shelf)->reader[thread->number];
+}
+
+static bool is_gone(const struct item *item, uint32_t now) {
+  return item_is_expired(item, now) || item_is_flushed(item, now);
+}
+
+static void count_gone(struct counters *counters, const struct item *item, uint32_t now) {
+  count(counters, item_is_flushed(item, now) ? COUNT_get_flushed : COUNT_get_expired, 1);
+}
+
+/* Takes a hold of a named item, under its stripe's lock. A named item is linked, so it isn't told as stale. */
+static struct held take(struct thread *thread, struct item *item) {
+  enum bump_get_answer got;
+  do {
+    got = bump_get(&reader_of(thread, item)->worker, THE_HOLD, item->chunk, item->generation);
+    if (got == BUMP_GET_BUSY) count(&thread->counters, COUNT_get_busy, 1);
+  } while (got == BUMP_GET_BUSY);
+  if (got == BUMP_GET_HELD) return (struct held){ item, false };
+  count(&thread->counters, got == BUMP_GET_REFS_FULL ? COUNT_get_refs_full : COUNT_get_stale, 1);
+  return (struct held){ NULL, got == BUMP_GET_REFS_FULL };
+}
+
+struct held cache_hold_locked(struct thread *thread, const struct key *key, uint32_t now) {
+  for (;;) {
+    table_lock(key->hash);
+    struct item **at = table_find(key), *item = *at;
+    if (item == NULL) return (struct held){ NULL, false };
+    if (!is_gone(item, now)) return take(thread, item);
+    count_gone(&thread->counters, item, now);
+    struct item_name name = item_name(item);
+    table_take_out(at);
+    table_unlock(key->hash);
+    shelf_end_item(name); /* takes a shelf's lock, which comes before a stripe's: so the key is looked up again */
+  }
+}
+
+struct held cache_hold(struct thread *thread, const struct key *key, uint32_t now) {
+  struct held held = cache_hold_locked(thread, key, now);
+  table_unlock(key->hash);
+  return held;
+}
+
+void cache_hit(struct thread *thread, struct item *item, uint32_t now) {
+  struct shelf_reader *reader = reader_of(thread, item);
+  if (bump_marked(&reader->worker, THE_HOLD)) return; /* most hits: this load saves a locked step */
+  enum bump_touch_answer touched = bump_touch(&reader->worker, THE_HOLD, now).answer;
+  if (touched >= BUMP_TOUCH_QUEUED && touched <= BUMP_TOUCH_DROPPED_REFS_FULL) shelf_tell_counts(reader);
+}
+
+bool cache_was_hit(struct thread *thread, struct item *item) {
+  return bump_marks(&reader_of(thread, item)->worker, THE_HOLD).fetched;
+}
+
+uint32_t cache_time(struct thread *thread, struct item *item) {
+  return (uint32_t)bump_time(&reader_of(thread, item)->worker, THE_HOLD).time;
+}
+
+void cache_release(struct thread *thread, struct item *item) {
+  bump_release(&reader_of(thread, item)->worker, THE_HOLD);
+}
+
+struct item *cache_new_item(struct thread *thread, const struct key *key, uint32_t flags, uint32_t expires,
+                            size_t bytes) {
+  struct item *item = item_new(key, flags, expires, bytes);
+  if (item == NULL) {
+    count(&thread->counters, COUNT_malloc_fails, 1);
+    return NULL;
+  }
+  struct shelf *shelf = shelf_at(item->shelf);
+  if (shelf_open(shelf) && room_make(&thread->counters, shelf, clock_now())) return item;
+  item_free(item);
+  pthread_mutex_lock(&shelf->lock);
+  shelf->counts.outofmemory++;
+  pthread_mutex_unlock(&shelf->lock);
+  return NULL;
+}
+
+/* Whether a new item may take the place of the key's, NULL for none. Under the stripe's lock. */
+static enum store_answer judge(struct counters *counters, const struct store_terms *terms, struct item *item,
+                               struct item *old) {
+  switch (terms->how) {
+    case STORE_ADD: return old != NULL ? STORE_NOT : STORE_DONE;
+    case STORE_REPLACE: return old != NULL ? STORE_DONE : STORE_NOT;
+    case STORE_SWAP:
+      return old != NULL && old->shelf == terms->expected.shelf && old->chunk == terms->expected.chunk &&
+                     old->generation == terms->expected.generation
+                 ? STORE_DONE
+                 : STORE_AGAIN;
+    case STORE_CAS: break;
+    default: return STORE_DONE;
+  }
+  if (old == NULL) return count(counters, COUNT_cas_misses, 1), STORE_NOT_FOUND;
+  uint64_t unique = atomic_load_explicit(&old->unique, memory_order_relaxed);
+  if (unique == terms->unique) return count(counters, COUNT_cas_hits, 1), STORE_DONE;
+  if (!terms->may_be_stale || terms->unique >= unique) return count(counters, COUNT_cas_badval, 1), STORE_EXISTS;
+  atomic_store(&item->expires, atomic_load(&old->expires)); /* as long as the one that it can't replace rightly */
+  item->is_stale = true;
+  item->has_winner = old->has_winner;
+  return STORE_DONE;
+}
+
+/* Links an item. Where its shelf has no free chunk, others there are ended. Under the shelf's lock. */
+static bool link_item(struct counters *counters, struct shelf *shelf, struct item *item, uint32_t now) {
+  int most = atomic_load(&settings.temporary_ttl);
+  uint32_t expires = atomic_load_explicit(&item->expires, memory_order_relaxed);
+  bool temporary = most >= 0 && expires != 0 && expires - now <= (uint32_t)most;
+  for (int tries = 0; tries < LINK_TRIES; tries++) {
+    if (shelf_link(shelf, item, temporary, now)) return true;
+    shelf_reap(shelf);
+    if (bump_size(&shelf->book, BUMP_PLACE_UNUSED) > 0) continue;
+    if (!settings.evicts || !shelf_evict(shelf, counters, now)) break;
+  }
+  return false;
+}
+
+/* What became of the key in the table. */
+struct named {
+  enum store_answer answer;
+  struct item_name old; /* taken out of the table: to be ended */
+};
+
+/* Names a linked item as the key's, if it may be. Takes the stripe's lock. */
+static struct named name_item(struct thread *thread, struct item *item, const struct store_terms *terms, uint32_t now,
+                              uint64_t *unique) {
+  const struct key key = { item->key, item->key_bytes, item->hash };
+  struct named named = { STORE_DONE, { 0 } };
+  table_lock(key.hash);
+  struct item **at = table_find(&key), *old = *at;
+  bool gone = old != NULL && is_gone(old, now);
+  named.answer = judge(&thread->counters, terms, item, gone ? NULL : old);
+  if (gone) count_gone(&thread->counters, old, now);
+  if (old != NULL && (gone || named.answer == STORE_DONE)) {
+    named.old = item_name(old);
+    table_take_out(at);
+    if (gone) count(&thread->counters, COUNT_reclaimed, 1);
+  }
+  if (named.answer == STORE_DONE) {
+    *unique = unique_next();
+    atomic_store_explicit(&item->unique, *unique, memory_order_relaxed);
+    table_name(item);
+    count(&thread->counters, COUNT_total_items, 1);
+  }
+  table_unlock(key.hash);
+  return named;
+}
+
+enum store_answer cache_store(struct thread *thread, struct item *item, const struct store_terms *terms,
+                              uint64_t *unique) {
+  uint32_t now = clock_now();
+  struct shelf *shelf = shelf_at(item->shelf);
+  pthread_mutex_lock(&shelf->lock);
+  if (!link_item(&thread->counters, shelf, item, now)) {
+    shelf->counts.outofmemory++;
+    pthread_mutex_unlock(&shelf->lock);
+    item_free(item);
+    return STORE_NO_MEMORY;
+  }
+  struct item_name linked = item_name(item);
+  struct named named = name_item(thread, item, terms, now, unique);
+  if (named.answer != STORE_DONE) shelf_end(shelf, linked);
+  bool ends_here = named.old.generation != 0 && named.old.shelf == linked.shelf;
+  if (ends_here) shelf_end(shelf, named.old);
+  pthread_mutex_unlock(&shelf->lock);
+  if (named.old.generation != 0 && !ends_here) shelf_end_item(named.old);
+  return named.answer;
+}
+
+bool cache_end(struct thread *thread, const struct key *key) {
+  uint32_t now = clock_now();
+  struct item_name old = { 0 };
+  bool there = false;
+  table_lock(key->hash);
+  struct item **at = table_find(key);
+  if (*at != NULL) {
+    there = !is_gone(*at, now);
+    if (!there) count_gone(&thread->counters, *at, now);
+    old = item_name(*at);
+    table_take_out(at);
+  }
+  table_unlock(key->hash);
+  if (old.generation != 0) shelf_end_item(old);
+  return there;
+}
+
+bool cache_set_expiry(struct thread *thread, const struct key *key, uint32_t expires) {
+  uint32_t now = clock_now();
+  struct held held = cache_hold(thread, key, now);
+  if (held.item == NULL) return false;
+  atomic_store(&held.item->expires, expires);
+  cache_hit(thread, held.item, now);
+  cache_release(thread, held.item);
+  return true;
+}
+
+/* The number that a value begins with. */
+static bool number_of(const struct item *item, uint64_t *number) {
+  char text[NUMBER_MOST + 1];
+  size_t bytes = item->bytes < NUMBER_MOST ? item->bytes : NUMBER_MOST;
+  memcpy(text, item->value, bytes);
+  text[bytes] = 0;
+  return number_u64(text, number);
+}
+
+/* The item that takes the place of the one that is held; NULL: no memory. A value that gets shorter keeps its length,
+ * with blanks behind, as memcached's does. */
+static struct item *changed(struct thread *thread, const struct key *key, const struct item *old, uint64_t number,
+                            uint32_t expires) {
+  char text[20];
+  size_t digits = (size_t)(put_u64(text, number) - text);
+  size_t bytes = digits > old->bytes ? digits : old->bytes;
+  struct item *item = cache_new_item(thread, key, old->flags, expires, bytes);
+  if (item == NULL) return NULL;
+  memset(item->value, ' ', bytes);
+  memcpy(item->value, text, digits);
+  item->has_binary_key = old->has_binary_key;
+  return item;
+}
+
+static void count_delta(struct counters *counters, bool goes_up, bool hit) {
+  if (goes_up) count(counters, hit ? COUNT_incr_hits : COUNT_incr_misses, 1);
+  else count(counters, hit ? COUNT_decr_hits : COUNT_decr_misses, 1);
+}
+
+/* One try: STORE_AGAIN where another thread stored the key meanwhile. */
+static enum store_answer try_add(struct thread *thread, const struct key *key, const struct delta *delta,
+                                 struct delta_done *done, enum delta_answer *answer) {
+  struct held held = cache_hold(thread, key, clock_now());
+  *answer = DELTA_NOT_FOUND;
+  if (held.item == NULL) return STORE_DONE;
+  struct item *old = held.item, *item = NULL;
+  uint64_t number;
+  done->expired_before = atomic_load(&old->expires);
+  if (delta->has_unique && atomic_load(&old->unique) != delta->unique) {
+    *answer = DELTA_EXISTS;
+  } else if (!number_of(old, &number)) {
+    *answer = DELTA_NO_NUMBER;
+  } else {
+    done->number = delta->goes_up ? number + delta->by : number < delta->by ? 0 : number - delta->by;
+    item = changed(thread, key, old, done->number, delta->has_expiry ? delta->expires : done->expired_before);
+    *answer = item != NULL ? DELTA_DONE : DELTA_NO_MEMORY;
+  }
+  const struct store_terms terms = { .how = STORE_SWAP, .expected = item_name(old) };
+  cache_release(thread, old);
+  return item != NULL ? cache_store(thread, item, &terms, &done->unique) : STORE_DONE;
+}
+
+enum delta_answer cache_add(struct thread *thread, const struct key *key, const struct delta *delta,
+                            struct delta_done *done) {
+  enum store_answer stored;
+  enum delta_answer answer;
+  do stored = try_add(thread, key, delta, done, &answer);
+  while (stored == STORE_AGAIN);
+  if (stored == STORE_NO_MEMORY) answer = DELTA_NO_MEMORY;
+  if (answer == DELTA_DONE || answer == DELTA_NOT_FOUND)
+    count_delta(&thread->counters, delta->goes_up, answer == DELTA_DONE);
+  return answer;
+}

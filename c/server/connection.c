@@ -1,0 +1,57 @@
+#include "connection.h"
+#include <stdarg.h>
+#include <stdio.h>
+#include <stdlib.h>
+#include <string.h>
+
+enum { OUT_FIRST = 2048 };
+
+char *connection_room(struct connection *connection, size_t bytes) {
+  struct buffer *out = &connection->out;
+  if (out->end + bytes <= out->room) return out->at + out->end;
+  if (out->begin > 0) {
+    memmove(out->at, out->at + out->begin, buffer_size(out));
+    out->end -= out->begin;
+    out->begin = 0;
+  }
+  size_t room = out->room != 0 ? out->room : OUT_FIRST;
+  while (room < out->end + bytes) room *= 2;
+  if (room != out->room) {
+    char *more = realloc(out->at, room);
+    if (more == NULL) {
+      count(connection_counters(connection), COUNT_malloc_fails, 1);
+      connection->ends = true;
+      return NULL;
+    }
+    out->at = more;
+    out->room = room;
+  }
+  return out->at + out->end;
+}
+
+void connection_put(struct connection *connection, const char *text, size_t bytes) {
+  char *at = connection_room(connection, bytes);
+  if (at == NULL) return;
+  memcpy(at, text, bytes);
+  connection->out.end += bytes;
+}
+
+void connection_print(struct connection *connection, const char *format, ...) {
+  char text[1024];
+  va_list values;
+  va_start(values, format);
+  int bytes = vsnprintf(text, sizeof text, format, values);
+  va_end(values);
+  if (bytes > 0) connection_put(connection, text, (size_t)bytes < sizeof text ? (size_t)bytes : sizeof text - 1);
+}
+
+void connection_say_always(struct connection *connection, const char *line) {
+  connection->is_quiet = false;
+  connection_put(connection, line, strlen(line));
+  connection_put(connection, "\r\n", 2);
+}
+
+void connection_say(struct connection *connection, const char *line) {
+  if (!connection->is_quiet) connection_say_always(connection, line);
+  connection->is_quiet = false;
+}

@@ -1,0 +1,198 @@
+#define _GNU_SOURCE
+#include "drive.h"
+#include <errno.h>
+#include <stdlib.h>
+#include <string.h>
+#include <sys/socket.h>
+#include "protocol.h"
+
+/* A line may be so long only if it is a get. A buffer that grew past KEPT_MOST is given back when it is empty. */
+enum {
+  RECEIVE_FIRST = 16384,
+  RECEIVE_LEAST = 2048,
+  SHORT_LINE_MOST = 2048,
+  LINE_MOST = 1 << 24,
+  KEPT_MOST = 1 << 16,
+  RECEIVES_AT_ONCE = 16,
+  BLANKS_MOST = 100,
+  BINARY_REQUEST = 0x80
+};
+
+/* ------------------------------------------------------------------------------------------- sending, receiving */
+
+static void give_back_large(struct buffer *buffer) {
+  buffer->begin = buffer->end = 0;
+  if (buffer->room <= KEPT_MOST) return;
+  free(buffer->at);
+  *buffer = (struct buffer){ 0 };
+}
+
+bool drive_send(struct connection *connection) {
+  struct buffer *out = &connection->out;
+  while (buffer_size(out) > 0) {
+    ssize_t sent = send(connection->file, out->at + out->begin, buffer_size(out), MSG_NOSIGNAL);
+    if (sent >= 0) {
+      out->begin += (size_t)sent;
+      count(connection_counters(connection), COUNT_bytes_written, (uint64_t)sent);
+    } else if (errno == EAGAIN || errno == EWOULDBLOCK) {
+      return false;
+    } else if (errno != EINTR) {
+      connection->ends = true; /* nobody is there to read it */
+      out->begin = out->end;
+    }
+  }
+  give_back_large(out);
+  return true;
+}
+
+enum received { RECEIVED_ALL, RECEIVED_SOME, RECEIVED_NOTHING, RECEIVED_END };
+
+static enum received receive_to(struct connection *connection, char *at, size_t room, size_t *bytes) {
+  ssize_t received = recv(connection->file, at, room, 0);
+  if (received > 0) {
+    *bytes = (size_t)received;
+    count(connection_counters(connection), COUNT_bytes_read, *bytes);
+    return *bytes < room ? RECEIVED_ALL : RECEIVED_SOME;
+  }
+  *bytes = 0;
+  if (received == 0) return RECEIVED_END;
+  return errno == EAGAIN || errno == EWOULDBLOCK || errno == EINTR ? RECEIVED_NOTHING : RECEIVED_END;
+}
+
+/* Room behind what was received, with a place for a 0. false: no memory, or too long a line. */
+static bool make_room(struct buffer *in) {
+  if (in->begin == in->end) give_back_large(in);
+  if (in->room - in->end >= RECEIVE_LEAST) return true;
+  if (in->begin > 0) memmove(in->at, in->at + in->begin, buffer_size(in));
+  in->end -= in->begin;
+  in->begin = 0;
+  if (in->room - in->end >= RECEIVE_LEAST) return true;
+  size_t room = in->room != 0 ? in->room * 2 : RECEIVE_FIRST;
+  char *more = room <= LINE_MOST ? realloc(in->at, room + 1) : NULL;
+  if (more == NULL) return false;
+  in->at = more;
+  in->room = room;
+  return true;
+}
+
+/* What comes of a value goes to its item at once. */
+static enum received receive(struct connection *connection) {
+  struct buffer *in = &connection->in;
+  struct storing *storing = &connection->storing;
+  size_t bytes;
+  if (connection->state == READS_VALUE && buffer_size(in) == 0) {
+    char *at = storing->item->value + storing->received;
+    enum received received = receive_to(connection, at, storing->item->bytes + 2 - storing->received, &bytes);
+    storing->received += bytes;
+    return received;
+  }
+  if (!make_room(in)) return RECEIVED_END;
+  enum received received = receive_to(connection, in->at + in->end, in->room - in->end, &bytes);
+  in->end += bytes;
+  return received;
+}
+
+/* ------------------------------------------------------------------------------------------------------ steps */
+
+static bool step_value(struct connection *connection) {
+  struct buffer *in = &connection->in;
+  struct storing *storing = &connection->storing;
+  size_t left = storing->item->bytes + 2 - storing->received;
+  size_t bytes = buffer_size(in) < left ? buffer_size(in) : left;
+  memcpy(storing->item->value + storing->received, in->at + in->begin, bytes);
+  storing->received += bytes;
+  in->begin += bytes;
+  if (bytes < left) return false;
+  text_end_value(connection);
+  return true;
+}
+
+static bool step_skip(struct connection *connection) {
+  struct buffer *in = &connection->in;
+  size_t bytes = buffer_size(in) < connection->skip ? buffer_size(in) : (size_t)connection->skip;
+  in->begin += bytes;
+  connection->skip -= bytes;
+  if (connection->skip > 0) return false;
+  connection->state = READS_LINE;
+  return true;
+}
+
+/* A line that has no end yet, and goes on too long for any command but a get, is nonsense: as in memcached. */
+static void refuse_long_line(struct connection *connection) {
+  const char *at = connection->in.at + connection->in.begin;
+  size_t bytes = buffer_size(&connection->in), blanks = 0;
+  if (bytes <= SHORT_LINE_MOST) return;
+  while (blanks < bytes && at[blanks] == ' ') blanks++;
+  bool is_get = bytes - blanks > 5 && (memcmp(at + blanks, "get ", 4) == 0 || memcmp(at + blanks, "gets ", 5) == 0);
+  if (blanks > BLANKS_MOST || !is_get) connection->ends = true;
+}
+
+static bool step_line(struct connection *connection) {
+  struct buffer *in = &connection->in;
+  char *line = in->at + in->begin;
+  if (buffer_size(in) == 0) return false;
+  if (!connection->has_begun) {
+    connection->has_begun = true;
+    if ((unsigned char)*line == BINARY_REQUEST) {
+      connection->ends = true; /* the binary protocol, whose client would wait for an answer */
+      return false;
+    }
+  }
+  char *end = memchr(line, '\n', buffer_size(in));
+  if (end == NULL) {
+    refuse_long_line(connection);
+    return false;
+  }
+  in->begin = (size_t)(end + 1 - in->at);
+  if (end - line > 1 && end[-1] == '\r') end--;
+  *end = 0;
+  text_line(connection, line);
+  return true;
+}
+
+/* One step. false: it needs more to be received. */
+static bool step(struct connection *connection) {
+  switch (connection->state) {
+    case READS_VALUE: return step_value(connection);
+    case SKIPS_BYTES: return step_skip(connection);
+    case ANSWERS_KEYS: text_answer_keys(connection); return true;
+    case DUMPS_ITEMS: administer_dump(connection); return true;
+    default: return step_line(connection);
+  }
+}
+
+/* Steps on, until more has to be received, or much is to be sent, or others should have their turn. */
+static bool step_on(struct connection *connection, int *requests) {
+  while (!connection->ends && buffer_size(&connection->out) < SEND_MOST && *requests > 0) {
+    if (connection->state == READS_LINE) --*requests;
+    if (!step(connection)) return false;
+  }
+  return true;
+}
+
+/* Whether there is something to step through, or may be. */
+static bool has_more(const struct connection *connection) {
+  const struct storing *storing = &connection->storing;
+  if (connection->state == READS_VALUE && storing->received == (size_t)storing->item->bytes + 2) return true;
+  return buffer_size(&connection->in) > 0 || connection->state == ANSWERS_KEYS || connection->state == DUMPS_ITEMS;
+}
+
+/* Where less came than there was room for, nothing is left in the socket: the epoll tells when more comes. */
+enum driven drive(struct connection *connection) {
+  int requests = settings.requests_at_once;
+  bool is_drained = false;
+  for (int receives = 0;;) {
+    bool could_go_on = step_on(connection, &requests);
+    if (!drive_send(connection)) return DRIVE_SENDS;
+    if (connection->ends) return DRIVE_ENDS;
+    if (could_go_on && has_more(connection)) {
+      if (requests <= 0) return DRIVE_YIELDS;
+      continue;
+    }
+    if (is_drained || receives++ == RECEIVES_AT_ONCE) return DRIVE_RECEIVES;
+    enum received received = receive(connection);
+    if (received == RECEIVED_END) return DRIVE_ENDS;
+    if (received == RECEIVED_NOTHING) return DRIVE_RECEIVES;
+    is_drained = received == RECEIVED_ALL;
+  }
+}

@@ -1,0 +1,20 @@
+/* Drives a connection: receives, steps through what was received, sends. */
+#ifndef DRIVE_H
+#define DRIVE_H
+
+#include "connection.h"
+
+/* What a connection waits for. */
+enum driven {
+  DRIVE_RECEIVES,
+  DRIVE_SENDS,
+  DRIVE_YIELDS, /* for nothing: it goes on when others had their turn */
+  DRIVE_ENDS
+};
+
+enum driven drive(struct connection *connection);
+
+/* Sends what is to be sent. false: some is left. */
+bool drive_send(struct connection *connection);
+
+#endif

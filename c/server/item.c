@@ -1,0 +1,102 @@
+#include "item.h"
+#include <stdlib.h>
+#include <string.h>
+#include "settings.h"
+#include "shelf.h"
+
+/* Of memcached's item: so that as many items go into so many megabytes. */
+static const size_t RECKONED_HEADER = 48, RECKONED_UNIQUE = 8, RECKONED_FLAGS = 4;
+
+static uint32_t size_of[CLASSES_MOST];
+static uint32_t classes;
+
+static _Atomic uint64_t charged;
+static _Atomic uint64_t last_unique;
+static _Atomic uint32_t flushed_until; /* 0: never */
+static _Atomic uint64_t flushed_unique;
+
+void classes_make(void) {
+  uint32_t size = (uint32_t)RECKONED_HEADER + settings.chunk_least;
+  uint32_t class = 1;
+  while (class < CLASSES_MOST - 1 && size < settings.chunk_most / settings.growth_factor) {
+    size = (size + 7) / 8 * 8;
+    size_of[class++] = size;
+    size = (uint32_t)(size * settings.growth_factor);
+  }
+  size_of[class] = settings.chunk_most;
+  classes = class;
+}
+
+uint32_t class_count(void) { return classes; }
+
+uint32_t class_size(uint32_t class) { return size_of[class]; }
+
+size_t item_reckoned(size_t key_bytes, uint32_t flags, size_t bytes) {
+  size_t fixed = RECKONED_HEADER + (settings.has_unique ? RECKONED_UNIQUE : 0) + (flags != 0 ? RECKONED_FLAGS : 0);
+  return fixed + key_bytes + 1 + bytes + 2;
+}
+
+uint32_t class_for(size_t reckoned) {
+  if (reckoned > settings.item_most) return 0;
+  uint32_t least = 1;
+  for (uint32_t most = classes; least < most;) {
+    uint32_t middle = (least + most) / 2;
+    if (reckoned <= size_of[middle]) most = middle;
+    else least = middle + 1;
+  }
+  return least;
+}
+
+struct item *item_new(const struct key *key, uint32_t flags, uint32_t expires, size_t bytes) {
+  size_t reckoned = item_reckoned(key->bytes, flags, bytes);
+  uint32_t class = class_for(reckoned);
+  bool in_row = bytes <= ROW_VALUE_MOST;
+  struct item *item = malloc(offsetof(struct item, key) + key->bytes + (in_row ? bytes + 2 : 0));
+  if (item == NULL) return NULL;
+  char *value = in_row ? item->key + key->bytes : malloc(bytes + 2);
+  if (value == NULL) return free(item), NULL;
+  *item = (struct item){ .value = value,
+                         .hash = key->hash,
+                         .flags = flags,
+                         .bytes = (uint32_t)bytes,
+                         .charge = (uint32_t)(reckoned > size_of[class] ? reckoned : size_of[class]),
+                         .shelf = shelf_number(class, key->hash),
+                         .key_bytes = (uint8_t)key->bytes };
+  atomic_init(&item->expires, expires);
+  memcpy(item->key, key->at, key->bytes);
+  memcpy(value + bytes, "\r\n", 2);
+  atomic_fetch_add_explicit(&charged, item->charge, memory_order_relaxed);
+  return item;
+}
+
+void item_free(struct item *item) {
+  atomic_fetch_sub_explicit(&charged, item->charge, memory_order_relaxed);
+  if (item->value != item->key + item->key_bytes) free(item->value);
+  free(item);
+}
+
+uint64_t items_charged(void) { return atomic_load_explicit(&charged, memory_order_relaxed); }
+
+uint64_t unique_next(void) { return settings.has_unique ? atomic_fetch_add(&last_unique, 1) + 1 : 0; }
+
+bool item_is_expired(const struct item *item, uint32_t now) {
+  uint32_t expires = atomic_load_explicit(&item->expires, memory_order_relaxed);
+  return expires != 0 && expires <= now;
+}
+
+bool item_is_flushed(const struct item *item, uint32_t now) {
+  uint32_t until = atomic_load_explicit(&flushed_until, memory_order_relaxed);
+  if (until == 0 || until > now) return false;
+  uint64_t before = atomic_load_explicit(&flushed_unique, memory_order_relaxed);
+  uint64_t unique = atomic_load_explicit(&item->unique, memory_order_relaxed);
+  return item->born <= until || (before != 0 && unique != 0 && unique < before);
+}
+
+/* A tick is a second long: within one, the numbers for cas tell what was stored before. */
+void items_flush(uint32_t tick, uint32_t now) {
+  uint32_t until = settings.has_unique ? tick - 1 : tick;
+  if (settings.has_unique && until <= now) atomic_store(&flushed_unique, unique_next());
+  atomic_store(&flushed_until, until);
+}
+
+uint32_t items_flushed_until(void) { return atomic_load(&flushed_until); }

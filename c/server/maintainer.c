@@ -1,0 +1,61 @@
+#define _GNU_SOURCE
+#include "maintainer.h"
+#include <time.h>
+#include "aging.h"
+#include "clock.h"
+#include "thread.h"
+
+/* It sleeps for a millisecond while there is something to do, and longer and longer while there isn't. */
+enum { PAUSE_LEAST = 1000000, PAUSE_MOST = 100000000 };
+
+/* Chunks of a shelf that are looked at in one go, and in one round of a second. */
+enum { CRAWLED_WITH_LOCK = 200, CRAWLED_AT_ONCE = 5000 };
+
+static _Atomic uint64_t juggles;
+static _Atomic uint64_t crawls;
+
+struct maintainer_rounds maintainer_rounds(void) {
+  return (struct maintainer_rounds){ atomic_load(&juggles), atomic_load(&crawls) };
+}
+
+/* Goes on with looking for expired items, from where it stopped in the second before. */
+static void crawl(struct shelf *shelf, struct counters *counters, uint32_t now) {
+  for (uint32_t looked = 0; looked < CRAWLED_AT_ONCE; looked += CRAWLED_WITH_LOCK) {
+    uint32_t next = shelf_crawl(shelf, counters, shelf->crawled, CRAWLED_WITH_LOCK, now);
+    shelf->crawled = next == BUMP_NONE ? 0 : next;
+    if (next != BUMP_NONE) continue;
+    atomic_fetch_add(&crawls, 1);
+    return;
+  }
+}
+
+/* One round. Whether there was something to do. */
+static bool attend(struct thread *thread, uint32_t now, bool crawls_now) {
+  bool did = false;
+  for (uint32_t number = 0; number < shelf_count(); number++) {
+    struct shelf *shelf = shelf_at(number);
+    if (!shelf_is_open(shelf)) continue;
+    did |= shelf_drain(shelf, now) > 0;
+    if (settings.maintains) did |= shelf_juggle(shelf, &thread->counters, now) > 0;
+    if (crawls_now) crawl(shelf, &thread->counters, now);
+  }
+  shelves_compare();
+  return did;
+}
+
+void *maintainer_run(void *given) {
+  struct thread *thread = given;
+  long pause = PAUSE_LEAST;
+  uint32_t crawled = 0;
+  while (!atomic_load(&is_ending)) {
+    struct timespec time = { 0, pause };
+    nanosleep(&time, NULL);
+    uint32_t now = clock_now();
+    bool did = attend(thread, now, atomic_load(&settings.crawls) && now != crawled);
+    crawled = now;
+    atomic_fetch_add(&juggles, 1);
+    if (did) pause = PAUSE_LEAST;
+    else if (pause < PAUSE_MOST) pause += pause / 8;
+  }
+  return NULL;
+}

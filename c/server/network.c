@@ -1,0 +1,304 @@
+#define _GNU_SOURCE
+#include "network.h"
+#include <arpa/inet.h>
+#include <errno.h>
+#include <netdb.h>
+#include <netinet/tcp.h>
+#include <poll.h>
+#include <stdio.h>
+#include <stdlib.h>
+#include <string.h>
+#include <sys/epoll.h>
+#include <sys/eventfd.h>
+#include <sys/socket.h>
+#include <sys/stat.h>
+#include <sys/un.h>
+#include <time.h>
+#include <unistd.h>
+#include "clock.h"
+#include "connection.h"
+#include "drive.h"
+
+enum {
+  LISTENERS_MOST = 16,
+  EVENTS_MOST = 64,
+  ACCEPTS_AT_ONCE = 16,
+  FAREWELL_ROUNDS = 1000,
+  FAREWELL_MILLISECONDS = 1000
+};
+
+struct thread threads[THREADS_MOST + 2];
+_Atomic bool is_ending;
+
+static int listeners[LISTENERS_MOST];
+static int listeners_count;
+
+static _Atomic uint64_t current, ever, rejected, without_file;
+
+struct network_measure network_measure(void) {
+  return (struct network_measure){ atomic_load(&current), atomic_load(&ever), atomic_load(&rejected),
+                                   atomic_load(&without_file) };
+}
+
+/* ------------------------------------------------------------------------------------------------- listening */
+
+static bool add_listener(int file, const char *what) {
+  if (listeners_count == LISTENERS_MOST || listen(file, settings.backlog) < 0) {
+    fprintf(stderr, "bump-server: %s: %s\n", what,
+            listeners_count == LISTENERS_MOST ? "too many addresses" : strerror(errno));
+    close(file);
+    return false;
+  }
+  listeners[listeners_count++] = file;
+  return true;
+}
+
+/* A socket's file that a server left behind is taken over; any other file isn't. */
+static bool listen_on_path(const char *path) {
+  struct sockaddr_un address = { .sun_family = AF_UNIX };
+  struct stat there;
+  if (strlen(path) >= sizeof address.sun_path)
+    return fprintf(stderr, "bump-server: %s: too long a path\n", path), false;
+  memcpy(address.sun_path, path, strlen(path) + 1);
+  if (lstat(path, &there) == 0 && S_ISSOCK(there.st_mode)) unlink(path);
+  int file = socket(AF_UNIX, SOCK_STREAM | SOCK_NONBLOCK | SOCK_CLOEXEC, 0);
+  mode_t before = umask(~settings.socket_mode & 0777);
+  bool bound = file >= 0 && bind(file, (struct sockaddr *)&address, sizeof address) == 0;
+  umask(before);
+  if (bound) return add_listener(file, path);
+  perror(path);
+  if (file >= 0) close(file);
+  return false;
+}
+
+static bool listen_on_address(const struct addrinfo *info, const char *what) {
+  int on = 1, file = socket(info->ai_family, info->ai_socktype | SOCK_NONBLOCK | SOCK_CLOEXEC, info->ai_protocol);
+  if (file < 0) return perror(what), false;
+  setsockopt(file, SOL_SOCKET, SO_REUSEADDR, &on, sizeof on);
+  if (info->ai_family == AF_INET6) setsockopt(file, IPPROTO_IPV6, IPV6_V6ONLY, &on, sizeof on);
+  if (bind(file, info->ai_addr, info->ai_addrlen) == 0) return add_listener(file, what);
+  perror(what);
+  close(file);
+  return false;
+}
+
+/* All addresses that a name has. */
+static bool listen_on_name(const char *name) {
+  char port[8];
+  const struct addrinfo wanted = { .ai_flags = AI_PASSIVE, .ai_family = AF_UNSPEC, .ai_socktype = SOCK_STREAM };
+  struct addrinfo *found = NULL;
+  snprintf(port, sizeof port, "%d", settings.port);
+  int fault = getaddrinfo(name, port, &wanted, &found);
+  if (fault != 0) return fprintf(stderr, "bump-server: %s: %s\n", name, gai_strerror(fault)), false;
+  bool all = true;
+  for (const struct addrinfo *info = found; info != NULL; info = info->ai_next) all &= listen_on_address(info, name);
+  freeaddrinfo(found);
+  return all;
+}
+
+bool network_listen(void) {
+  if (settings.socket_path != NULL) return listen_on_path(settings.socket_path);
+  char *names = strdup(settings.address), *rest = NULL;
+  bool all = names != NULL;
+  for (char *name = all ? strtok_r(names, ",", &rest) : NULL; name != NULL; name = strtok_r(NULL, ",", &rest))
+    all &= listen_on_name(name);
+  free(names);
+  return all && listeners_count > 0;
+}
+
+void network_unlisten(void) {
+  for (int i = 0; i < listeners_count; i++) close(listeners[i]);
+  if (settings.socket_path != NULL) unlink(settings.socket_path);
+}
+
+/* ------------------------------------------------------------------------------------------------- accepting */
+
+/* Both under the lock: so the thread can't end a connection that it isn't told of yet. */
+static bool add_connection(struct connection *connection) {
+  struct thread *thread = connection->thread;
+  struct epoll_event event = { .events = EPOLLIN, .data.ptr = connection };
+  pthread_mutex_lock(&thread->lock);
+  connection->previous = &thread->connections;
+  connection->next = thread->connections;
+  if (connection->next != NULL) connection->next->previous = &connection->next;
+  thread->connections = connection;
+  bool added = epoll_ctl(thread->events, EPOLL_CTL_ADD, connection->file, &event) == 0;
+  pthread_mutex_unlock(&thread->lock);
+  return added;
+}
+
+static void end_connection(struct connection *connection) {
+  struct thread *thread = connection->thread;
+  pthread_mutex_lock(&thread->lock);
+  if (connection->next != NULL) connection->next->previous = connection->previous;
+  *connection->previous = connection->next;
+  pthread_mutex_unlock(&thread->lock);
+  close(connection->file); /* and so it leaves the epoll */
+  if (connection->storing.item != NULL) item_free(connection->storing.item);
+  free(connection->in.at);
+  free(connection->out.at);
+  free(connection);
+  atomic_fetch_sub(&current, 1);
+}
+
+static void reject(int file) {
+  static const char MANY[] = "ERROR Too many open connections\r\n";
+  if (send(file, MANY, sizeof MANY - 1, MSG_NOSIGNAL) < 0) {
+    /* it is told or not: it is closed in any case */
+  }
+  close(file);
+  atomic_fetch_add(&rejected, 1);
+}
+
+/* Gives a new connection to the threads in turn. */
+static void take_in(int file) {
+  static uint32_t turn;
+  int on = 1;
+  setsockopt(file, IPPROTO_TCP, TCP_NODELAY, &on, sizeof on);
+  struct connection *connection = calloc(1, sizeof *connection);
+  if (connection == NULL) {
+    count(&FIRST_THREAD->counters, COUNT_malloc_fails, 1);
+    close(file);
+    return;
+  }
+  connection->file = file;
+  connection->thread = &threads[turn++ % (uint32_t)settings.threads];
+  connection->active = clock_now();
+  atomic_fetch_add(&current, 1);
+  atomic_fetch_add(&ever, 1);
+  if (!add_connection(connection)) end_connection(connection);
+}
+
+/* Where there is no file number for one more, those that wait go on waiting, and this thread rests for a while. */
+static void accept_some(int listener) {
+  for (int i = 0; i < ACCEPTS_AT_ONCE; i++) {
+    int file = accept4(listener, NULL, NULL, SOCK_NONBLOCK | SOCK_CLOEXEC);
+    if (file < 0 && (errno == EMFILE || errno == ENFILE || errno == ENOBUFS || errno == ENOMEM)) {
+      struct timespec rest = { 0, 10000000 };
+      atomic_fetch_add(&without_file, 1);
+      nanosleep(&rest, NULL);
+    }
+    if (file < 0) return;
+    if (atomic_load(&current) >= (uint64_t)settings.connections) reject(file);
+    else take_in(file);
+  }
+}
+
+void network_accept(const sigset_t *blocked) {
+  struct pollfd wait[LISTENERS_MOST];
+  for (int i = 0; i < listeners_count; i++) wait[i] = (struct pollfd){ .fd = listeners[i], .events = POLLIN };
+  while (!atomic_load(&is_ending)) {
+    if (ppoll(wait, (nfds_t)listeners_count, NULL, blocked) <= 0) continue;
+    for (int i = 0; i < listeners_count; i++)
+      if (wait[i].revents != 0) accept_some(listeners[i]);
+  }
+}
+
+/* --------------------------------------------------------------------------------------------------- serving */
+
+bool network_prepare(struct thread *thread) {
+  pthread_mutex_init(&thread->lock, NULL);
+  thread->events = epoll_create1(EPOLL_CLOEXEC);
+  thread->wake = eventfd(0, EFD_NONBLOCK | EFD_CLOEXEC);
+  if (thread->events < 0 || thread->wake < 0) return false;
+  struct epoll_event event = { .events = EPOLLIN, .data.ptr = NULL };
+  return epoll_ctl(thread->events, EPOLL_CTL_ADD, thread->wake, &event) == 0;
+}
+
+void network_wake(struct thread *thread) { eventfd_write(thread->wake, 1); }
+
+static void wait_for(struct connection *connection, bool to_send) {
+  if (connection->waits_to_send == to_send) return;
+  connection->waits_to_send = to_send;
+  struct epoll_event event = { .events = to_send ? EPOLLOUT : EPOLLIN, .data.ptr = connection };
+  epoll_ctl(connection->thread->events, EPOLL_CTL_MOD, connection->file, &event);
+}
+
+/* Puts a connection behind the others that have more to do. The ring is named by its last one. */
+static void yield_to_others(struct connection *connection) {
+  struct thread *thread = connection->thread;
+  count(&thread->counters, COUNT_conn_yields, 1);
+  connection->is_yielded = true;
+  if (thread->yielded == NULL) {
+    connection->next_yielded = connection;
+  } else {
+    connection->next_yielded = thread->yielded->next_yielded;
+    thread->yielded->next_yielded = connection;
+  }
+  thread->yielded = connection;
+}
+
+static void attend(struct connection *connection) {
+  if (settings.idle_most > 0) connection->active = clock_now();
+  switch (drive(connection)) {
+    case DRIVE_RECEIVES: wait_for(connection, false); break;
+    case DRIVE_SENDS: wait_for(connection, true); break;
+    case DRIVE_YIELDS: yield_to_others(connection); break;
+    case DRIVE_ENDS: end_connection(connection); break;
+  }
+}
+
+/* Each that yielded goes on once. */
+static void attend_yielded(struct thread *thread) {
+  struct connection *last = thread->yielded;
+  if (last == NULL) return;
+  struct connection *next = last->next_yielded;
+  thread->yielded = NULL;
+  for (bool more = true; more;) {
+    struct connection *connection = next;
+    more = connection != last;
+    next = connection->next_yielded;
+    connection->is_yielded = false;
+    attend(connection);
+  }
+}
+
+/* A connection that did nothing for too long; NULL: there is none. */
+static struct connection *find_idle(struct thread *thread, uint32_t now) {
+  pthread_mutex_lock(&thread->lock);
+  struct connection *connection = thread->connections;
+  while (connection != NULL && (connection->is_yielded || now - connection->active <= (uint32_t)settings.idle_most))
+    connection = connection->next;
+  pthread_mutex_unlock(&thread->lock);
+  return connection;
+}
+
+static void end_idle(struct thread *thread, uint32_t now) {
+  for (struct connection *connection; (connection = find_idle(thread, now)) != NULL;) {
+    count(&thread->counters, COUNT_idle_kicks, 1);
+    end_connection(connection);
+  }
+}
+
+/* Sends what was answered, as long as there is time, and closes all connections. */
+static void farewell(struct thread *thread) {
+  for (int round = 0; thread->yielded != NULL && round < FAREWELL_ROUNDS; round++) attend_yielded(thread);
+  int left = FAREWELL_MILLISECONDS;
+  while (thread->connections != NULL) {
+    struct connection *connection = thread->connections;
+    struct pollfd wait = { .fd = connection->file, .events = POLLOUT };
+    while (left > 0 && !drive_send(connection)) {
+      if (poll(&wait, 1, 10) == 0) left -= 10;
+      if (buffer_size(&connection->out) == 0) break;
+    }
+    end_connection(connection);
+  }
+}
+
+void *network_serve(void *given) {
+  struct thread *thread = given;
+  struct epoll_event event[EVENTS_MOST];
+  const int patience = settings.idle_most > 0 ? 1000 : -1;
+  uint32_t looked = clock_now();
+  while (!atomic_load(&is_ending)) {
+    int events = epoll_wait(thread->events, event, EVENTS_MOST, thread->yielded != NULL ? 0 : patience);
+    for (int i = 0; i < events; i++) {
+      struct connection *connection = event[i].data.ptr;
+      if (connection != NULL && !connection->is_yielded) attend(connection);
+    }
+    attend_yielded(thread);
+    if (settings.idle_most > 0 && clock_now() != looked) end_idle(thread, looked = clock_now());
+  }
+  farewell(thread);
+  return NULL;
+}

@@ -1,0 +1,58 @@
+/* The commands. Each is given a connection and its line, cut into words. */
+#ifndef PROTOCOL_H
+#define PROTOCOL_H
+
+#include "connection.h"
+#include "words.h"
+
+#define WRONG_FORMAT "CLIENT_ERROR bad command line format"
+#define TOO_LARGE "SERVER_ERROR object too large for cache"
+#define OUT_OF_MEMORY "SERVER_ERROR out of memory storing object"
+
+/* A line, without its end: 0 stands there. What comes behind it in the buffer may be read as its value. */
+void text_line(struct connection *connection, char *line);
+
+/* Goes on with a get's keys, until they are answered or much is to be sent. */
+void text_answer_keys(struct connection *connection);
+
+/* Prepares for a value of so many bytes, which come next. Where there is no room for it, it is to be skipped. */
+void text_begin_value(struct connection *connection, const struct key *key, uint32_t flags, uint32_t expires,
+                      size_t bytes);
+
+/* The value that was to come is there, with what stands behind it. */
+void text_end_value(struct connection *connection);
+
+/* Whether the last word wants no reply, which is noted. */
+bool text_wants_no_reply(struct connection *connection, const struct words *words);
+
+/* The meta commands. */
+void meta_get(struct connection *connection, struct words *words);
+void meta_set(struct connection *connection, struct words *words);
+void meta_delete(struct connection *connection, struct words *words);
+void meta_arithmetic(struct connection *connection, struct words *words);
+void meta_debug(struct connection *connection, struct words *words);
+void meta_no_operation(struct connection *connection, struct words *words);
+
+/* A meta set is done. */
+void meta_tell_stored(struct connection *connection, enum store_answer answer, uint64_t unique);
+
+/* What isn't about one key. */
+void administer_flush(struct connection *connection, struct words *words);
+void administer_version(struct connection *connection, struct words *words);
+void administer_verbosity(struct connection *connection, struct words *words);
+void administer_memory(struct connection *connection, struct words *words);
+void administer_lists(struct connection *connection, struct words *words);
+void administer_crawler(struct connection *connection, struct words *words);
+void administer_slabs(struct connection *connection, struct words *words);
+void administer_watch(struct connection *connection, struct words *words);
+void administer_shutdown(struct connection *connection, struct words *words);
+void administer_time(struct connection *connection, struct words *words);
+void administer_quit(struct connection *connection, struct words *words);
+
+/* Goes on with a walk over items. */
+void administer_dump(struct connection *connection);
+
+/* `stats`, and what it tells of one thing. */
+void statistics(struct connection *connection, struct words *words);
+
+#endif

@@ -1,0 +1,238 @@
+#define _GNU_SOURCE
+#include "settings.h"
+#include "bump.h"
+#include <getopt.h>
+#include <stdio.h>
+#include <stdlib.h>
+#include <string.h>
+#include "words.h"
+
+struct settings settings = { .port = 11211,
+                             .address = "127.0.0.1",
+                             .socket_mode = 0700,
+                             .threads = 4,
+                             .connections = 1024,
+                             .backlog = 1024,
+                             .requests_at_once = 20,
+                             .item_most = 1 << 20,
+                             .chunk_least = 48,
+                             .growth_factor = 1.25,
+                             .evicts = true,
+                             .has_unique = true,
+                             .may_flush = true,
+                             .begins_crawling = true,
+                             .maintains = true,
+                             .memory = 64 << 20,
+                             .hot_percent = 20,
+                             .warm_percent = 40,
+                             .hot_factor = 0.2,
+                             .warm_factor = 2.0,
+                             .balance = 0.8,
+                             .temporary_ttl = -1 };
+
+static const struct option LONG[] = { { "port", required_argument, NULL, 'p' },
+                                      { "udp-port", required_argument, NULL, 'U' },
+                                      { "listen", required_argument, NULL, 'l' },
+                                      { "unix-socket", required_argument, NULL, 's' },
+                                      { "unix-mask", required_argument, NULL, 'a' },
+                                      { "memory-limit", required_argument, NULL, 'm' },
+                                      { "threads", required_argument, NULL, 't' },
+                                      { "conn-limit", required_argument, NULL, 'c' },
+                                      { "listen-backlog", required_argument, NULL, 'b' },
+                                      { "max-reqs-per-event", required_argument, NULL, 'R' },
+                                      { "max-item-size", required_argument, NULL, 'I' },
+                                      { "slab-growth-factor", required_argument, NULL, 'f' },
+                                      { "slab-min-size", required_argument, NULL, 'n' },
+                                      { "disable-evictions", no_argument, NULL, 'M' },
+                                      { "disable-cas", no_argument, NULL, 'C' },
+                                      { "disable-flush-all", no_argument, NULL, 'F' },
+                                      { "enable-shutdown", no_argument, NULL, 'A' },
+                                      { "protocol", required_argument, NULL, 'B' },
+                                      { "user", required_argument, NULL, 'u' },
+                                      { "pidfile", required_argument, NULL, 'P' },
+                                      { "lock-memory", no_argument, NULL, 'k' },
+                                      { "verbose", no_argument, NULL, 'v' },
+                                      { "extended", required_argument, NULL, 'o' },
+                                      { "help", no_argument, NULL, 'h' },
+                                      { "version", no_argument, NULL, 'V' },
+                                      { NULL, 0, NULL, 0 } };
+
+static const char HELP[] =
+    "bump-server: memcached's text and meta protocols over bump\n"
+    "\n"
+    "-p, --port=<number>          port to listen on (11211)\n"
+    "-l, --listen=<address>       addresses or names to listen on, with commas between (127.0.0.1)\n"
+    "-s, --unix-socket=<file>     socket to listen on, in place of a port\n"
+    "-a, --unix-mask=<mode>       its permissions, in octal (0700)\n"
+    "-m, --memory-limit=<number>  megabytes of items (64)\n"
+    "-t, --threads=<number>       threads that serve, 1 to 64 (4)\n"
+    "-c, --conn-limit=<number>    connections at once (1024)\n"
+    "-b, --listen-backlog=<number>  connections that wait to be accepted (1024)\n"
+    "-R, --max-reqs-per-event=<number>  requests of one connection before others come (20)\n"
+    "-I, --max-item-size=<size>   bytes of an item, with k or m behind: 1k to 1024m (1m)\n"
+    "-f, --slab-growth-factor=<number>  between the sizes of two classes (1.25)\n"
+    "-n, --slab-min-size=<bytes>  key, value and flags of the smallest class (48)\n"
+    "-M, --disable-evictions      where memory is used up, say so and store nothing\n"
+    "-C, --disable-cas            items have no number for cas\n"
+    "-F, --disable-flush-all      refuse flush_all\n"
+    "-A, --enable-shutdown        allow the command shutdown\n"
+    "-u, --user=<name>            whom to become, where root starts it\n"
+    "-P, --pidfile=<file>         write the number of the process there\n"
+    "-k, --lock-memory            keep all memory out of swap\n"
+    "-v, --verbose                say more on standard error; -vv: each command\n"
+    "-h, --help                   this text\n"
+    "-V, --version                the version\n"
+    "-o, --extended=<name>,<name>=<value>..\n"
+    "    hot_lru_pct=<number>       percent of a class that HOT may have (20)\n"
+    "    warm_lru_pct=<number>      percent of a class that WARM may have (40)\n"
+    "    hot_max_factor=<number>    of COLD's age, after which an item leaves HOT (0.2)\n"
+    "    warm_max_factor=<number>   the same of WARM (2.0)\n"
+    "    temporary_ttl=<seconds>    items that expire within them go to TEMP (none)\n"
+    "    idle_timeout=<seconds>     close connections that say nothing for so long (never)\n"
+    "    slab_automove_ratio=<number>  a class younger than that part of another's age takes its memory (0.8)\n"
+    "    slab_chunk_max=<bytes>     of the largest class (524288)\n"
+    "    lru_crawler, no_lru_crawler        look for expired items, or don't\n"
+    "    lru_maintainer, no_lru_maintainer  age lists in a thread of their own, or don't\n"
+    "    modern, no_modern          both, or none\n"
+    "\n"
+    "Not here: UDP (-U has no effect), authentication, encryption, storage on disk, the binary protocol.\n";
+
+static void wrong(const char *what, const char *text) {
+  fprintf(stderr, "bump-server: %s: %s. --help tells the options.\n", what, text);
+  exit(EXIT_WRONG_OPTION);
+}
+
+/* A whole number between two others, or the program ends. */
+static int whole(const char *name, const char *text, long least, long most) {
+  char *end;
+  long number = strtol(text, &end, 10);
+  if (*text == 0 || *end != 0 || number < least || number > most) wrong(name, "not a number that it can be");
+  return (int)number;
+}
+
+static double real(const char *name, const char *text, double above, double most) {
+  double number;
+  if (!number_real(text, &number) || !(number > above) || number > most) wrong(name, "not a number that it can be");
+  return number;
+}
+
+static uint32_t size(const char *name, const char *text) {
+  char *end;
+  double number = strtod(text, &end);
+  if (*end == 'k' || *end == 'K') number *= 1024, end++;
+  else if (*end == 'm' || *end == 'M') number *= 1024 * 1024, end++;
+  if (end == text || *end != 0) wrong(name, "not a size");
+  if (number < 1024 || number > 1024.0 * 1024 * 1024) wrong(name, "must be 1k to 1024m");
+  return (uint32_t)number;
+}
+
+/* Words of memcached's -o that say what is so here anyway, or that there is nothing to say of here. */
+static bool is_without_effect(const char *name) {
+  static const char *const NAMES[] = {
+    "maxconns_fast",      "no_maxconns_fast",     "no_hashexpand",      "hash_algorithm",     "hashpower",
+    "slab_reassign",      "no_slab_reassign",     "slab_automove",      "no_slab_automove",   "slab_automove_window",
+    "lru_crawler_sleep",  "lru_crawler_tocrawl",  "tail_repair_time",   "relaxed_privileges", "drop_privileges",
+    "no_drop_privileges", "watcher_logbuf_size",  "worker_logbuf_size", "track_sizes",        "resp_obj_mem_limit",
+    "read_buf_mem_limit", "no_inline_ascii_resp", "inline_ascii_resp"
+  };
+  for (size_t i = 0; i < sizeof NAMES / sizeof *NAMES; i++)
+    if (strcmp(name, NAMES[i]) == 0) return true;
+  return false;
+}
+
+/* One of the words of -o that have a value. */
+static bool read_valued(const char *name, const char *value) {
+  if (strcmp(name, "hot_lru_pct") == 0) settings.hot_percent = whole(name, value, 1, 80);
+  else if (strcmp(name, "warm_lru_pct") == 0) settings.warm_percent = whole(name, value, 1, 80);
+  else if (strcmp(name, "hot_max_factor") == 0) settings.hot_factor = real(name, value, 0, 1e9);
+  else if (strcmp(name, "warm_max_factor") == 0) settings.warm_factor = real(name, value, 0, 1e9);
+  else if (strcmp(name, "slab_automove_ratio") == 0) settings.balance = real(name, value, 0, 1);
+  else if (strcmp(name, "temporary_ttl") == 0) settings.temporary_ttl = whole(name, value, 0, 1 << 30);
+  else if (strcmp(name, "idle_timeout") == 0) settings.idle_most = whole(name, value, 0, 1 << 30);
+  else if (strcmp(name, "slab_chunk_max") == 0) settings.chunk_most = (uint32_t)whole(name, value, 512, 1 << 30);
+  else return false;
+  return true;
+}
+
+static void read_extended(char *text) {
+  char *rest = NULL;
+  for (char *name = strtok_r(text, ",", &rest); name != NULL; name = strtok_r(NULL, ",", &rest)) {
+    char *value = strchr(name, '=');
+    if (value != NULL) *value++ = 0;
+    if (strcmp(name, "modern") == 0) settings.begins_crawling = settings.maintains = true;
+    else if (strcmp(name, "no_modern") == 0) settings.begins_crawling = settings.maintains = false;
+    else if (strcmp(name, "lru_crawler") == 0) settings.begins_crawling = true;
+    else if (strcmp(name, "no_lru_crawler") == 0) settings.begins_crawling = false;
+    else if (strcmp(name, "lru_maintainer") == 0) settings.maintains = true;
+    else if (strcmp(name, "no_lru_maintainer") == 0) settings.maintains = false;
+    else if (value != NULL && read_valued(name, value)) continue;
+    else if (!is_without_effect(name)) wrong("-o", name);
+  }
+}
+
+/* Options that say where the server is and who it is. */
+static bool read_place(int option) {
+  switch (option) {
+    case 'p': settings.port = whole("-p", optarg, 0, 65535); return true;
+    case 'l': settings.address = optarg; return true;
+    case 's': settings.socket_path = optarg; return true;
+    case 'a': settings.socket_mode = (unsigned)strtoul(optarg, NULL, 8) & 0777; return true;
+    case 'u': settings.user = optarg; return true;
+    case 'P': settings.process_file = optarg; return true;
+    case 'k': settings.locks_memory = true; return true;
+    case 'v': settings.verbosity++; return true;
+    case 'U':
+      if (whole("-U", optarg, 0, 65535) != 0 && settings.verbosity > 0)
+        fprintf(stderr, "bump-server: there is no UDP here\n");
+      return true;
+    case 'B':
+      if (strcmp(optarg, "ascii") != 0 && strcmp(optarg, "auto") != 0) wrong("-B", "there is only ascii");
+      return true;
+    case 'V': printf("bump-server %s, over bump %u\n", SERVER_VERSION, bump_version()); exit(EXIT_SETTLED);
+    case 'h': fputs(HELP, stdout); exit(EXIT_SETTLED);
+    default: return false;
+  }
+}
+
+/* Options that say how much there may be. */
+static void read_measure(int option) {
+  switch (option) {
+    case 'm': settings.memory = (uint64_t)whole("-m", optarg, 1, 1 << 24) << 20; return;
+    case 't': settings.threads = whole("-t", optarg, 1, THREADS_MOST); return;
+    case 'c': settings.connections = whole("-c", optarg, 1, 1 << 24); return;
+    case 'b': settings.backlog = whole("-b", optarg, 1, 1 << 24); return;
+    case 'R': settings.requests_at_once = whole("-R", optarg, 1, 1 << 24); return;
+    case 'I': settings.item_most = size("-I", optarg); return;
+    case 'f': settings.growth_factor = real("-f", optarg, 1.0, 1e6); return;
+    case 'n': settings.chunk_least = (uint32_t)whole("-n", optarg, 1, 1 << 20); return;
+    case 'M': settings.evicts = false; return;
+    case 'C': settings.has_unique = false; return;
+    case 'F': settings.may_flush = false; return;
+    case 'A': settings.may_shut_down = true; return;
+    case 'o': read_extended(optarg); return;
+    default: wrong("the command line", "no such option");
+  }
+}
+
+/* What memcached's own tests want of a build for tests: as many bytes in use before the start, and a command by which
+ * time passes faster. Here the environment asks for them. */
+static void read_environment(void) {
+  const char *before = getenv("T_MEMD_INITIAL_MALLOC");
+  if (before != NULL) settings.bytes_before = strtoull(before, NULL, 10);
+  settings.may_move_time = getenv("BUMP_SERVER_DEBUGTIME") != NULL;
+}
+
+void settings_read(int count, char **words) {
+  int option;
+  opterr = 0;
+  while ((option = getopt_long(count, words, "p:l:s:a:u:P:kvU:B:Vhm:t:c:b:R:I:f:n:MCFAo:", LONG, NULL)) != -1)
+    if (!read_place(option)) read_measure(option);
+  if (optind < count) wrong(words[optind], "not an option");
+  if (settings.hot_percent + settings.warm_percent > 80)
+    wrong("-o", "hot_lru_pct and warm_lru_pct together are above 80");
+  if (settings.item_most > settings.memory / 2) wrong("-I", "more than half of -m");
+  if (settings.chunk_most == 0) settings.chunk_most = settings.item_most < 1 << 20 ? settings.item_most : 1 << 19;
+  if (settings.chunk_most > settings.item_most) settings.chunk_most = settings.item_most;
+  settings.crawls = settings.begins_crawling;
+  read_environment();
+}

@@ -1,0 +1,387 @@
+/* The text protocol: storing, retrieving, and which command a line is. */
+#define _GNU_SOURCE
+#include <inttypes.h>
+#include <limits.h>
+#include <stdio.h>
+#include <string.h>
+#include "clock.h"
+#include "protocol.h"
+#include "shelf.h"
+#include "table.h"
+
+enum { VALUE_LINE_MOST = 64 + KEY_MOST };
+
+bool text_wants_no_reply(struct connection *connection, const struct words *words) {
+  connection->is_quiet = words->count > 1 && word_is(&words->word[words->count - 1], "noreply");
+  return connection->is_quiet;
+}
+
+/* ------------------------------------------------------------------------------------------------- retrieving */
+
+/* VALUE key flags bytes [number for cas], the value, of an item that is held. */
+static void put_item(struct connection *connection, const struct item *item, bool tells_unique) {
+  char *at = connection_room(connection, VALUE_LINE_MOST + item->bytes + 2);
+  if (at == NULL) return;
+  memcpy(at, "VALUE ", 6);
+  memcpy(at + 6, item->key, item->key_bytes);
+  at += 6 + item->key_bytes;
+  *at++ = ' ';
+  at = put_u64(at, item->flags);
+  *at++ = ' ';
+  at = put_u64(at, item->bytes);
+  if (tells_unique) {
+    *at++ = ' ';
+    at = put_u64(at, atomic_load_explicit(&item->unique, memory_order_relaxed));
+  }
+  memcpy(at, "\r\n", 2);
+  memcpy(at + 2, item->value, item->bytes + 2);
+  connection_put_to(connection, at + 2 + item->bytes + 2);
+}
+
+static void count_hit(struct connection *connection, const struct item *item) {
+  _Atomic uint64_t *hits = &shelf_at(item->shelf)->reader[connection->thread->number].get_hits;
+  atomic_store_explicit(hits, atomic_load_explicit(hits, memory_order_relaxed) + 1, memory_order_relaxed);
+}
+
+static void answer_key(struct connection *connection, const char *text, size_t bytes) {
+  const struct asked_keys *keys = &connection->keys;
+  struct thread *thread = connection->thread;
+  uint32_t now = clock_now();
+  struct key key = table_key(text, bytes);
+  struct held held = cache_hold(thread, &key, now);
+  count(&thread->counters, keys->sets_expiry ? COUNT_cmd_touch : COUNT_cmd_get, 1);
+  if (held.item == NULL) {
+    count(&thread->counters, keys->sets_expiry ? COUNT_touch_misses : COUNT_get_misses, 1);
+    return;
+  }
+  if (keys->sets_expiry) atomic_store(&held.item->expires, keys->expires);
+  put_item(connection, held.item, keys->tells_unique);
+  cache_hit(thread, held.item, now);
+  count_hit(connection, held.item);
+  cache_release(thread, held.item);
+  count(&thread->counters, keys->sets_expiry ? COUNT_touch_hits : COUNT_get_hits, 1);
+}
+
+void text_answer_keys(struct connection *connection) {
+  connection->state = ANSWERS_KEYS;
+  while (!connection->ends && buffer_size(&connection->out) < SEND_MOST) {
+    char *at = word_begin(connection->keys.at), *end = word_end(at);
+    connection->keys.at = end;
+    if (at == end) {
+      connection_put(connection, "END\r\n", 5);
+      connection->state = READS_LINE;
+      return;
+    }
+    answer_key(connection, at, (size_t)(end - at));
+  }
+}
+
+/* No key is answered where one of them is too long. */
+static bool are_keys(char *at) {
+  for (;;) {
+    at = word_begin(at);
+    char *end = word_end(at);
+    if (at == end) return true;
+    if (end - at > KEY_MOST) return false;
+    at = end;
+  }
+}
+
+/* The line isn't cut into words, since it may have any number of keys. `at` is behind the command's name. */
+static void get(struct connection *connection, char *at, bool tells_unique, bool sets_expiry) {
+  connection->keys = (struct asked_keys){ .tells_unique = tells_unique, .sets_expiry = sets_expiry };
+  at = word_begin(at);
+  if (*at == 0) {
+    connection_say(connection, "ERROR");
+    return;
+  }
+  if (sets_expiry) {
+    int32_t given;
+    char *end = word_end(at);
+    char *keys = *end != 0 ? end + 1 : end;
+    *end = 0;
+    if (!number_i32(at, &given)) {
+      connection_say(connection, "CLIENT_ERROR invalid exptime argument");
+      return;
+    }
+    connection->keys.expires = clock_expiry(given);
+    at = keys;
+  }
+  if (!are_keys(at)) {
+    connection_say(connection, WRONG_FORMAT);
+    return;
+  }
+  connection->keys.at = at;
+  text_answer_keys(connection);
+}
+
+/* Whether a line is one of the gets, which is answered then. */
+static bool is_get(struct connection *connection, char *line) {
+  char *rest = word_end(line);
+  size_t bytes = (size_t)(rest - line);
+  if (bytes == 3 && memcmp(line, "get", 3) == 0) get(connection, rest, false, false);
+  else if (bytes == 4 && memcmp(line, "gets", 4) == 0) get(connection, rest, true, false);
+  else if (bytes == 3 && memcmp(line, "gat", 3) == 0) get(connection, rest, false, true);
+  else if (bytes == 4 && memcmp(line, "gats", 4) == 0) get(connection, rest, true, true);
+  else if (bytes == 4 && memcmp(line, "bget", 4) == 0) get(connection, rest, false, false);
+  else return false;
+  return true;
+}
+
+/* ---------------------------------------------------------------------------------------------------- storing */
+
+static void tell_stored(struct connection *connection, enum store_answer answer) {
+  switch (answer) {
+    case STORE_DONE: connection_say(connection, "STORED"); return;
+    case STORE_EXISTS: connection_say(connection, "EXISTS"); return;
+    case STORE_NOT_FOUND: connection_say(connection, "NOT_FOUND"); return;
+    case STORE_NOT: connection_say(connection, "NOT_STORED"); return;
+    default:
+      count(connection_counters(connection), COUNT_store_no_memory, 1);
+      connection_say(connection, OUT_OF_MEMORY);
+  }
+}
+
+/* The key's value with another one behind it or before it, as a new item; NULL: no memory, or too large for an item. */
+static struct item *joined(struct thread *thread, const struct key *key, const struct item *old,
+                           const struct item *more, bool behind) {
+  uint32_t expires = atomic_load(&old->expires);
+  size_t bytes = (size_t)old->bytes + more->bytes;
+  if (class_for(item_reckoned(key->bytes, old->flags, bytes)) == 0) return NULL;
+  struct item *item = cache_new_item(thread, key, old->flags, expires, bytes);
+  if (item == NULL) return NULL;
+  const struct item *first = behind ? old : more, *second = behind ? more : old;
+  memcpy(item->value, first->value, first->bytes);
+  memcpy(item->value + first->bytes, second->value, second->bytes);
+  item->has_binary_key = old->has_binary_key;
+  return item;
+}
+
+/* One try to append or prepend: STORE_AGAIN where another thread stored the key meanwhile. */
+static enum store_answer try_join(struct thread *thread, const struct item *more, const struct store_terms *terms,
+                                  uint64_t *unique) {
+  const struct key key = { more->key, more->key_bytes, more->hash };
+  struct held held = cache_hold(thread, &key, clock_now());
+  if (held.item == NULL) return STORE_NOT;
+  if (terms->unique != 0 && atomic_load(&held.item->unique) != terms->unique) {
+    cache_release(thread, held.item);
+    return STORE_EXISTS;
+  }
+  const struct store_terms swap = { .how = STORE_SWAP, .expected = item_name(held.item) };
+  struct item *item = joined(thread, &key, held.item, more, terms->how == STORE_APPEND);
+  cache_release(thread, held.item);
+  return item != NULL ? cache_store(thread, item, &swap, unique) : STORE_NOT;
+}
+
+static enum store_answer store(struct connection *connection, struct item *item, uint64_t *unique) {
+  struct thread *thread = connection->thread;
+  const struct store_terms *terms = &connection->storing.terms;
+  if (terms->how != STORE_APPEND && terms->how != STORE_PREPEND) return cache_store(thread, item, terms, unique);
+  enum store_answer answer;
+  do answer = try_join(thread, item, terms, unique);
+  while (answer == STORE_AGAIN);
+  item_free(item);
+  return answer;
+}
+
+void text_end_value(struct connection *connection) {
+  struct item *item = connection->storing.item;
+  struct shelf_reader *reader = &shelf_at(item->shelf)->reader[connection->thread->number];
+  connection->storing.item = NULL;
+  connection->state = READS_LINE;
+  count(connection_counters(connection), COUNT_cmd_set, 1);
+  atomic_fetch_add_explicit(&reader->cmd_set, 1, memory_order_relaxed);
+  if (memcmp(item->value + item->bytes, "\r\n", 2) != 0) {
+    item_free(item);
+    if (connection->storing.is_meta) connection_say_always(connection, "CLIENT_ERROR bad data chunk");
+    else connection_say(connection, "CLIENT_ERROR bad data chunk");
+    return;
+  }
+  uint64_t unique = 0;
+  enum store_answer answer = store(connection, item, &unique);
+  if (connection->storing.is_meta) meta_tell_stored(connection, answer, unique);
+  else tell_stored(connection, answer);
+}
+
+void text_begin_value(struct connection *connection, const struct key *key, uint32_t flags, uint32_t expires,
+                      size_t bytes) {
+  struct storing *storing = &connection->storing;
+  bool fits = class_for(item_reckoned(key->bytes, flags, bytes)) != 0;
+  struct item *item = fits ? cache_new_item(connection->thread, key, flags, expires, bytes) : NULL;
+  if (item != NULL) {
+    storing->item = item;
+    storing->received = 0;
+    connection->state = READS_VALUE;
+    return;
+  }
+  count(connection_counters(connection), fits ? COUNT_store_no_memory : COUNT_store_too_large, 1);
+  if (storing->is_meta) connection_say_always(connection, fits ? OUT_OF_MEMORY : TOO_LARGE);
+  else connection_say(connection, fits ? OUT_OF_MEMORY : TOO_LARGE);
+  connection->state = SKIPS_BYTES;
+  connection->skip = bytes + 2;
+  if (storing->is_meta || storing->terms.how == STORE_SET)
+    cache_end(connection->thread, key); /* its value is out of date */
+}
+
+static void update(struct connection *connection, struct words *words, enum store_how how) {
+  uint32_t flags;
+  int32_t expires, bytes;
+  uint64_t unique = 0;
+  struct word *word = words->word;
+  text_wants_no_reply(connection, words);
+  if (word[1].bytes > KEY_MOST || !number_u32(word[2].at, &flags) || !number_i32(word[3].at, &expires) ||
+      !number_i32(word[4].at, &bytes) || (how == STORE_CAS && !number_u64(word[5].at, &unique)) || bytes < 0 ||
+      bytes > INT_MAX - 2) {
+    connection_say(connection, WRONG_FORMAT);
+    return;
+  }
+  connection->storing.terms = (struct store_terms){ .how = how, .unique = unique };
+  connection->storing.is_meta = false;
+  struct key key = table_key(word[1].at, word[1].bytes);
+  text_begin_value(connection, &key, flags, clock_expiry(expires), (size_t)bytes);
+}
+
+static void set(struct connection *connection, struct words *words) { update(connection, words, STORE_SET); }
+static void add(struct connection *connection, struct words *words) { update(connection, words, STORE_ADD); }
+static void replace(struct connection *connection, struct words *words) { update(connection, words, STORE_REPLACE); }
+static void append(struct connection *connection, struct words *words) { update(connection, words, STORE_APPEND); }
+static void prepend(struct connection *connection, struct words *words) { update(connection, words, STORE_PREPEND); }
+static void cas(struct connection *connection, struct words *words) { update(connection, words, STORE_CAS); }
+
+/* ------------------------------------------------------------------------------------ what else is about a key */
+
+static void arithmetic(struct connection *connection, struct words *words, bool goes_up) {
+  struct word *word = words->word;
+  struct delta delta = { .goes_up = goes_up };
+  struct delta_done done;
+  text_wants_no_reply(connection, words);
+  if (word[1].bytes > KEY_MOST) {
+    connection_say(connection, WRONG_FORMAT);
+    return;
+  }
+  if (!number_u64(word[2].at, &delta.by)) {
+    connection_say(connection, "CLIENT_ERROR invalid numeric delta argument");
+    return;
+  }
+  struct key key = table_key(word[1].at, word[1].bytes);
+  char text[24] = { 0 };
+  switch (cache_add(connection->thread, &key, &delta, &done)) {
+    case DELTA_DONE:
+      put_u64(text, done.number);
+      connection_say(connection, text);
+      return;
+    case DELTA_NOT_FOUND: connection_say(connection, "NOT_FOUND"); return;
+    case DELTA_NO_NUMBER:
+      connection_say(connection, "CLIENT_ERROR cannot increment or decrement non-numeric value");
+      return;
+    default: connection_say(connection, "SERVER_ERROR out of memory");
+  }
+}
+
+static void incr(struct connection *connection, struct words *words) { arithmetic(connection, words, true); }
+static void decr(struct connection *connection, struct words *words) { arithmetic(connection, words, false); }
+
+static void delete_key(struct connection *connection, struct words *words) {
+  const struct word *word = words->word;
+  if (words->count > 2) {
+    bool zero = word_is(&word[2], "0"), quiet = text_wants_no_reply(connection, words);
+    if (!(words->count == 3 && (zero || quiet)) && !(words->count == 4 && zero && quiet)) {
+      connection_say(connection, "CLIENT_ERROR bad command line format.  Usage: delete <key> [noreply]");
+      return;
+    }
+  }
+  if (word[1].bytes > KEY_MOST) {
+    connection_say(connection, WRONG_FORMAT);
+    return;
+  }
+  struct key key = table_key(word[1].at, word[1].bytes);
+  bool there = cache_end(connection->thread, &key);
+  count(connection_counters(connection), there ? COUNT_delete_hits : COUNT_delete_misses, 1);
+  connection_say(connection, there ? "DELETED" : "NOT_FOUND");
+}
+
+static void touch(struct connection *connection, struct words *words) {
+  const struct word *word = words->word;
+  int32_t given;
+  text_wants_no_reply(connection, words);
+  if (word[1].bytes > KEY_MOST) {
+    connection_say(connection, WRONG_FORMAT);
+    return;
+  }
+  if (!number_i32(word[2].at, &given)) {
+    connection_say(connection, "CLIENT_ERROR invalid exptime argument");
+    return;
+  }
+  struct key key = table_key(word[1].at, word[1].bytes);
+  bool there = cache_set_expiry(connection->thread, &key, clock_expiry(given));
+  count(connection_counters(connection), COUNT_cmd_touch, 1);
+  count(connection_counters(connection), there ? COUNT_touch_hits : COUNT_touch_misses, 1);
+  connection_say(connection, there ? "TOUCHED" : "NOT_FOUND");
+}
+
+/* ------------------------------------------------------------------------------------------------ which it is */
+
+/* With its name, between `least` and `most` words. */
+struct command {
+  const char *name;
+  size_t least, most;
+  void (*run)(struct connection *connection, struct words *words);
+};
+
+static const struct command COMMANDS[] = {
+  { "mg", 2, WORDS_MOST, meta_get },
+  { "ms", 2, WORDS_MOST, meta_set },
+  { "set", 5, 6, set },
+  { "add", 5, 6, add },
+  { "cas", 6, 7, cas },
+  { "incr", 3, 4, incr },
+  { "decr", 3, 4, decr },
+  { "delete", 2, 4, delete_key },
+  { "touch", 3, 4, touch },
+  { "md", 2, WORDS_MOST, meta_delete },
+  { "ma", 2, WORDS_MOST, meta_arithmetic },
+  { "mn", 1, WORDS_MOST, meta_no_operation },
+  { "me", 1, WORDS_MOST, meta_debug },
+  { "replace", 5, 6, replace },
+  { "append", 5, 6, append },
+  { "prepend", 5, 6, prepend },
+  { "stats", 1, WORDS_MOST, statistics },
+  { "version", 1, WORDS_MOST, administer_version },
+  { "flush_all", 1, 3, administer_flush },
+  { "verbosity", 2, 3, administer_verbosity },
+  { "cache_memlimit", 2, 3, administer_memory },
+  { "lru", 1, WORDS_MOST, administer_lists },
+  { "lru_crawler", 1, WORDS_MOST, administer_crawler },
+  { "slabs", 1, WORDS_MOST, administer_slabs },
+  { "watch", 1, WORDS_MOST, administer_watch },
+  { "shutdown", 1, WORDS_MOST, administer_shutdown },
+  { "debugtime", 2, 2, administer_time },
+  { "quit", 1, WORDS_MOST, administer_quit },
+};
+
+static void unknown(struct connection *connection, const struct words *words) {
+  if (strncmp(words->word[words->count - 1].at, "HTTP/", 5) == 0) connection->ends = true;
+  else connection_say(connection, "ERROR");
+}
+
+void text_line(struct connection *connection, char *line) {
+  struct words words;
+  if (atomic_load_explicit(&settings.verbosity, memory_order_relaxed) > 1)
+    fprintf(stderr, "<%d %s\n", connection->file, line);
+  connection->is_quiet = false;
+  line = word_begin(line);
+  if (is_get(connection, line)) return;
+  words_cut(&words, line);
+  if (words.count == 0 || words.word[0].bytes < 2) {
+    connection_say(connection, "ERROR");
+    return;
+  }
+  for (size_t i = 0; i < sizeof COMMANDS / sizeof *COMMANDS; i++) {
+    const struct command *command = &COMMANDS[i];
+    if (!word_is(&words.word[0], command->name)) continue;
+    if (words.count >= command->least && words.count <= command->most) command->run(connection, &words);
+    else connection_say(connection, "ERROR");
+    return;
+  }
+  unknown(connection, &words);
+}

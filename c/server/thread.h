@@ -1,0 +1,34 @@
+/* Threads: those that serve, the maintainer, and the one that accepts connections. */
+#ifndef THREAD_H
+#define THREAD_H
+
+#include <pthread.h>
+#include <stdalign.h>
+#include <stdatomic.h>
+#include <stdbool.h>
+#include <stdint.h>
+#include "counters.h"
+#include "settings.h"
+
+struct connection;
+
+struct thread {
+  alignas(64) uint32_t number; /* of its worker in each shelf */
+  int events;                  /* an epoll of its connections */
+  int wake;                    /* written to when it is to end */
+  pthread_t id;
+  pthread_mutex_t lock;           /* of the list */
+  struct connection *connections; /* its own */
+  struct connection *yielded;     /* those that have more to do, in a ring: the last one */
+  struct counters counters;
+};
+
+/* Those that serve, then the maintainer, then the first thread. */
+extern struct thread threads[THREADS_MOST + 2];
+#define MAINTAINER (&threads[THREADS_MOST])
+#define FIRST_THREAD (&threads[THREADS_MOST + 1])
+
+/* Set when the server is to end. */
+extern _Atomic bool is_ending;
+
+#endif

@@ -1,0 +1,66 @@
+#define _GNU_SOURCE
+#include "words.h"
+#include <ctype.h>
+#include <errno.h>
+#include <stdlib.h>
+#include <string.h>
+
+void words_cut(struct words *words, char *line) {
+  words->count = 0;
+  for (char *at = line; words->count < WORDS_MOST;) {
+    at = word_begin(at);
+    if (*at == 0) break;
+    struct word *word = &words->word[words->count++];
+    word->at = at;
+    at = word_end(at);
+    word->bytes = (size_t)(at - word->at);
+    if (*at == 0) break;
+    *at++ = 0;
+  }
+  words->word[words->count] = (struct word){ line + strlen(line), 0 };
+}
+
+bool word_is(const struct word *word, const char *text) { return strcmp(word->at, text) == 0; }
+
+/* Whether a conversion that began at `text` and stopped at `end` read a number. */
+static bool is_read(const char *text, const char *end) {
+  return errno != ERANGE && end != text && (*end == 0 || isspace((unsigned char)*end));
+}
+
+bool number_u64(const char *text, uint64_t *number) {
+  char *end;
+  errno = 0;
+  *number = strtoull(text, &end, 10);
+  return is_read(text, end) && ((int64_t)*number >= 0 || strchr(text, '-') == NULL);
+}
+
+bool number_u32(const char *text, uint32_t *number) {
+  uint64_t wide;
+  bool right = number_u64(text, &wide);
+  *number = (uint32_t)wide;
+  return right;
+}
+
+bool number_i32(const char *text, int32_t *number) {
+  char *end;
+  errno = 0;
+  long wide = strtol(text, &end, 10);
+  *number = (int32_t)wide;
+  return is_read(text, end);
+}
+
+bool number_real(const char *text, double *number) {
+  char *end;
+  errno = 0;
+  *number = strtod(text, &end);
+  return is_read(text, end);
+}
+
+char *put_u64(char *at, uint64_t number) {
+  char digits[20];
+  size_t count = 0;
+  do digits[count++] = (char)('0' + number % 10);
+  while ((number /= 10) != 0);
+  while (count > 0) *at++ = digits[--count];
+  return at;
+}
