@@ -1,4 +1,4 @@
-mod PlaceLemmas
+pub mod PlaceLemmas
 mod RestLemmas
 mod RunLemmas
 pub mod TakeLemmas

@@ -31,7 +31,7 @@ pub put_back : {A : Type 0} (xs : List A) (i : ℕ) (x : A) → x ≡ slice_inde
 put_back xs i x read = ap (λ y. slice_set xs i y) read ∙ set-get_or xs i x
 
 -- a place that has a hold isn't free
-busy_there : (holds : List (Option HoldPart)) (place : ℕ) (x : Option HoldPart) → slice_get holds place ≡ Some x
+pub busy_there : (holds : List (Option HoldPart)) (place : ℕ) (x : Option HoldPart) → slice_get holds place ≡ Some x
     → is_some x ≡ true → slice_get holds place ≢ Some None
 busy_there holds place x there some = grind (arith, common_steps)
 
@@ -41,7 +41,7 @@ free_holds_nothing : (place : ℕ) (reader : ReaderView) (x : Option HoldPart) �
 free_holds_nothing place reader x there none = λ hold. grind (arith, common_steps)
 
 -- where nothing is, there is None
-none_of : (x : Option HoldPart) → is_some x ≡ false → x ≡ None
+pub none_of : (x : Option HoldPart) → is_some x ≡ false → x ≡ None
 none_of None is = refl
 none_of (Some hold) is = grind (arith, common_steps)
 

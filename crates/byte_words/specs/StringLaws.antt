@@ -1,23 +1,19 @@
 -- The words of a string tell the string.
-use Rattle.std.proofs.Common.{◌≡◌, ℕ, zero, suc, ◌-◌, ◌*◌, ◌^◌, ◌<◌, ◌≤◌, List, [], ◌∷◌, ◌++◌, length}
+use Rattle.std.proofs.Common.{◌≡◌, ℕ, zero, suc, ◌-◌, ◌*◌, ◌<◌, ◌≤◌, List, [], ◌∷◌, ◌++◌, length}
 use Rattle.std.proofs.Common.{take, drop, refl, sym, ap, ap₂, ◌∙◌, arith, length-append, length-drop}
 use Rattle.std.specs.Prelude.{replicate, slice_index, All}
 use Rattle.std.specs.Int.{w64, from_le_bytes, to_le_bytes}
 use Rattle.std.proofs.Math.Seq.{take-append_seam}
 use Rattle.std.proofs.lemmas.Nat.{le_bytes_8}
-use Rattle.std.proofs.lemmas.List.{take-append-drop, take-take, length-take-le, length-replicate}
-use Rattle.std.proofs.lemmas.List.Elements.{All-nil, All-cons, All-tail, All-append, All-replicate, All-take, All-drop}
+use Rattle.std.proofs.lemmas.List.{take-append-drop, length-take-le, length-replicate}
+use Rattle.std.proofs.lemmas.List.Elements.{All-tail, All-append, All-replicate, All-take, All-drop}
 use Rattle.packed_words.specs.Strings.{AreBytes, words_of, bytes_of}
 use Rattle.packed_words.specs.StringLaws.{EachByte, length-words_of}
-use Rattle.byte_words.specs.Strings.{words_for, filled, long_string, copied}
+use Rattle.byte_words.specs.Strings.{words_for, filled, long_string}
 
 -- a byte
 abbrev IsByte : ℕ → Type 0
 IsByte b = b < 256
-
--- a word
-abbrev IsWord : ℕ → Type 0
-IsWord n = n < 2 ^ 64
 
 -- what is read past the end of bytes is a byte, too
 each_byte : (xs : List ℕ) → AreBytes xs → EachByte xs
@@ -37,19 +33,6 @@ length-filled n bytes room =
     let zeros : ℕ = 8 * n - length bytes in
     omega (arith, length-append bytes (replicate zeros 0), length-replicate {A = ℕ} zeros 0)
 
--- eight bytes make a word
-word_below : (xs : List ℕ) → EachByte xs → IsWord (from_le_bytes w64 xs)
-word_below xs e = omega (arith, e 0, e 1, e 2, e 3, e 4, e 5, e 6, e 7)
-
--- each word of bytes is one
-words_below : (n : ℕ) (xs : List ℕ) → AreBytes xs → All IsWord (words_of n xs)
-unfolding words_of
-words_below zero xs h = All-nil IsWord
-words_below (suc n) xs h =
-    let word : ℕ = from_le_bytes w64 (take 8 xs) in
-    let first : IsWord word = word_below (take 8 xs) (each_byte (take 8 xs) (All-take IsByte 8 xs h)) in
-    All-cons IsWord word (words_of n (drop 8 xs)) first (words_below n (drop 8 xs) (All-drop IsByte 8 xs h))
-
 -- the bytes of the words of bytes are these bytes
 bytes_back : (n : ℕ) (xs : List ℕ) → length xs ≡ 8 * n → AreBytes xs → bytes_of (words_of n xs) ≡ xs
 unfolding words_of bytes_of
@@ -68,15 +51,6 @@ pub length-long_string : (w : ℕ) (bytes : List ℕ) → 0 < w → length (long
 unfolding long_string
 length-long_string w bytes some = omega (arith, length-words_of (w - 1) (filled (w - 1) bytes))
 
--- each of them is a word
-pub long_string_fit : (w : ℕ) (bytes : List ℕ) → AreBytes bytes → length bytes < 2 ^ 64
-    → All (λ n. n < 2 ^ 64) (long_string w bytes)
-unfolding long_string
-long_string_fit w bytes h short =
-    let body : List ℕ = filled (w - 1) bytes in
-    let words : All IsWord (words_of (w - 1) body) = words_below (w - 1) body (filled_bytes (w - 1) bytes h) in
-    All-cons IsWord (length bytes) (words_of (w - 1) body) short words
-
 -- the first word is the length
 pub long_string_count : (w : ℕ) (bytes : List ℕ) → slice_index (long_string w bytes) 0 ≡ length bytes
 unfolding long_string
@@ -93,13 +67,6 @@ long_string_back w bytes room h =
     bytes_back n (filled n bytes) long (filled_bytes n bytes h) in
     ap (take (length bytes)) raw ∙ take-append_seam bytes (replicate (8 * n - length bytes) 0)
 
--- so the first of these bytes are the first ones of the string
-pub long_string_part : (w n : ℕ) (bytes : List ℕ) → words_for (length bytes) ≤ w → AreBytes bytes → n ≤ length bytes
-    → take n (bytes_of (drop 1 (long_string w bytes))) ≡ take n bytes
-long_string_part w n bytes room h part =
-    let raw : List ℕ = bytes_of (drop 1 (long_string w bytes)) in
-    sym (take-take n (length bytes) raw part) ∙ ap (take n) (long_string_back w bytes room h)
-
 -- two strings with the same words are the same string
 pub one_long_string : (w : ℕ) (xs ys : List ℕ) → words_for (length xs) ≤ w → words_for (length ys) ≤ w
     → AreBytes xs → AreBytes ys → long_string w xs ≡ long_string w ys → xs ≡ ys
@@ -110,18 +77,3 @@ one_long_string w xs ys p q g h e =
     let words : List ℕ = long_string w bytes in
     ap (λ (n : ℕ). take n (bytes_of (drop 1 words))) (long_string_count w bytes) ∙ long_string_back w bytes room are in
     sym (back xs p g) ∙ ap told e ∙ back ys q h
-
--- each word has eight bytes
-pub length-bytes_of : (words : List ℕ) → length (bytes_of words) ≡ 8 * length words
-unfolding bytes_of
-length-bytes_of [] = refl
-length-bytes_of (x ∷ words) = omega (arith, length-bytes_of words)
-
--- a buffer stays as long as it was
-pub length-copied : (count : ℕ) (words buffer : List ℕ) → count ≤ 8 * length words → count ≤ length buffer
-    → length (copied count words buffer) ≡ length buffer
-length-copied count words buffer enough room =
-    let front : List ℕ = take count (bytes_of words) in
-    let within : count ≤ length (bytes_of words) = omega (arith, length-bytes_of words) in
-    let long : length front ≡ count = length-take-le count (bytes_of words) within in
-    omega (arith, length-append front (drop count buffer), length-drop count buffer)

@@ -1,8 +1,8 @@
 -- A byte string of any length as words: its length in the first word, its bytes behind it, eight a word, and zeros.
 use Rattle.std.specs.Prelude.{ℕ, suc, ◌+◌, ◌-◌, ◌*◌, ◌/◌, List, [], ◌∷◌, ◌++◌, length}
-use Rattle.std.specs.Prelude.{take, drop, replicate, slice_index}
+use Rattle.std.specs.Prelude.{replicate, slice_index}
 use Rattle.std.specs.Int.{w64, from_le_bytes}
-use Rattle.packed_words.specs.Strings.{words_of, bytes_of}
+use Rattle.packed_words.specs.Strings.{words_of}
 
 -- how many words a string of so many bytes needs: one for its length, and one for each eight bytes, or part of eight
 abbrev pub words_for : ℕ → ℕ
@@ -21,7 +21,3 @@ abbrev pub word_from : List ℕ → ℕ → ℕ
 word_from xs first =
     let byte : ℕ → ℕ = λ k. slice_index xs (first + k) in
     from_le_bytes w64 (byte 0 ∷ byte 1 ∷ byte 2 ∷ byte 3 ∷ byte 4 ∷ byte 5 ∷ byte 6 ∷ byte 7 ∷ [])
-
--- so many bytes of words, from the first one on, in the place of the first ones of a buffer; both have at least so many
-abbrev pub copied : ℕ → List ℕ → List ℕ → List ℕ
-copied count words buffer = take count (bytes_of words) ++ drop count buffer

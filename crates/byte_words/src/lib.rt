@@ -2,10 +2,8 @@
 //! length in bytes, and behind it stand its bytes, eight a word, the lowest first, and zeros behind the last byte.
 #![tactic(auto)]
 
-mod copying;
 mod spelling;
 
-pub use copying::copy_bytes;
 pub use spelling::{spell, words_for};
 
 #[cfg(test)]

@@ -1,9 +1,9 @@
 -- What calls of a reader come to. The view `v` is that of the reader's fields.
-use Rattle.std.proofs.Common.{◌≡◌, ◌≢◌, ℕ, ◌+◌, ◌≤◌, ◌<◌, List, length, replicate, true, false, Option, Some, None, is_some, refl, sym, ap, ◌∙◌, subst, arith}
+use Rattle.std.proofs.Common.{◌≡◌, ℕ, ◌+◌, ◌≤◌, ◌<◌, List, length, replicate, true, false, Option, Some, None, is_some, refl, sym, ap, ◌∙◌, subst, arith}
 use Rattle.std.proofs.lemmas.Grind.{common_steps}
-use Rattle.std.proofs.lemmas.List.{set-get_or}
 use Rattle.std.specs.Prelude.{slice_get, slice_set, slice_index_or}
 use Rattle.bump_steps.specs.declared.views.HoldPart.{HoldPart}
+use Rattle.bump_handles.proofs.PlaceLemmas.{busy_there, none_of, put_back}
 use Rattle.byte_words.specs.Strings.{long_string}
 use Rattle.cache_readers.specs.Readers.{Misses, ReaderView}
 use Rattle.bump_cache.specs.Readers.{CacheReaderView, InPart}
@@ -14,20 +14,6 @@ use Rattle.cache_handles.specs.declared.values.ValueTold.{ValueTold}
 use Rattle.cache_handles.specs.Reading.{Gets, HitsHeld, HoldsNothing, TellsGet, TellsHold, TellsRead, TellsRelease, key_of, value_word}
 use Rattle.cache_handles.specs.Rows.{TellsValue, eight_words}
 use Rattle.cache_handles.specs.Views.{ByteReaderView}
-
--- what is put back where it was read changes nothing
-put_back : {A : Type 0} (xs : List A) (i : ℕ) (x : A) → x ≡ slice_index_or xs i x → slice_set xs i x ≡ xs
-put_back xs i x read = ap (λ y. slice_set xs i y) read ∙ set-get_or xs i x
-
--- a place that has a hold isn't free
-busy_there : (holds : List (Option HoldPart)) (place : ℕ) (x : Option HoldPart) → slice_get holds place ≡ Some x
-    → is_some x ≡ true → slice_get holds place ≢ Some None
-busy_there holds place x there some = grind (arith, common_steps)
-
--- where nothing is, there is None
-none_of : (x : Option HoldPart) → is_some x ≡ false → x ≡ None
-none_of None is = refl
-none_of (Some hold) is = grind (arith, common_steps)
 
 -- no item is held in a place that is free
 free_holds_nothing : (place : ℕ) (reader : ByteReaderView) (x : Option HoldPart)

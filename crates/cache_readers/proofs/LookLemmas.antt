@@ -11,11 +11,13 @@ use Rattle.bump_steps.specs.Rule.{RowPredicate}
 use Rattle.entry_times.specs.Times.{has_expired}
 
 -- a hold of an item that isn't what is looked for
-pub vain_of_hold : (config : Config) (key : List ℕ) (now chunk : ℕ) (before after : WorkerState) (hold : HoldPart)
-    (found : Head) → WorkerGetsAny config chunk before after (Ok (hold, found)) → IsPassedBy key now hold.row
+pub vain_of_hold : (config : Config) (key : List ℕ) (now chunk generation : ℕ) (before after : WorkerState)
+    (hold : HoldPart) (found : Head) → WorkerGetsAny config chunk before after (Ok (hold, found))
+    → (hold.life.generation ≡ generation → IsPassedBy key now hold.row)
     → MakesAtMost 1 8 0 before.part.steps after.part.steps → LooksInVain config key now before after
-vain_of_hold config key now chunk before after hold found gets other few = record {
+vain_of_hold config key now chunk generation before after hold found gets other few = record {
   chunk = chunk;
+  generation = generation;
   took = Ok (hold, found);
   gets = gets;
   other = other;

@@ -33,13 +33,14 @@ HasOtherKey key row = (i : ℕ) × (i < length key) × (word_of_row row i ≢ sl
 abbrev pub IsPassedBy : List ℕ → ℕ → List ℕ → Type 0
 IsPassedBy key now row = HasOtherKey key row ⊎ (HasWords key 0 row × (has_expired (label_of_row row) now ≡ true))
 
--- a look at a chunk gave no hold, or one of an item with another key, or of one with the key that has expired: one load
--- of its head, and at most 8 exchanges
+-- a look at a chunk for its life of a generation gave no hold, or one of another life, or one of an item with another
+-- key, or of one with the key that has expired: one load of its head, and at most 8 exchanges
 pub record LooksInVain (config : Config) (key : List ℕ) (now : ℕ) (before after : WorkerState) : Type 0 where
   pub chunk : ℕ
+  pub generation : ℕ
   pub took : Result (HoldPart × Head) GetAnyRefusal
   pub gets : WorkerGetsAny config chunk before after took
-  pub other : IfOk took (λ told. IsPassedBy key now told.0.row)
+  pub other : IfOk took (λ told. told.0.life.generation ≡ generation → IsPassedBy key now told.0.row)
   pub few : MakesAtMost 1 8 0 before.part.steps after.part.steps
 
 -- so many, one after the other

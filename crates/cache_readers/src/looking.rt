@@ -83,8 +83,8 @@ pub(crate) fn touch<N: Name, L: RowLaw>(
     let _touch = worker.touch(heads, hold, now);
 }
 
-// Looks at a chunk: where its item has the key and hasn't expired the hold of it is answered, and the head by which it
-// was taken.
+// Looks at a life: where it hasn't ended, has the key and hasn't expired, the hold of it is answered, and the head by
+// which it was taken.
 #[inline(always)]
 fn look<N: Name, L: RowLaw>(
     worker: &mut Worker<N>,
@@ -95,20 +95,22 @@ fn look<N: Name, L: RowLaw>(
 ) -> Result<(Hold<N>, Head), Vain>
     requires few { length key.now ≤ N.table.slots }
     ensures takes { IfOk result (λ took. TakesKey L.law heads.now key.now now worker.old worker.new took.0 took.1) }
+    ensures led { IfOk result (λ took. took.0.life.generation ≡ id.generation) }
     ensures vain { OnErr result (LooksInVain heads.now key.now now worker.old worker.new) }
     ensures ring { worker.new.sender.ring ≡ worker.old.sender.ring }
 {
     let Ok((mut hold, found)) = worker.get_any(heads, id.chunk) else {
         return Err(Vain::Ended);
     };
-    if !has_key(&mut hold, heads, key) {
-        let life = hold.life();
+    // Another life may have the key too: one that was put since, and to which the index doesn't lead yet. Whoever took
+    // it would find the value before it by the next get.
+    if hold.life().generation != id.generation {
         hold.release(heads);
-        return Err(if life.generation == id.generation {
-            Vain::Other
-        } else {
-            Vain::Ended
-        });
+        return Err(Vain::Ended);
+    }
+    if !has_key(&mut hold, heads, key) {
+        hold.release(heads);
+        return Err(Vain::Other);
     }
     if has_expired(hold.label(heads), now) {
         hold.release(heads);

@@ -56,7 +56,7 @@ byte_in w words i h p =
     ∙ byte_of words ((i + 2) / 8) ((i + 2) % 8) (2 + i) (omega arith) within (omega arith))
 
 -- zeros behind bytes change no byte
-padded : (xs : List ℕ) (m i : ℕ) → get_or (xs ++ replicate m 0) i 0 ≡ get_or xs i 0
+pub padded : (xs : List ℕ) (m i : ℕ) → get_or (xs ++ replicate m 0) i 0 ≡ get_or xs i 0
 padded [] zero i = refl
 padded [] (suc m) zero = refl
 padded [] (suc m) (suc i) = padded [] m i
@@ -64,7 +64,7 @@ padded (a ∷ xs) m zero = refl
 padded (a ∷ xs) m (suc i) = padded xs m i
 
 -- where all bytes are the same, so is a word
-same_word : (xs ys : List ℕ) (k : ℕ) → ((i : ℕ) → get_or xs i 0 ≡ get_or ys i 0) → word_in xs k ≡ word_in ys k
+pub same_word : (xs ys : List ℕ) (k : ℕ) → ((i : ℕ) → get_or xs i 0 ≡ get_or ys i 0) → word_in xs k ≡ word_in ys k
 same_word xs ys k e =
     omega (
       arith,
@@ -87,7 +87,7 @@ behind : (xs : List ℕ) (k i : ℕ) → get_or (drop 8 xs) (8 * k + i) 0 ≡ ge
 behind xs k i = get_or-drop 8 xs (8 * k + i) 0 ∙ ap (λ (m : ℕ). get_or xs m 0) (omega arith)
 
 -- a word of bytes, by its place
-word_of : (w : ℕ) (xs : List ℕ) (k : ℕ) → k < w → get_or (words_of w xs) k 0 ≡ word_in xs k
+pub word_of : (w : ℕ) (xs : List ℕ) (k : ℕ) → k < w → get_or (words_of w xs) k 0 ≡ word_in xs k
 unfolding words_of
 word_of zero xs k p = absurd (omega arith)
 word_of (suc w) xs zero p =
