@@ -100,7 +100,7 @@ class Chaos:
         """Nobody else has these keys: so what is there is what was stored last."""
         chance, mine = random.Random(self.seed * 100 + number), {}
         try:
-            client = Client(self.port, 20)
+            client = Client(self.port, 60)
             while not self.is_over():
                 self.one_right(client, chance, mine, b"ok%d_%d_%d" % (self.seed, number, chance.randrange(200)))
                 self.asked += 1

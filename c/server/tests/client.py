@@ -7,7 +7,7 @@ ANSWER = b"EN O%d\r\n"
 
 
 class Client:
-    def __init__(self, port, seconds=10):
+    def __init__(self, port, seconds=60):
         self.port, self.seconds, self.count = port, seconds, 0
         self.socket = socket.create_connection(("127.0.0.1", port), timeout=seconds)
         self.socket.setsockopt(socket.IPPROTO_TCP, socket.TCP_NODELAY, 1)

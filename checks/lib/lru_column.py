@@ -1,7 +1,7 @@
 #!/usr/bin/env python3
 """Reads keys, one a line, and prints for each size that it is given: the size, the accesses, and the hits of an LRU.
 
-    checks/lru_column.py SIZE.. < KEYS
+    checks/lib/lru_column.py SIZE.. < KEYS
 """
 import sys
 from collections import OrderedDict

@@ -9,7 +9,7 @@ to what the ones before it made. No other line is read. The status is 1 where on
 import sys
 from pathlib import Path
 
-TOP = Path(__file__).resolve().parent.parent
+TOP = Path(__file__).resolve().parent.parent.parent
 FOLDERS = ("must-fail", "wrong-bodies")
 
 
@@ -62,7 +62,7 @@ def edit_faults(crates=()):
 def main():
     for crate in sys.argv[1:]:
         if not (TOP / "crates" / crate / "src").is_dir():
-            sys.exit(f"checks/edits.py: there is no crate {crate}")
+            sys.exit(f"checks/wrong_bodies: there is no crate {crate}")
     count, faults = edit_faults(sys.argv[1:])
     print("\n".join(faults + [f"{count} wrong bodies, {len(faults)} can't be applied"]))
     sys.exit(1 if faults else 0)

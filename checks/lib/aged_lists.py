@@ -1,7 +1,7 @@
 #!/usr/bin/env python3
 """Runs keys, one a line, through plain lists by the cache's rules, for one reader: what `bump_replay` has to count.
 
-    checks/aged_lists.py ITEMS HOT WARM HOT_AGE WARM_AGE RING EVERY [PARTS] < KEYS
+    checks/lib/aged_lists.py ITEMS HOT WARM HOT_AGE WARM_AGE RING EVERY [PARTS] < KEYS
 
 HOT and WARM are percents of the items, HOT_AGE and WARM_AGE percents of the age of COLD, or - where ages don't count; EVERY is
 after how many accesses the lists are tended; each of PARTS, 1 where it isn't given, has lists of its own. It prints the hits, and

@@ -8,7 +8,7 @@ from pathlib import Path
 def run(program, mode, trace, *more):
     """How a run ended, what it printed, and what it said on standard error. Where there is no program the check ends in one line."""
     try:
-        ended = subprocess.run([program, mode, trace, *more], capture_output=True, timeout=120)
+        ended = subprocess.run([program, mode, trace, *more], capture_output=True, timeout=1200)
     except OSError:
         check = Path(sys.argv[0]).name
         sys.exit(f"checks/{check}: no built program at {program}: `rt run` in crates/bumpsim builds it, or name one behind -p")
