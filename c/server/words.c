@@ -57,6 +57,10 @@ bool number_real(const char *text, double *number) {
 }
 
 char *put_u64(char *at, uint64_t number) {
+  if (number < 10) { /* as most flags are */
+    *at = (char)('0' + number);
+    return at + 1;
+  }
   char digits[20];
   size_t count = 0;
   do digits[count++] = (char)('0' + number % 10);
