@@ -26,6 +26,7 @@ struct meta {
   bool has_unique;     /* C */
   bool invalidates;    /* I */
   bool has_binary_key; /* b */
+  bool ends_by_vivify; /* of N and T, N comes last: it tells when a new item expires */
   char mode;           /* M */
   uint32_t vivify_expires;
   uint32_t expires;
@@ -55,8 +56,11 @@ static uint64_t read_number(struct meta *meta, const char *text, const char *err
 static bool read_token(struct meta *meta, const struct word *word) {
   const char *rest = word->at + 1;
   switch (word->at[0]) {
-    case 'N': meta->vivifies = true, meta->vivify_expires = read_time(meta, rest); return true;
-    case 'T': meta->has_expiry = true, meta->expires = read_time(meta, rest); return true;
+    case 'N': meta->vivifies = meta->ends_by_vivify = true, meta->vivify_expires = read_time(meta, rest); return true;
+    case 'T':
+      meta->has_expiry = true, meta->expires = read_time(meta, rest);
+      meta->ends_by_vivify = false;
+      return true;
     case 'R': meta->recaches = true, meta->recache_before = read_time(meta, rest); return true;
     case 'C': meta->has_unique = true, meta->unique = read_number(meta, rest, BAD_TOKEN); return true;
     case 'J': meta->initial = read_number(meta, rest, "CLIENT_ERROR invalid numeric initial value"); return true;
@@ -212,7 +216,7 @@ static char *put_found(char *at, const struct words *words, const struct meta *m
     switch (words->word[i].at[0]) {
       case 'T': atomic_store(&item->expires, expires = meta->expires); break;
       case 'N':
-        if (found->is_new) expires = meta->vivify_expires;
+        if (found->is_new) atomic_store(&item->expires, expires = meta->vivify_expires);
         *wins |= found->is_new;
         break;
       case 'R': *wins |= !item->has_winner && !found->is_new && expires != 0 && expires < meta->recache_before; break;
@@ -434,7 +438,8 @@ static enum store_answer begin_number(struct thread *thread, const struct key *k
                                       struct reckoned *to) {
   char digits[20];
   size_t bytes = (size_t)(put_u64(digits, meta->initial) - digits);
-  struct item *item = cache_new_item(thread, key, 0, meta->has_expiry ? meta->expires : meta->vivify_expires, bytes);
+  uint32_t expires = meta->ends_by_vivify ? meta->vivify_expires : meta->expires;
+  struct item *item = cache_new_item(thread, key, 0, expires, bytes);
   if (item == NULL) return STORE_NO_MEMORY;
   memcpy(item->value, digits, bytes);
   item->has_binary_key = meta->has_binary_key;

@@ -22,7 +22,10 @@ struct stripe {
 enum { FETCHED_BYTES = 192, LINE_BYTES = 64 };
 
 static struct stripe stripe[STRIPES];
-static uint32_t seed; /* no client knows it, so none can choose keys that meet in a bucket */
+
+/* So that keys meet in other buckets at each start. It doesn't keep out who means harm: of this hash keys are known that
+ * meet whatever the seed is. memcached's is the same, without a seed. */
+static uint32_t seed;
 
 static struct stripe *stripe_of(uint32_t hash) { return &stripe[hash & (STRIPES - 1)]; }
 

@@ -38,7 +38,7 @@ bool number_u32(const char *text, uint32_t *number) {
   uint64_t wide;
   bool right = number_u64(text, &wide);
   *number = (uint32_t)wide;
-  return right;
+  return right && wide <= UINT32_MAX;
 }
 
 bool number_i32(const char *text, int32_t *number) {
@@ -46,7 +46,7 @@ bool number_i32(const char *text, int32_t *number) {
   errno = 0;
   long wide = strtol(text, &end, 10);
   *number = (int32_t)wide;
-  return is_read(text, end);
+  return is_read(text, end) && wide >= INT32_MIN && wide <= INT32_MAX;
 }
 
 bool number_real(const char *text, double *number) {

@@ -36,8 +36,8 @@ void words_cut(struct words *words, char *line);
 
 bool word_is(const struct word *word, const char *text);
 
-/* Decimal numbers, ended by the word's end or by a blank. A number of 32 bits is what C's own conversion gives, cut to
- * them. */
+/* Decimal numbers, ended by the word's end or by a blank. One that its bits don't hold isn't read: memcached cuts it to
+ * them, and then takes a value's length of 4294967301 for 5, and the rest of the value for commands. */
 bool number_u64(const char *text, uint64_t *number);
 bool number_u32(const char *text, uint32_t *number);
 bool number_i32(const char *text, int32_t *number);
