@@ -13,7 +13,7 @@ enum { STRIPE_BITS = 12, STRIPES = 1 << STRIPE_BITS, BUCKETS_FIRST = 16 };
 /* One line of a processor's cache: so who takes the lock has the rest of it too. */
 struct stripe {
   alignas(64) pthread_mutex_t lock;
-  _Atomic(struct item **) bucket; /* this and the mask change under the lock; table_fetch_bucket reads them without it */
+  _Atomic(struct item **) bucket; /* this and the mask change under the lock; table_fetch_bucket reads without it */
   _Atomic uint32_t mask;
   uint32_t items;
 };
@@ -23,8 +23,8 @@ enum { FETCHED_BYTES = 192, LINE_BYTES = 64 };
 
 static struct stripe stripe[STRIPES];
 
-/* So that keys meet in other buckets at each start. It doesn't keep out who means harm: of this hash keys are known that
- * meet whatever the seed is. memcached's is the same, without a seed. */
+/* So that keys meet in other buckets at each start. It doesn't keep out who means harm: of this hash keys are known
+ * that meet whatever the seed is. memcached's is the same, without a seed. */
 static uint32_t seed;
 
 static struct stripe *stripe_of(uint32_t hash) { return &stripe[hash & (STRIPES - 1)]; }
