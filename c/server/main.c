@@ -82,7 +82,6 @@ static void start_thread(struct thread *thread, uint32_t number, const char *nam
 }
 
 static void end_thread(struct thread *thread) {
-  network_wake(thread);
   pthread_join(thread->id, NULL);
   close(thread->events);
   close(thread->wake);
@@ -134,6 +133,7 @@ int main(int count, char **words) {
   if (settings.verbosity > 0) fprintf(stderr, "bump-server: serves with %d threads\n", settings.threads);
   network_accept(&before);
   uint64_t connections = network_measure().current;
+  for (int i = 0; i < settings.threads; i++) network_wake(&threads[i]); /* all at once: each may take a second */
   for (int i = 0; i < settings.threads; i++) end_thread(&threads[i]);
   end_thread(MAINTAINER);
   network_unlisten();
