@@ -1,7 +1,6 @@
 /* The meta protocol: mg, ms, md, ma, me, mn, and their flags. */
 #define _GNU_SOURCE
 #include <inttypes.h>
-#include <limits.h>
 #include <stdio.h>
 #include <string.h>
 #include "base64.h"
@@ -322,11 +321,10 @@ static void prepare_answer(struct storing *storing, const struct words *words, c
 }
 
 void meta_set(struct connection *connection, struct words *words) {
-  int32_t bytes = 0;
+  size_t bytes = 0;
   const char *fault = fault_of(words, "CLIENT_ERROR options flags too long");
   if (words->count == 2) fault = WRONG_FORMAT;
-  if (fault == NULL && (!number_i32(words->word[2].at, &bytes) || bytes < 0 || bytes > INT_MAX - 2))
-    fault = WRONG_FORMAT;
+  if (fault == NULL && !number_length(words->word[2].at, &bytes)) fault = WRONG_FORMAT;
   if (fault != NULL) {
     connection_say_always(connection, fault);
     return;
@@ -338,7 +336,7 @@ void meta_set(struct connection *connection, struct words *words) {
   if (meta.error != NULL) {
     connection_say_always(connection, meta.error);
     connection->state = SKIPS_BYTES;
-    connection->skip = (uint64_t)bytes + 2;
+    connection->skip = bytes + 2;
     return;
   }
   struct storing *storing = &connection->storing;
@@ -349,7 +347,7 @@ void meta_set(struct connection *connection, struct words *words) {
   connection->is_quiet = meta.is_quiet;
   prepare_answer(storing, words, &meta);
   struct key key = table_key(words->word[1].at, words->word[1].bytes);
-  text_begin_value(connection, &key, meta.flags, meta.expires, (size_t)bytes);
+  text_begin_value(connection, &key, meta.flags, meta.expires, bytes);
   if (connection->state == READS_VALUE) storing->item->has_binary_key = meta.has_binary_key;
 }
 

@@ -1,7 +1,6 @@
 /* The text protocol: storing, retrieving, and which command a line is. */
 #define _GNU_SOURCE
 #include <inttypes.h>
-#include <limits.h>
 #include <stdio.h>
 #include <string.h>
 #include "clock.h"
@@ -244,20 +243,20 @@ void text_begin_value(struct connection *connection, const struct key *key, uint
 
 static void update(struct connection *connection, struct words *words, enum store_how how) {
   uint32_t flags;
-  int32_t expires, bytes;
+  int32_t expires;
+  size_t bytes;
   uint64_t unique = 0;
   struct word *word = words->word;
   text_wants_no_reply(connection, words);
   if (word[1].bytes > KEY_MOST || !number_u32(word[2].at, &flags) || !number_i32(word[3].at, &expires) ||
-      !number_i32(word[4].at, &bytes) || (how == STORE_CAS && !number_u64(word[5].at, &unique)) || bytes < 0 ||
-      bytes > INT_MAX - 2) {
+      !number_length(word[4].at, &bytes) || (how == STORE_CAS && !number_u64(word[5].at, &unique))) {
     connection_say(connection, WRONG_FORMAT);
     return;
   }
   connection->storing.terms = (struct store_terms){ .how = how, .unique = unique };
   connection->storing.is_meta = false;
   struct key key = table_key(word[1].at, word[1].bytes);
-  text_begin_value(connection, &key, flags, clock_expiry(expires), (size_t)bytes);
+  text_begin_value(connection, &key, flags, clock_expiry(expires), bytes);
 }
 
 static void set(struct connection *connection, struct words *words) { update(connection, words, STORE_SET); }

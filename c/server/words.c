@@ -2,6 +2,7 @@
 #include "words.h"
 #include <ctype.h>
 #include <errno.h>
+#include <limits.h>
 #include <stdlib.h>
 #include <string.h>
 
@@ -38,7 +39,7 @@ bool number_u32(const char *text, uint32_t *number) {
   uint64_t wide;
   bool right = number_u64(text, &wide);
   *number = (uint32_t)wide;
-  return right && wide <= UINT32_MAX;
+  return right;
 }
 
 bool number_i32(const char *text, int32_t *number) {
@@ -46,7 +47,15 @@ bool number_i32(const char *text, int32_t *number) {
   errno = 0;
   long wide = strtol(text, &end, 10);
   *number = (int32_t)wide;
-  return is_read(text, end) && wide >= INT32_MIN && wide <= INT32_MAX;
+  return is_read(text, end);
+}
+
+bool number_length(const char *text, size_t *length) {
+  char *end;
+  errno = 0;
+  long wide = strtol(text, &end, 10);
+  *length = (size_t)wide;
+  return is_read(text, end) && wide >= 0 && wide <= INT_MAX - 2;
 }
 
 bool number_real(const char *text, double *number) {

@@ -36,12 +36,16 @@ void words_cut(struct words *words, char *line);
 
 bool word_is(const struct word *word, const char *text);
 
-/* Decimal numbers, ended by the word's end or by a blank. One that its bits don't hold isn't read: memcached cuts it to
- * them, and then takes a value's length of 4294967301 for 5, and the rest of the value for commands. */
+/* Decimal numbers, ended by the word's end or by a blank. A number of 32 bits is what C's own conversion gives, cut to
+ * them. */
 bool number_u64(const char *text, uint64_t *number);
 bool number_u32(const char *text, uint32_t *number);
 bool number_i32(const char *text, int32_t *number);
 bool number_real(const char *text, double *number);
+
+/* A value's length, from 0 to what an int has room for beside the end of its line. It isn't cut: else 4294967301 would
+ * be 5, and the rest of the value commands. */
+bool number_length(const char *text, size_t *length);
 
 /* Writes a number's digits, and answers the place behind them: at most 20, and no 0 is put there. */
 char *put_u64(char *at, uint64_t number);
