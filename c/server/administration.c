@@ -1,5 +1,6 @@
 /* Commands that aren't about one key. */
 #define _GNU_SOURCE
+#include <ctype.h>
 #include <inttypes.h>
 #include <pthread.h>
 #include <signal.h>
@@ -117,6 +118,24 @@ static void crawl(struct connection *connection, uint32_t class) {
   }
 }
 
+/* A key of any bytes, as a part of one line: what is no letter, digit, or one of four signs is told by its number. */
+static void put_encoded(struct connection *connection, const char *key, size_t bytes) {
+  static const char DIGITS[] = "0123456789ABCDEF";
+  char *at = connection_room(connection, bytes * 3);
+  if (at == NULL) return;
+  for (size_t i = 0; i < bytes; i++) {
+    unsigned char byte = (unsigned char)key[i];
+    if (byte != 0 && (isalnum(byte) || strchr("-._~", byte) != NULL)) {
+      *at++ = (char)byte;
+      continue;
+    }
+    *at++ = '%';
+    *at++ = DIGITS[byte >> 4];
+    *at++ = DIGITS[byte & 15];
+  }
+  connection_put_to(connection, at);
+}
+
 /* A line for each linked item among some chunks; and from where to go on. Under the shelf's lock. */
 static void dump_chunks(struct connection *connection, struct shelf *shelf, struct dump *dump) {
   for (int i = 0; i < DUMPED_WITH_LOCK && dump->chunk < shelf->used; i++, dump->chunk++) {
@@ -125,7 +144,7 @@ static void dump_chunks(struct connection *connection, struct shelf *shelf, stru
     const struct item *item = (const struct item *)(uintptr_t)seen.label;
     uint32_t expires = atomic_load(&item->expires);
     connection_put(connection, "key=", 4);
-    connection_put(connection, item->key, item->key_bytes);
+    put_encoded(connection, item->key, item->key_bytes);
     connection_print(connection, " exp=%" PRId64 " la=%" PRId64 " cas=%" PRIu64 " fetch=%s cls=%" PRIu32 " size=%zu\n",
                      expires != 0 ? clock_unix(expires) : -1, clock_unix((uint32_t)seen.time),
                      atomic_load(&item->unique), seen.fetched ? "yes" : "no", shelf->class,

@@ -43,6 +43,54 @@ static bool pull(struct shelf *shelf, struct counters *counters, uint32_t tail, 
   return reclaim(shelf, counters, item, now) || pulled.answer != BUMP_PULL_STAY;
 }
 
+/* What a list may have: so many items, and its last one may be so old. */
+struct measure {
+  uint64_t items;
+  double age;
+};
+
+/* A look at the end of a list, and a pull where that would move or end its last item. Whether something changed. */
+static bool shorten(struct shelf *shelf, struct counters *counters, uint32_t tail, struct measure most, uint32_t now) {
+  bump_seen last = bump_look(&shelf->book, tail, BUMP_NONE);
+  if (last.answer != BUMP_SEE_SEEN) return false;
+  if (reclaim(shelf, counters, item_of(&last), now)) return true;
+  bool is_past = bump_size(&shelf->book, tail) > most.items || (double)(now - last.time) > most.age;
+  return (is_past || last.active) && pull(shelf, counters, tail, 0, now);
+}
+
+/* Ends expired items at the end of TEMP, where no pull looks. */
+static bool shorten_temp(struct shelf *shelf, struct counters *counters, uint32_t now) {
+  bump_seen last = bump_look(&shelf->book, BUMP_PLACE_TEMP, BUMP_NONE);
+  return last.answer == BUMP_SEE_SEEN && reclaim(shelf, counters, item_of(&last), now);
+}
+
+/* What HOT and WARM may have now: a share of the class, and a part of COLD's age. */
+static struct measure measure(struct shelf *shelf, int percent, double factor, uint32_t now) {
+  bump_seen last = bump_look(&shelf->book, BUMP_PLACE_COLD, BUMP_NONE);
+  double age = last.answer == BUMP_SEE_SEEN ? (double)(now - last.time) : 0;
+  uint64_t all = (uint64_t)bump_size(&shelf->book, BUMP_PLACE_HOT) + bump_size(&shelf->book, BUMP_PLACE_WARM) +
+                 bump_size(&shelf->book, BUMP_PLACE_COLD);
+  return (struct measure){ all * (uint64_t)percent / 100, age * factor };
+}
+
+/* Some looks at the end of each list; answers how many changed something. Under the shelf's lock. */
+static uint32_t juggle(struct shelf *shelf, struct counters *counters, uint32_t now) {
+  static const struct measure ANY = { UINT64_MAX, 1e18 }; /* only what is ACTIVE leaves COLD */
+  const struct measure hot = measure(shelf, atomic_load(&settings.hot_percent), atomic_load(&settings.hot_factor), now);
+  const struct measure warm =
+      measure(shelf, atomic_load(&settings.warm_percent), atomic_load(&settings.warm_factor), now);
+  uint32_t moves = 0;
+  for (int i = 0; i < PULLS_WITH_LOCK; i++) {
+    bool moved = shorten_temp(shelf, counters, now);
+    moved |= shorten(shelf, counters, BUMP_TAIL_HOT, hot, now);
+    moved |= shorten(shelf, counters, BUMP_TAIL_WARM, warm, now);
+    moved |= shorten(shelf, counters, BUMP_TAIL_COLD, ANY, now);
+    if (!moved) break;
+    moves++;
+  }
+  return moves;
+}
+
 /* Fills an empty COLD, from HOT or else from WARM. Items there that are ACTIVE move within WARM. */
 static void fill_cold(struct shelf *shelf, struct counters *counters, uint32_t now) {
   for (int tries = 0; tries < TRIES && bump_size(&shelf->book, BUMP_PLACE_COLD) == 0; tries++)
@@ -73,6 +121,7 @@ static bump_seen to_be_evicted(struct shelf *shelf) {
 
 bool shelf_evict(struct shelf *shelf, struct counters *counters, uint32_t now) {
   uint64_t reclaimed = shelf->counts.reclaimed;
+  if (!settings.maintains) juggle(shelf, counters, now); /* else what comes to WARM never leaves it */
   for (int tries = 0; tries < TRIES && pull(shelf, counters, BUMP_TAIL_COLD, 0, now);) tries++;
   fill_cold(shelf, counters, now);
   if (shelf->counts.reclaimed != reclaimed) return true;
@@ -129,54 +178,6 @@ bool room_make(struct counters *counters, struct shelf *shelf, uint32_t now) {
       return !is_over();
   }
   return true;
-}
-
-/* What a list may have: so many items, and its last one may be so old. */
-struct measure {
-  uint64_t items;
-  double age;
-};
-
-/* A look at the end of a list, and a pull where that would move or end its last item. Whether something changed. */
-static bool shorten(struct shelf *shelf, struct counters *counters, uint32_t tail, struct measure most, uint32_t now) {
-  bump_seen last = bump_look(&shelf->book, tail, BUMP_NONE);
-  if (last.answer != BUMP_SEE_SEEN) return false;
-  if (reclaim(shelf, counters, item_of(&last), now)) return true;
-  bool is_past = bump_size(&shelf->book, tail) > most.items || (double)(now - last.time) > most.age;
-  return (is_past || last.active) && pull(shelf, counters, tail, 0, now);
-}
-
-/* Ends expired items at the end of TEMP, where no pull looks. */
-static bool shorten_temp(struct shelf *shelf, struct counters *counters, uint32_t now) {
-  bump_seen last = bump_look(&shelf->book, BUMP_PLACE_TEMP, BUMP_NONE);
-  return last.answer == BUMP_SEE_SEEN && reclaim(shelf, counters, item_of(&last), now);
-}
-
-/* What HOT and WARM may have now: a share of the class, and a part of COLD's age. */
-static struct measure measure(struct shelf *shelf, int percent, double factor, uint32_t now) {
-  bump_seen last = bump_look(&shelf->book, BUMP_PLACE_COLD, BUMP_NONE);
-  double age = last.answer == BUMP_SEE_SEEN ? (double)(now - last.time) : 0;
-  uint64_t all = (uint64_t)bump_size(&shelf->book, BUMP_PLACE_HOT) + bump_size(&shelf->book, BUMP_PLACE_WARM) +
-                 bump_size(&shelf->book, BUMP_PLACE_COLD);
-  return (struct measure){ all * (uint64_t)percent / 100, age * factor };
-}
-
-/* Some looks at the end of each list; answers how many changed something. Under the shelf's lock. */
-static uint32_t juggle(struct shelf *shelf, struct counters *counters, uint32_t now) {
-  static const struct measure ANY = { UINT64_MAX, 1e18 }; /* only what is ACTIVE leaves COLD */
-  const struct measure hot = measure(shelf, atomic_load(&settings.hot_percent), atomic_load(&settings.hot_factor), now);
-  const struct measure warm =
-      measure(shelf, atomic_load(&settings.warm_percent), atomic_load(&settings.warm_factor), now);
-  uint32_t moves = 0;
-  for (int i = 0; i < PULLS_WITH_LOCK; i++) {
-    bool moved = shorten_temp(shelf, counters, now);
-    moved |= shorten(shelf, counters, BUMP_TAIL_HOT, hot, now);
-    moved |= shorten(shelf, counters, BUMP_TAIL_WARM, warm, now);
-    moved |= shorten(shelf, counters, BUMP_TAIL_COLD, ANY, now);
-    if (!moved) break;
-    moves++;
-  }
-  return moves;
 }
 
 static void note_age(struct shelf *shelf, uint32_t now) {

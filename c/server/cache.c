@@ -1,5 +1,6 @@
 #define _GNU_SOURCE
 #include "cache.h"
+#include <ctype.h>
 #include <string.h>
 #include "aging.h"
 #include "clock.h"
@@ -204,11 +205,14 @@ bool cache_set_expiry(struct thread *thread, const struct key *key, uint32_t exp
   return true;
 }
 
-/* The number that a value begins with. */
+/* The number that a value begins with, behind any blanks and any noughts. */
 static bool number_of(const struct item *item, uint64_t *number) {
   char text[NUMBER_MOST + 1];
-  size_t bytes = item->bytes < NUMBER_MOST ? item->bytes : NUMBER_MOST;
-  memcpy(text, item->value, bytes);
+  const char *at = item->value, *end = at + item->bytes;
+  while (at < end && isspace((unsigned char)*at)) at++;
+  while (end - at > 1 && at[0] == '0' && isdigit((unsigned char)at[1])) at++;
+  size_t bytes = (size_t)(end - at) < NUMBER_MOST ? (size_t)(end - at) : NUMBER_MOST;
+  memcpy(text, at, bytes);
   text[bytes] = 0;
   return number_u64(text, number);
 }

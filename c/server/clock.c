@@ -3,26 +3,30 @@
 #include <stdatomic.h>
 #include <time.h>
 
-enum { THIRTY_DAYS = 60 * 60 * 24 * 30 };
+enum { THIRTY_DAYS = 60 * 60 * 24 * 30, SECOND = 1000000000 };
 
-static int64_t began;         /* by the clock that nobody sets */
-static int64_t began_at_unix; /* by the clock on the wall */
+/* The clock on the wall, as it was set at the start, goes on by the clock that nobody sets. So a tick begins where a
+ * second of Unix does, and what is to expire then doesn't expire in the second before. */
+static int64_t ahead; /* nanoseconds of the one before the other */
+static int64_t began_at_unix;
 static _Atomic int32_t moved;
 
-/* The coarse clock is read without a system call, and ticks are seconds. */
-static int64_t seconds(clockid_t clock) {
+static int64_t nanoseconds(clockid_t clock) {
   struct timespec time;
   clock_gettime(clock, &time);
-  return time.tv_sec;
+  return (int64_t)time.tv_sec * SECOND + time.tv_nsec;
 }
 
+/* The coarse clock is read without a system call. */
+static int64_t seconds_of_unix(void) { return (nanoseconds(CLOCK_MONOTONIC_COARSE) + ahead) / SECOND; }
+
 void clock_begin(void) {
-  began = seconds(CLOCK_MONOTONIC_COARSE) - TICK_FIRST;
-  began_at_unix = seconds(CLOCK_REALTIME) - TICK_FIRST;
+  ahead = nanoseconds(CLOCK_REALTIME) - nanoseconds(CLOCK_MONOTONIC);
+  began_at_unix = seconds_of_unix() - TICK_FIRST;
 }
 
 uint32_t clock_now(void) {
-  return (uint32_t)(seconds(CLOCK_MONOTONIC_COARSE) - began + atomic_load_explicit(&moved, memory_order_relaxed));
+  return (uint32_t)(seconds_of_unix() - began_at_unix + atomic_load_explicit(&moved, memory_order_relaxed));
 }
 
 uint32_t clock_expiry(int32_t given) {

@@ -1,4 +1,5 @@
 #include "item.h"
+#include <pthread.h>
 #include <stdlib.h>
 #include <string.h>
 #include "settings.h"
@@ -12,8 +13,12 @@ static uint32_t classes;
 
 static _Atomic uint64_t charged;
 static _Atomic uint64_t last_unique;
-static _Atomic uint32_t flushed_until; /* 0: never */
+
+/* What flush_all says. The one that is to come doesn't undo the one that came. */
+static pthread_mutex_t flushing = PTHREAD_MUTEX_INITIALIZER; /* of whoever changes these */
+static _Atomic uint32_t flushed_until;                       /* 0: never */
 static _Atomic uint64_t flushed_unique;
+static _Atomic uint32_t flush_to_come; /* 0: none; once it came it counts as the other */
 
 void classes_make(void) {
   uint32_t size = (uint32_t)RECKONED_HEADER + settings.chunk_least;
@@ -85,8 +90,10 @@ bool item_is_expired(const struct item *item, uint32_t now) {
 }
 
 bool item_is_flushed(const struct item *item, uint32_t now) {
+  uint32_t coming = atomic_load_explicit(&flush_to_come, memory_order_relaxed);
+  if (coming != 0 && coming <= now && item->born <= coming) return true;
   uint32_t until = atomic_load_explicit(&flushed_until, memory_order_relaxed);
-  if (until == 0 || until > now) return false;
+  if (until == 0) return false;
   uint64_t before = atomic_load_explicit(&flushed_unique, memory_order_relaxed);
   uint64_t unique = atomic_load_explicit(&item->unique, memory_order_relaxed);
   return item->born <= until || (before != 0 && unique != 0 && unique < before);
@@ -95,8 +102,19 @@ bool item_is_flushed(const struct item *item, uint32_t now) {
 /* A tick is a second long: within one, the numbers for cas tell what was stored before. */
 void items_flush(uint32_t tick, uint32_t now) {
   uint32_t until = settings.has_unique ? tick - 1 : tick;
-  if (settings.has_unique && until <= now) atomic_store(&flushed_unique, unique_next());
-  atomic_store(&flushed_until, until);
+  pthread_mutex_lock(&flushing);
+  uint32_t coming = atomic_load(&flush_to_come);
+  if (coming != 0 && coming <= now) atomic_store(&flushed_until, coming); /* before another takes its place */
+  if (until <= now) {
+    if (settings.has_unique) atomic_store(&flushed_unique, unique_next());
+    atomic_store(&flushed_until, until);
+    until = 0;
+  }
+  atomic_store(&flush_to_come, until);
+  pthread_mutex_unlock(&flushing);
 }
 
-uint32_t items_flushed_until(void) { return atomic_load(&flushed_until); }
+uint32_t items_flushed_until(void) {
+  uint32_t coming = atomic_load(&flush_to_come);
+  return coming != 0 ? coming : atomic_load(&flushed_until);
+}

@@ -77,7 +77,8 @@ uint64_t unique_next(void);
 bool item_is_expired(const struct item *item, uint32_t now);
 bool item_is_flushed(const struct item *item, uint32_t now);
 
-/* Flushes all items that are stored before this tick, and those that were stored before this call where it is now. */
+/* Flushes all items that are stored before this tick, and those that were stored before this call where it is now. One
+ * that is to come takes the place of another one that is to come. */
 void items_flush(uint32_t tick, uint32_t now);
 uint32_t items_flushed_until(void);
 

@@ -73,14 +73,15 @@ static void take_signals(sigset_t *before) {
   pthread_sigmask(SIG_BLOCK, &ours, before);
 }
 
-static void start_thread(struct thread *thread, uint32_t number, void *(*run)(void *)) {
+/* The name is what tools show of a thread: at most 15 letters. */
+static void start_thread(struct thread *thread, uint32_t number, const char *name, void *(*run)(void *)) {
   thread->number = number;
   if (!network_prepare(thread)) fail("can't wait for connections");
   if (pthread_create(&thread->id, NULL, run, thread) != 0) fail("can't start a thread");
+  pthread_setname_np(thread->id, name);
 }
 
 static void end_thread(struct thread *thread) {
-  network_wake(thread);
   pthread_join(thread->id, NULL);
   close(thread->events);
   close(thread->wake);
@@ -127,11 +128,12 @@ int main(int count, char **words) {
   settings_read(count, words);
   prepare();
   take_signals(&before);
-  for (int i = 0; i < settings.threads; i++) start_thread(&threads[i], (uint32_t)i, network_serve);
-  start_thread(MAINTAINER, 0, maintainer_run);
+  for (int i = 0; i < settings.threads; i++) start_thread(&threads[i], (uint32_t)i, "bump-serves", network_serve);
+  start_thread(MAINTAINER, 0, "bump-maintains", maintainer_run);
   if (settings.verbosity > 0) fprintf(stderr, "bump-server: serves with %d threads\n", settings.threads);
   network_accept(&before);
   uint64_t connections = network_measure().current;
+  for (int i = 0; i < settings.threads; i++) network_wake(&threads[i]); /* all at once: each may take a second */
   for (int i = 0; i < settings.threads; i++) end_thread(&threads[i]);
   end_thread(MAINTAINER);
   network_unlisten();

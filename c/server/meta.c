@@ -1,7 +1,6 @@
 /* The meta protocol: mg, ms, md, ma, me, mn, and their flags. */
 #define _GNU_SOURCE
 #include <inttypes.h>
-#include <limits.h>
 #include <stdio.h>
 #include <string.h>
 #include "base64.h"
@@ -26,6 +25,7 @@ struct meta {
   bool has_unique;     /* C */
   bool invalidates;    /* I */
   bool has_binary_key; /* b */
+  bool ends_by_vivify; /* of N and T, N comes last: it tells when a new item expires */
   char mode;           /* M */
   uint32_t vivify_expires;
   uint32_t expires;
@@ -55,8 +55,11 @@ static uint64_t read_number(struct meta *meta, const char *text, const char *err
 static bool read_token(struct meta *meta, const struct word *word) {
   const char *rest = word->at + 1;
   switch (word->at[0]) {
-    case 'N': meta->vivifies = true, meta->vivify_expires = read_time(meta, rest); return true;
-    case 'T': meta->has_expiry = true, meta->expires = read_time(meta, rest); return true;
+    case 'N': meta->vivifies = meta->ends_by_vivify = true, meta->vivify_expires = read_time(meta, rest); return true;
+    case 'T':
+      meta->has_expiry = true, meta->expires = read_time(meta, rest);
+      meta->ends_by_vivify = false;
+      return true;
     case 'R': meta->recaches = true, meta->recache_before = read_time(meta, rest); return true;
     case 'C': meta->has_unique = true, meta->unique = read_number(meta, rest, BAD_TOKEN); return true;
     case 'J': meta->initial = read_number(meta, rest, "CLIENT_ERROR invalid numeric initial value"); return true;
@@ -212,7 +215,7 @@ static char *put_found(char *at, const struct words *words, const struct meta *m
     switch (words->word[i].at[0]) {
       case 'T': atomic_store(&item->expires, expires = meta->expires); break;
       case 'N':
-        if (found->is_new) expires = meta->vivify_expires;
+        if (found->is_new) atomic_store(&item->expires, expires = meta->vivify_expires);
         *wins |= found->is_new;
         break;
       case 'R': *wins |= !item->has_winner && !found->is_new && expires != 0 && expires < meta->recache_before; break;
@@ -318,11 +321,10 @@ static void prepare_answer(struct storing *storing, const struct words *words, c
 }
 
 void meta_set(struct connection *connection, struct words *words) {
-  int32_t bytes = 0;
+  size_t bytes = 0;
   const char *fault = fault_of(words, "CLIENT_ERROR options flags too long");
   if (words->count == 2) fault = WRONG_FORMAT;
-  if (fault == NULL && (!number_i32(words->word[2].at, &bytes) || bytes < 0 || bytes > INT_MAX - 2))
-    fault = WRONG_FORMAT;
+  if (fault == NULL && !number_length(words->word[2].at, &bytes)) fault = WRONG_FORMAT;
   if (fault != NULL) {
     connection_say_always(connection, fault);
     return;
@@ -334,7 +336,7 @@ void meta_set(struct connection *connection, struct words *words) {
   if (meta.error != NULL) {
     connection_say_always(connection, meta.error);
     connection->state = SKIPS_BYTES;
-    connection->skip = (uint64_t)bytes + 2;
+    connection->skip = bytes + 2;
     return;
   }
   struct storing *storing = &connection->storing;
@@ -345,7 +347,7 @@ void meta_set(struct connection *connection, struct words *words) {
   connection->is_quiet = meta.is_quiet;
   prepare_answer(storing, words, &meta);
   struct key key = table_key(words->word[1].at, words->word[1].bytes);
-  text_begin_value(connection, &key, meta.flags, meta.expires, (size_t)bytes);
+  text_begin_value(connection, &key, meta.flags, meta.expires, bytes);
   if (connection->state == READS_VALUE) storing->item->has_binary_key = meta.has_binary_key;
 }
 
@@ -434,7 +436,8 @@ static enum store_answer begin_number(struct thread *thread, const struct key *k
                                       struct reckoned *to) {
   char digits[20];
   size_t bytes = (size_t)(put_u64(digits, meta->initial) - digits);
-  struct item *item = cache_new_item(thread, key, 0, meta->has_expiry ? meta->expires : meta->vivify_expires, bytes);
+  uint32_t expires = meta->ends_by_vivify ? meta->vivify_expires : meta->expires;
+  struct item *item = cache_new_item(thread, key, 0, expires, bytes);
   if (item == NULL) return STORE_NO_MEMORY;
   memcpy(item->value, digits, bytes);
   item->has_binary_key = meta->has_binary_key;

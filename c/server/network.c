@@ -23,7 +23,6 @@ enum {
   LISTENERS_MOST = 16,
   EVENTS_MOST = 64,
   ACCEPTS_AT_ONCE = 16,
-  FAREWELL_ROUNDS = 1000,
   FAREWELL_MILLISECONDS = 1000
 };
 
@@ -270,17 +269,21 @@ static void end_idle(struct thread *thread, uint32_t now) {
   }
 }
 
-/* Sends what was answered, as long as there is time, and closes all connections. */
+static int64_t milliseconds(void) {
+  struct timespec time;
+  clock_gettime(CLOCK_MONOTONIC, &time);
+  return (int64_t)time.tv_sec * 1000 + time.tv_nsec / 1000000;
+}
+
+/* Sends what was answered, as long as there is time, and closes all connections. Nobody gets more time by asking on, or
+ * by reading a little at a time. */
 static void farewell(struct thread *thread) {
-  for (int round = 0; thread->yielded != NULL && round < FAREWELL_ROUNDS; round++) attend_yielded(thread);
-  int left = FAREWELL_MILLISECONDS;
+  const int64_t end = milliseconds() + FAREWELL_MILLISECONDS;
+  while (thread->yielded != NULL && milliseconds() < end) attend_yielded(thread);
   while (thread->connections != NULL) {
     struct connection *connection = thread->connections;
     struct pollfd wait = { .fd = connection->file, .events = POLLOUT };
-    while (left > 0 && !drive_send(connection)) {
-      if (poll(&wait, 1, 10) == 0) left -= 10;
-      if (buffer_size(&connection->out) == 0) break;
-    }
+    for (int64_t left; !drive_send(connection) && (left = end - milliseconds()) > 0;) poll(&wait, 1, (int)left);
     end_connection(connection);
   }
 }

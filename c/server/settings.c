@@ -122,8 +122,16 @@ static uint32_t size(const char *name, const char *text) {
   if (*end == 'k' || *end == 'K') number *= 1024, end++;
   else if (*end == 'm' || *end == 'M') number *= 1024 * 1024, end++;
   if (end == text || *end != 0) wrong(name, "not a size");
-  if (number < 1024 || number > 1024.0 * 1024 * 1024) wrong(name, "must be 1k to 1024m");
+  if (!(number >= 1024) || number > 1024.0 * 1024 * 1024) wrong(name, "must be 1k to 1024m");
   return (uint32_t)number;
+}
+
+/* Permissions, in octal. */
+static unsigned mode(const char *name, const char *text) {
+  char *end;
+  unsigned long number = strtoul(text, &end, 8);
+  if (*text == 0 || *end != 0 || number > 0777) wrong(name, "not permissions in octal");
+  return (unsigned)number;
 }
 
 /* Words of memcached's -o that say what is so here anyway, or that there is nothing to say of here. */
@@ -176,7 +184,7 @@ static bool read_place(int option) {
     case 'p': settings.port = whole("-p", optarg, 0, 65535); return true;
     case 'l': settings.address = optarg; return true;
     case 's': settings.socket_path = optarg; return true;
-    case 'a': settings.socket_mode = (unsigned)strtoul(optarg, NULL, 8) & 0777; return true;
+    case 'a': settings.socket_mode = mode("-a", optarg); return true;
     case 'u': settings.user = optarg; return true;
     case 'P': settings.process_file = optarg; return true;
     case 'k': settings.locks_memory = true; return true;

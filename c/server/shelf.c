@@ -8,7 +8,7 @@
 /* A store has at most so many chunks. A ring has room for what comes between two rounds of the maintainer. */
 enum { CHUNKS_MOST = 1000000, SPARE_LEAST = 1024, RING = 1024, REFS_MOST = 65535, HOLDS = 1, CHUNK_BYTES = 48 };
 
-static struct shelf *shelves;
+struct shelf *shelves;
 static uint32_t shelves_count;
 static uint32_t
     first_of[CLASSES_MOST + 1]; /* the number of a class's first shelf; the next class's comes behind its last */
@@ -39,10 +39,6 @@ bool shelves_make(void) {
 }
 
 uint32_t shelf_count(void) { return shelves_count; }
-
-struct shelf *shelf_at(uint32_t number) {
-  return &shelves[number];
-}
 
 uint64_t shelves_bytes(void) {
   uint64_t sum = 0;

@@ -59,7 +59,11 @@ struct shelf {
 /* All shelves, by the settings and the classes; none is open. false: no memory. */
 bool shelves_make(void);
 uint32_t shelf_count(void);
-struct shelf *shelf_at(uint32_t number);
+
+extern struct shelf *shelves;
+static inline struct shelf *shelf_at(uint32_t number) {
+  return &shelves[number];
+}
 
 /* About how much memory the open ones' stores take, beside their items. */
 uint64_t shelves_bytes(void);

@@ -19,7 +19,9 @@ static void tell(struct connection *connection, const char *name, uint64_t numbe
 }
 
 static void tell_word(struct connection *connection, const char *name, const char *word) {
-  connection_print(connection, "STAT %s %s\r\n", name, word);
+  connection_print(connection, "STAT %s ", name);
+  connection_put(connection, word, strlen(word)); /* a list of addresses may be longer than what is printed at once */
+  connection_put(connection, "\r\n", 2);
 }
 
 static const char *yes_or_no(bool yes) { return yes ? "yes" : "no"; }
@@ -380,13 +382,15 @@ static void tell_bump(struct connection *connection) {
 
 /* --------------------------------------------------------------------------------------------------- the keys */
 
-/* The items of a list, front first, at most so many; answers how many. Under the shelf's lock. */
+/* The items of a list, front first, at most so many; answers how many. Binary keys are left out, as they may have ends
+ * of lines. Under the shelf's lock. */
 static uint32_t dump_list(struct connection *connection, struct shelf *shelf, uint32_t place, uint32_t most) {
   uint32_t told = 0;
   for (uint32_t from = BUMP_NONE; told < most;) {
     bump_walked walked = bump_walk(&shelf->book, place, from);
     for (uint32_t i = 0; i < walked.count && told < most; i++, told++) {
       const struct item *item = shelf_item(shelf, walked.chunks[i]);
+      if (item->has_binary_key) continue;
       uint32_t expires = atomic_load(&item->expires);
       connection_print(connection, "ITEM %.*s [%" PRIu32 " b; %" PRId64 " s]\r\n", (int)item->key_bytes, item->key,
                        item->bytes, expires != 0 ? clock_unix(expires) : 0);

@@ -13,13 +13,19 @@ enum { STRIPE_BITS = 12, STRIPES = 1 << STRIPE_BITS, BUCKETS_FIRST = 16 };
 /* One line of a processor's cache: so who takes the lock has the rest of it too. */
 struct stripe {
   alignas(64) pthread_mutex_t lock;
-  struct item **bucket;
-  uint32_t mask;
+  _Atomic(struct item **) bucket; /* this and the mask change under the lock; table_fetch_bucket reads without it */
+  _Atomic uint32_t mask;
   uint32_t items;
 };
 
+/* A row begins with what is compared, and its key; most values end in the third line of the processor's cache. */
+enum { FETCHED_BYTES = 192, LINE_BYTES = 64 };
+
 static struct stripe stripe[STRIPES];
-static uint32_t seed; /* no client knows it, so none can choose keys that meet in a bucket */
+
+/* So that keys meet in other buckets at each start. It doesn't keep out who means harm: of this hash keys are known
+ * that meet whatever the seed is. memcached's is the same, without a seed. */
+static uint32_t seed;
 
 static struct stripe *stripe_of(uint32_t hash) { return &stripe[hash & (STRIPES - 1)]; }
 
@@ -27,7 +33,7 @@ bool table_make(void) {
   if (getrandom(&seed, sizeof seed, GRND_NONBLOCK) != sizeof seed) seed = (uint32_t)time(NULL);
   for (uint32_t i = 0; i < STRIPES; i++) {
     pthread_mutex_init(&stripe[i].lock, NULL);
-    stripe[i].bucket = calloc(BUCKETS_FIRST, sizeof *stripe[i].bucket);
+    stripe[i].bucket = calloc(BUCKETS_FIRST, sizeof(struct item *));
     if (stripe[i].bucket == NULL) return false;
     stripe[i].mask = BUCKETS_FIRST - 1;
   }
@@ -64,8 +70,23 @@ void table_lock(uint32_t hash) { pthread_mutex_lock(&stripe_of(hash)->lock); }
 
 void table_unlock(uint32_t hash) { pthread_mutex_unlock(&stripe_of(hash)->lock); }
 
+/* Without the lock it may be none of the stripe's any more, and then only its address may be used. */
 static struct item **bucket_of(const struct stripe *from, uint32_t hash) {
-  return &from->bucket[hash >> STRIPE_BITS & from->mask];
+  struct item **bucket = atomic_load_explicit(&from->bucket, memory_order_relaxed);
+  return bucket + (hash >> STRIPE_BITS & atomic_load_explicit(&from->mask, memory_order_relaxed));
+}
+
+void table_fetch_stripe(uint32_t hash) { __builtin_prefetch(stripe_of(hash), 1); }
+
+void table_fetch_bucket(uint32_t hash) { __builtin_prefetch(bucket_of(stripe_of(hash), hash)); }
+
+/* Where another thread has the lock the key is left alone: waiting would cost more than is saved. */
+void table_fetch_item(uint32_t hash) {
+  struct stripe *of = stripe_of(hash);
+  if (pthread_mutex_trylock(&of->lock) != 0) return;
+  const char *row = (const char *)*bucket_of(of, hash);
+  pthread_mutex_unlock(&of->lock);
+  for (int at = 0; row != NULL && at < FETCHED_BYTES; at += LINE_BYTES) __builtin_prefetch(row + at);
 }
 
 struct item **table_find(const struct key *key) {
@@ -80,7 +101,7 @@ struct item **table_find(const struct key *key) {
 /* Twice as many buckets. Where there is no memory for them, the chains stay longer. */
 static void grow(struct stripe *of) {
   struct stripe wider = { .mask = of->mask * 2 + 1 };
-  wider.bucket = calloc((size_t)wider.mask + 1, sizeof *wider.bucket);
+  wider.bucket = calloc((size_t)wider.mask + 1, sizeof(struct item *));
   if (wider.bucket == NULL) return;
   for (uint32_t i = 0; i <= of->mask; i++) {
     for (struct item *item = of->bucket[i], *next; item != NULL; item = next) {

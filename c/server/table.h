@@ -18,6 +18,13 @@ struct key table_key(const char *at, size_t bytes);
 void table_lock(uint32_t hash);
 void table_unlock(uint32_t hash);
 
+/* Begin to bring into the processor's cache what a look-up of a key reads: its stripe, then its bucket, then its item.
+ * Each is called for all keys of a request before the next one is, so that memory is waited for once, and not for each
+ * key. They change nothing, and may be left out. Without the stripe's lock. */
+void table_fetch_stripe(uint32_t hash);
+void table_fetch_bucket(uint32_t hash);
+void table_fetch_item(uint32_t hash);
+
 /* Under the stripe's lock: where the key's item is named, or where the next one would be. */
 struct item **table_find(const struct key *key);
 

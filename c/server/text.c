@@ -1,7 +1,6 @@
 /* The text protocol: storing, retrieving, and which command a line is. */
 #define _GNU_SOURCE
 #include <inttypes.h>
-#include <limits.h>
 #include <stdio.h>
 #include <string.h>
 #include "clock.h"
@@ -9,7 +8,8 @@
 #include "shelf.h"
 #include "table.h"
 
-enum { VALUE_LINE_MOST = 64 + KEY_MOST };
+/* GROUP_MOST: keys of a get that memory is asked for at once. */
+enum { VALUE_LINE_MOST = 64 + KEY_MOST, GROUP_MOST = 32 };
 
 bool text_wants_no_reply(struct connection *connection, const struct words *words) {
   connection->is_quiet = words->count > 1 && word_is(&words->word[words->count - 1], "noreply");
@@ -43,12 +43,10 @@ static void count_hit(struct connection *connection, const struct item *item) {
   atomic_store_explicit(hits, atomic_load_explicit(hits, memory_order_relaxed) + 1, memory_order_relaxed);
 }
 
-static void answer_key(struct connection *connection, const char *text, size_t bytes) {
+static void answer_key(struct connection *connection, const struct key *key, uint32_t now) {
   const struct asked_keys *keys = &connection->keys;
   struct thread *thread = connection->thread;
-  uint32_t now = clock_now();
-  struct key key = table_key(text, bytes);
-  struct held held = cache_hold(thread, &key, now);
+  struct held held = cache_hold(thread, key, now);
   count(&thread->counters, keys->sets_expiry ? COUNT_cmd_touch : COUNT_cmd_get, 1);
   if (held.item == NULL) {
     count(&thread->counters, keys->sets_expiry ? COUNT_touch_misses : COUNT_get_misses, 1);
@@ -62,17 +60,37 @@ static void answer_key(struct connection *connection, const char *text, size_t b
   count(&thread->counters, keys->sets_expiry ? COUNT_touch_hits : COUNT_get_hits, 1);
 }
 
+/* Cuts off the next keys, at most GROUP_MOST, and answers how many. Memory is asked for what all of them need. */
+static int next_keys(char *at, struct key *group) {
+  int count = 0;
+  for (char *end; count < GROUP_MOST; at = end) {
+    at = word_begin(at);
+    end = word_end(at);
+    if (at == end) break;
+    group[count++] = table_key(at, (size_t)(end - at));
+  }
+  if (count == 1) return count;
+  for (int i = 0; i < count; i++) table_fetch_stripe(group[i].hash);
+  for (int i = 0; i < count; i++) table_fetch_bucket(group[i].hash);
+  for (int i = 0; i < count; i++) table_fetch_item(group[i].hash);
+  return count;
+}
+
 void text_answer_keys(struct connection *connection) {
+  struct key group[GROUP_MOST];
+  uint32_t now = clock_now();
   connection->state = ANSWERS_KEYS;
   while (!connection->ends && buffer_size(&connection->out) < SEND_MOST) {
-    char *at = word_begin(connection->keys.at), *end = word_end(at);
-    connection->keys.at = end;
-    if (at == end) {
+    int count = next_keys(connection->keys.at, group);
+    if (count == 0) {
       connection_put(connection, "END\r\n", 5);
       connection->state = READS_LINE;
       return;
     }
-    answer_key(connection, at, (size_t)(end - at));
+    for (int i = 0; i < count && !connection->ends && buffer_size(&connection->out) < SEND_MOST; i++) {
+      connection->keys.at = (char *)group[i].at + group[i].bytes;
+      answer_key(connection, &group[i], now);
+    }
   }
 }
 
@@ -225,20 +243,20 @@ void text_begin_value(struct connection *connection, const struct key *key, uint
 
 static void update(struct connection *connection, struct words *words, enum store_how how) {
   uint32_t flags;
-  int32_t expires, bytes;
+  int32_t expires;
+  size_t bytes;
   uint64_t unique = 0;
   struct word *word = words->word;
   text_wants_no_reply(connection, words);
   if (word[1].bytes > KEY_MOST || !number_u32(word[2].at, &flags) || !number_i32(word[3].at, &expires) ||
-      !number_i32(word[4].at, &bytes) || (how == STORE_CAS && !number_u64(word[5].at, &unique)) || bytes < 0 ||
-      bytes > INT_MAX - 2) {
+      !number_length(word[4].at, &bytes) || (how == STORE_CAS && !number_u64(word[5].at, &unique))) {
     connection_say(connection, WRONG_FORMAT);
     return;
   }
   connection->storing.terms = (struct store_terms){ .how = how, .unique = unique };
   connection->storing.is_meta = false;
   struct key key = table_key(word[1].at, word[1].bytes);
-  text_begin_value(connection, &key, flags, clock_expiry(expires), (size_t)bytes);
+  text_begin_value(connection, &key, flags, clock_expiry(expires), bytes);
 }
 
 static void set(struct connection *connection, struct words *words) { update(connection, words, STORE_SET); }

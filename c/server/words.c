@@ -2,6 +2,7 @@
 #include "words.h"
 #include <ctype.h>
 #include <errno.h>
+#include <limits.h>
 #include <stdlib.h>
 #include <string.h>
 
@@ -49,6 +50,14 @@ bool number_i32(const char *text, int32_t *number) {
   return is_read(text, end);
 }
 
+bool number_length(const char *text, size_t *length) {
+  char *end;
+  errno = 0;
+  long wide = strtol(text, &end, 10);
+  *length = (size_t)wide;
+  return is_read(text, end) && wide >= 0 && wide <= INT_MAX - 2;
+}
+
 bool number_real(const char *text, double *number) {
   char *end;
   errno = 0;
@@ -57,6 +66,10 @@ bool number_real(const char *text, double *number) {
 }
 
 char *put_u64(char *at, uint64_t number) {
+  if (number < 10) { /* as most flags are */
+    *at = (char)('0' + number);
+    return at + 1;
+  }
   char digits[20];
   size_t count = 0;
   do digits[count++] = (char)('0' + number % 10);

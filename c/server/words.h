@@ -43,6 +43,10 @@ bool number_u32(const char *text, uint32_t *number);
 bool number_i32(const char *text, int32_t *number);
 bool number_real(const char *text, double *number);
 
+/* A value's length, from 0 to what an int has room for beside the end of its line. It isn't cut: else 4294967301 would
+ * be 5, and the rest of the value commands. */
+bool number_length(const char *text, size_t *length);
+
 /* Writes a number's digits, and answers the place behind them: at most 20, and no 0 is put there. */
 char *put_u64(char *at, uint64_t number);
 

@@ -1,12 +1,15 @@
 #!/usr/bin/env python3
 """Measures the server beside memcached: requests a second and times, instructions of a get, hit rates. For docs/SERVER.md.
 
-    measure.py SERVER MEMCACHED LOAD [--rounds 7] [--seconds 5] [--threads 4] [--clients 2]
+    measure.py SERVER MEMCACHED LOAD [--rounds 7] [--seconds 5] [--threads 4] [--clients 2] [--only WORD]
 
 LOAD is load.c, built. Both servers run in turn, in each round anew, and the medians are told as rows of the page's tables. It wants a
-machine that does nothing else, with a processor for each thread of server and client. Instructions are counted by valgrind's callgrind:
-those of two runs of different lengths, and what they differ by is the gets' alone."""
+machine that does nothing else, with a processor for each thread of server and client: else requests a second and times say more about the
+machine than about the servers, and the time that the server's own threads ran for a request, which is told beside them, says more.
+Instructions are counted by valgrind's callgrind: those of two runs of different lengths, and what they differ by is the gets' alone.
+--only runs the parts whose names have the word: rates, instructions, speeds."""
 import argparse
+import os
 import re
 import resource
 import socket
@@ -30,6 +33,11 @@ def free_port():
     with socket.socket() as one:
         one.bind(("127.0.0.1", 0))
         return one.getsockname()[1]
+
+
+def time_run(process):
+    """The microseconds that a process's threads ran, the kernel's part for them included."""
+    return sum(int(Path(f"/proc/{process.pid}/task/{task}/schedstat").read_text().split()[0]) for task in os.listdir(f"/proc/{process.pid}/task")) / 1000
 
 
 class Pair:
@@ -69,17 +77,21 @@ class Pair:
                 process, port = self.start(name, "-m", "512", "-t", str(self.words.threads))
                 self.load(port, "-k", 100000, "-f", "-n", 1)
                 for way, options in WAYS:
+                    before = time_run(process)
                     one = self.load(port, "-T", self.words.clients, "-C", 16, "-k", 100000, "-s", 50, "-n", self.words.seconds, *options)
-                    told.setdefault((way, name), []).append((one["requests/s"], one["p99"]))
+                    ran = (time_run(process) - before) / (one["requests/s"] * one["seconds"])
+                    told.setdefault((way, name), []).append((one["requests/s"], one["p99"], ran))
                 self.stop(process)
         for way, _ in WAYS:
             row = []
             for name in self.servers:
-                row += [f"{statistics.median(part):,.0f}" for part in zip(*told[way, name])]
-            print(f"| {way} | {row[0]} | {row[1]} us | {row[2]} | {row[3]} us |", flush=True)
+                rate, slowest, ran = [statistics.median(part) for part in zip(*told[way, name])]
+                row += [f"{rate:,.0f}", f"{slowest:,.0f} us", f"{ran:,.1f} us"]
+            print(f"| {' | '.join([way, *row])} |", flush=True)
+        print(f"load of the machine: {os.getloadavg()}")
 
     def instructions(self):
-        for name in self.servers:
+        for keys, name in [(keys, name) for keys in (1, 24) for name in self.servers]:
             counts = []
             for gets in (FEWER, MORE):
                 with tempfile.NamedTemporaryFile() as file:
@@ -87,11 +99,11 @@ class Pair:
                     process, port = self.start(name, "-t", "1", "-o", "no_lru_crawler,no_lru_maintainer", before=tool, counted=True)
                     same = ["-T", 1, "-C", 1, "-k", 1000, "-s", 0, "-n", 600]
                     self.load(port, *same, "-f", "-N", 3000)
-                    self.load(port, *same, "-N", gets)
+                    self.load(port, *same, "-g", keys, "-N", gets)
                     process.send_signal(2)
                     process.wait()
                     counts.append(int(re.search(r"^(?:summary|totals): (\d+)", Path(file.name).read_text(errors="replace"), re.M).group(1)))
-            print(f"| {name} | {(counts[1] - counts[0]) / (MORE - FEWER):,.0f} |", flush=True)
+            print(f"| {name}, gets of {keys}, a key | {(counts[1] - counts[0]) / (MORE - FEWER) / keys:,.0f} |", flush=True)
 
     def rates(self):
         for what, options, memory in RATES:
@@ -109,10 +121,12 @@ def main():
         words.add_argument(name)
     for name, number in (("--rounds", 7), ("--seconds", 5), ("--threads", 4), ("--clients", 2)):
         words.add_argument(name, type=int, default=number)
-    pair = Pair(words.parse_args())
-    pair.rates()
-    pair.instructions()
-    pair.speeds()
+    words.add_argument("--only", default="")
+    words = words.parse_args()
+    pair = Pair(words)
+    for part in ("rates", "instructions", "speeds"):
+        if words.only in part:
+            getattr(pair, part)()
 
 
 sys.exit(main())
