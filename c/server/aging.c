@@ -73,22 +73,22 @@ static struct measure measure(struct shelf *shelf, int percent, double factor, u
   return (struct measure){ all * (uint64_t)percent / 100, age * factor };
 }
 
-/* Some looks at the end of each list; answers how many changed something. Under the shelf's lock. */
+/* Some looks at the end of each list; answers how many rounds changed something. Under the shelf's lock. */
 static uint32_t juggle(struct shelf *shelf, struct counters *counters, uint32_t now) {
   static const struct measure ANY = { UINT64_MAX, 1e18 }; /* only what is ACTIVE leaves COLD */
   const struct measure hot = measure(shelf, atomic_load(&settings.hot_percent), atomic_load(&settings.hot_factor), now);
   const struct measure warm =
       measure(shelf, atomic_load(&settings.warm_percent), atomic_load(&settings.warm_factor), now);
-  uint32_t moves = 0;
-  for (int i = 0; i < PULLS_WITH_LOCK; i++) {
-    bool moved = shorten_temp(shelf, counters, now);
-    moved |= shorten(shelf, counters, BUMP_TAIL_HOT, hot, now);
-    moved |= shorten(shelf, counters, BUMP_TAIL_WARM, warm, now);
-    moved |= shorten(shelf, counters, BUMP_TAIL_COLD, ANY, now);
-    if (!moved) break;
-    moves++;
+  /* A list whose last item stays isn't looked at again: what moves comes to the fronts of lists. */
+  bool temp_moves = true, hot_moves = true, warm_moves = true, cold_moves = true;
+  for (uint32_t moves = 0; moves < PULLS_WITH_LOCK; moves++) {
+    temp_moves = temp_moves && shorten_temp(shelf, counters, now);
+    hot_moves = hot_moves && shorten(shelf, counters, BUMP_TAIL_HOT, hot, now);
+    warm_moves = warm_moves && shorten(shelf, counters, BUMP_TAIL_WARM, warm, now);
+    cold_moves = cold_moves && shorten(shelf, counters, BUMP_TAIL_COLD, ANY, now);
+    if (!temp_moves && !hot_moves && !warm_moves && !cold_moves) return moves;
   }
-  return moves;
+  return PULLS_WITH_LOCK;
 }
 
 /* Fills an empty COLD, from HOT or else from WARM. Items there that are ACTIVE move within WARM. */
