@@ -1,11 +1,14 @@
 #!/usr/bin/env python3
 """Runs keys, one a line, through plain lists by the cache's rules, for one reader: what `bump_replay` has to count.
 
-    checks/lib/aged_lists.py ITEMS HOT WARM HOT_AGE WARM_AGE RING EVERY [PARTS] < KEYS
+    checks/lib/aged_lists.py ITEMS HOT WARM HOT_AGE WARM_AGE RING EVERY [PARTS [TICKS]] < KEYS
 
 HOT and WARM are percents of the items, HOT_AGE and WARM_AGE percents of the age of COLD, or - where ages don't count; EVERY is
-after how many accesses the lists are tended; each of PARTS, 1 where it isn't given, has lists of its own. It prints the hits, and
-how often items went from list to list. Keys are numbered as they first come, and the hash of its number tells a key's part.
+after how many accesses the lists are tended; each of PARTS, 1 where it isn't given, has lists of its own. With TICKS a line is
+an access's time, a comma, and its key, and the lists are tended when so many ticks have gone by; behind that may stand what is
+asked for (get, set or delete; else nothing is) and after how many ticks what is put expires. It prints the hits, how
+many bumps waited at most when a put had applied its share, and how often items went from list to list. Keys are numbered as they
+first come, and the hash of its number tells a key's part.
 """
 import sys
 from collections import OrderedDict, deque
@@ -29,8 +32,12 @@ def part_of(number, parts):
 
 
 class Item:
-    def __init__(self, key, now):
+    def __init__(self, key, now, expires):
         self.key, self.time, self.fetched, self.active, self.place = key, now, False, False, "hot"
+        self.expires = expires
+
+    def has_expired(self, now):
+        return self.expires is not None and self.expires <= now
 
 
 class Lists:
@@ -80,23 +87,26 @@ class Lists:
             if not [place for place in ("hot", "warm") if self.goes_on(place, age, now)]:
                 return
 
-    def evict(self):
+    def end(self, item):
+        del self.lists[item.place][item]
+        item.place = None
+
+    def evict(self, now):
         for _ in range(RESCUES):
             item = self.last("cold")
-            if item is None or not item.active:
+            if item is None or not item.active or item.has_expired(now):
                 break
             self.go(item, "warm")
         item = self.last("cold") or self.last("warm") or self.last("hot")
         if item.place != "cold":
             self.go(item, "warm" if item.active else "cold")
         self.ways[f"ended_{item.place}"] = self.ways.get(f"ended_{item.place}", 0) + 1
-        del self.lists[item.place][item]
-        item.place = None
+        self.end(item)
         del self.of_key[item.key]
 
     def get(self, key, now):
         item = self.of_key.get(key)
-        if item is None:
+        if item is None or item.has_expired(now):
             return False
         if item.fetched and not item.active:
             item.active = True
@@ -109,13 +119,19 @@ class Lists:
         item.fetched = True
         return True
 
-    def put(self, key, now):
+    def remove(self, key):
+        item = self.of_key.pop(key, None)
+        if item is not None:
+            self.end(item)
+
+    def put(self, key, now, expires=None):
         self.drain(PUT_BUMPS, now)
-        if len(self.of_key) >= self.items:
-            self.evict()
-        item = Item(key, now)
-        self.of_key[key] = item
+        if key not in self.of_key and len(self.of_key) >= self.items:
+            self.evict(now)
+        item = Item(key, now, expires)
         self.lists["hot"][item] = None
+        self.remove(key)
+        self.of_key[key] = item
         self.puts += 1
         if self.puts % PUT_ROUNDS == 0:
             self.balance(PUT_ROUNDS, now)
@@ -129,20 +145,30 @@ def main():
     items, hot, warm = map(int, sys.argv[1:4])
     hot_age, warm_age = (None if word == "-" else int(word) for word in sys.argv[4:6])
     ring, every, parts = map(int, (*sys.argv[6:], 1)[:3])
+    ticks = int(sys.argv[9]) if len(sys.argv) > 9 else None
     shares = [items // parts + (part < items % parts) for part in range(parts)]
     lists = [Lists(share, hot, warm, hot_age, warm_age, ring) for share in shares]
-    numbers, hits, ways = {}, 0, {}
-    for now, line in enumerate(line for line in sys.stdin if line.strip()):
-        key = numbers.setdefault(line.rstrip("\r\n"), len(numbers))
+    numbers, hits, waiting, ways, tended = {}, 0, 0, {}, 0
+    for place, line in enumerate(line for line in sys.stdin if line.strip()):
+        now, word, operation, ttl = place, line.rstrip("\r\n"), "get", 0
+        if ticks is not None:
+            time, word, operation, ttl = (word.split(",") + ["get", "0"])[:4]
+            now = int(time)
+        key = numbers.setdefault(word, len(numbers))
         part = lists[part_of(key, parts)]
-        if part.get(key, now):
+        if operation == "get" and part.get(key, now):
             hits += 1
-        else:
-            part.put(key, now)
-        if now % every == 0:
+        elif operation in ("get", "set"):
+            part.put(key, now, now + int(ttl) if int(ttl) else None)
+            waiting = max(waiting, sum(len(each.bumps) for each in lists))
+        elif operation == "delete":
+            part.remove(key)
+        if place % every == 0 if ticks is None else place == 0 or now - tended >= ticks:
+            tended = now
             for part in lists:
                 part.tend(now)
     print("hits", hits)
+    print("waiting", waiting)
     for part in lists:
         for way, count in part.ways.items():
             ways[way] = ways.get(way, 0) + count

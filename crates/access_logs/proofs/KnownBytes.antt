@@ -11,6 +11,11 @@ pub if_known : (known : Option (List ℕ)) (P Q : List ℕ → Type 0) → ((byt
 if_known None P Q follows p = tt
 if_known (Some bytes) P Q follows p = follows bytes p
 
+-- what holds of any bytes holds of known ones
+pub if_any : (known : Option (List ℕ)) (Q : List ℕ → Type 0) → ((bytes : List ℕ) → Q bytes) → IfSome known Q
+if_any None Q all = tt
+if_any (Some bytes) Q all = all bytes
+
 -- a buffer that nothing was read into leaves the bytes
 pub fresh : {T A : Type 0} (remaining : T → Option (List ℕ)) (reader : BufReader T A) (source : T) → reader_inner reader ≡ source → reader_buffer reader ≡ []
     → reader_capacity reader ≡ 8192 → reader_remaining remaining reader ≡ remaining source

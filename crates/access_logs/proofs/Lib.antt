@@ -1,10 +1,14 @@
+pub mod AskedLogs
+pub mod ColumnLemmas
 pub mod DraftLemmas
 pub mod EntryLemmas
+pub mod HeaderLemmas
 pub mod KeyLemmas
 pub mod KnownBytes
 pub mod LineKeys
 pub mod LineLemmas
 pub mod LogLemmas
+pub mod LongRecords
+pub mod NumeralLemmas
+pub mod PaddedBytes
 pub mod RecordLemmas
-pub mod SizeLemmas
-pub mod SizedLogs

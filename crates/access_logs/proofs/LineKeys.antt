@@ -1,11 +1,13 @@
 -- Lemmas on the lines of a text, one after the other, and on the entry of a line of which only the front is kept.
-use Rattle.std.proofs.Common.{◌≡◌, ℕ, ◌+◌, ◌-◌, ◌<◌, ◌≤◌, Bool, true, false, cond, ◌||◌, List, [], ◌∷◌, ◌++◌, map, length, take, refl, sym, ap, subst, ◌∙◌, arith, take_all, append-nil, append_assoc, length-take, true≢false}
-use Rattle.std.specs.Prelude.{Option, None, Some, IfSome, ⊤, nat_lt, ◌==◌, option_map, if◌then◌else◌}
+use Rattle.std.proofs.Common.{◌≡◌, ℕ, ◌+◌, ◌-◌, ◌<◌, ◌≤◌, Bool, true, false, cond, List, [], ◌∷◌, ◌++◌, map, length, take, refl, sym, ap, subst, ◌∙◌, arith, take_all, append-nil, append_assoc, length-take, true≢false, ne_eqb}
+use Rattle.std.specs.Prelude.{Option, None, Some, IfSome, ⊤, nat_lt, ◌==◌, if◌then◌else◌}
 use Rattle.std.specs.Io.BufRead.{ends_with_byte, strip_last, take_through, drop_through, DropsThrough}
 use Rattle.std.proofs.BufReadLemmas.{take_through-nil}
 use Rattle.std.proofs.lemmas.Bool.{lt-ltb, ltb-false, ltb-true}
-use Rattle.access_logs.specs.Entries.{Access, without_size}
-use Rattle.access_logs.specs.Lines.{with_byte, lines_of, content_of, key_of_content, longest_key, entry_of_line, entries_of_lines}
+use Rattle.access_logs.specs.Entries.{Said, Taken, Unread, of_key}
+use Rattle.access_logs.specs.Lines.{with_byte, lines_of, content_of, entry_of_content, longest_key, entry_of_line, entries_of_lines}
+use Rattle.access_logs.specs.declared.log.Defect.TheVariants as defect
+use Rattle.access_logs.specs.declared.log.Field.TheVariants as field
 
 -- the first line of a text, and the lines behind it
 pub lines_of-through : (byte : ℕ) (bytes : List ℕ) → lines_of (byte ∷ bytes) ≡ take_through 10 (byte ∷ bytes) ∷ lines_of (drop_through 10 (byte ∷ bytes))
@@ -42,17 +44,17 @@ length-content_of line = by (ends_with_byte 10 line)
     by false = omega arith
 
 -- bytes that are too many are no key
-pub key-long : (content : List ℕ) → longest_key < length content → key_of_content content ≡ None
-key-long content long = by (length content == 0) (nat_lt longest_key (length content)) (lt-ltb longest_key (length content) long)
+pub entry-long : (content : List ℕ) → longest_key < length content → entry_of_content content ≡ Unread defect.TooLong
+entry-long content long = by (length content == 0) (nat_lt longest_key (length content)) (ne_eqb (length content) 0 (λ e. omega (arith, e, long))) (lt-ltb longest_key (length content) long)
   where
-    by : (a b : Bool) → b ≡ true → (if a || b then None else Some content) ≡ None
-    by true b is = refl
-    by false true is = refl
-    by false false is = absurd (true≢false (sym is))
+    by : (a b : Bool) → a ≡ false → b ≡ true → (if a then Unread (defect.Lacks field.Key) else if b then Unread defect.TooLong else Taken (of_key content)) ≡ Unread defect.TooLong
+    by true b some is = absurd (true≢false some)
+    by false true some is = refl
+    by false false some is = absurd (true≢false (sym is))
 
-pub entry_of_line-long : (line : List ℕ) → 65538 < length line → entry_of_line line ≡ None
+pub entry_of_line-long : (line : List ℕ) → 65538 < length line → entry_of_line line ≡ Unread defect.TooLong
 unfolding entry_of_line
-entry_of_line-long line long = let left = length-content_of line in ap (option_map without_size) (key-long (content_of line) (omega (arith, left, long)))
+entry_of_line-long line long = let left = length-content_of line in entry-long (content_of line) (omega (arith, left, long))
 
 -- the front of a line tells its entry
 pub entry_of_line-kept : (line : List ℕ) → entry_of_line (take 65539 line) ≡ entry_of_line line
@@ -66,7 +68,7 @@ entry_of_line-kept line = by (nat_lt (length line) 65539) refl
         entry_of_line-long (take 65539 line) (omega (arith, above, front)) ∙ sym (entry_of_line-long line (omega (arith, above)))
 
 -- the entries of the known bytes are those read so far, and then those of the bytes that are left
-abbrev pub IsReadSoFar : Option (List ℕ) → Option (List ℕ) → List (Option Access) → Type 0
+abbrev pub IsReadSoFar : Option (List ℕ) → Option (List ℕ) → List Said → Type 0
 IsReadSoFar None left entries = ⊤
 IsReadSoFar (Some bytes) None entries = ⊥
 IsReadSoFar (Some bytes) (Some left) entries = entries_of_lines bytes ≡ entries ++ entries_of_lines left
@@ -76,7 +78,7 @@ none-read None = tt
 none-read (Some bytes) = refl
 
 -- a line more
-pub line-read : (known left next : Option (List ℕ)) (entries : List (Option Access)) (kept : List ℕ) → IsReadSoFar known left entries
+pub line-read : (known left next : Option (List ℕ)) (entries : List Said) (kept : List ℕ) → IsReadSoFar known left entries
     → IfSome left (λ bytes. kept ≡ take 65539 (take_through 10 bytes)) → DropsThrough left next 10 → (length kept ≡ 0 → ⊥)
     → IsReadSoFar known next (entries ++ entry_of_line kept ∷ [])
 line-read None left next entries kept before is rest some = tt
@@ -90,7 +92,7 @@ line-read (Some bytes) (Some (byte ∷ left)) next entries kept before is rest s
     ∙ sym (append_assoc entries (entry_of_line kept ∷ []) (entries_of_lines (drop_through 10 (byte ∷ left)))))
 
 -- no line more
-pub all-read : (known left : Option (List ℕ)) (entries : List (Option Access)) (kept : List ℕ) → IsReadSoFar known left entries
+pub all-read : (known left : Option (List ℕ)) (entries : List Said) (kept : List ℕ) → IsReadSoFar known left entries
     → IfSome left (λ bytes. kept ≡ take 65539 (take_through 10 bytes)) → length kept ≡ 0 → IfSome known (λ bytes. entries ≡ entries_of_lines bytes)
 unfolding lines_of
 all-read None left entries kept before is none = tt
@@ -102,8 +104,8 @@ all-read (Some bytes) (Some left) entries kept before is none =
     sym (before ∙ ap (λ l. entries ++ entries_of_lines l) end ∙ append-nil entries)
 
 -- what was read so far is the front of all
-pub front-read : (known left : Option (List ℕ)) (entries : List (Option Access)) → IsReadSoFar known left entries
-    → IfSome known (λ bytes. (more : List (Option Access)) × (entries_of_lines bytes ≡ entries ++ more))
+pub front-read : (known left : Option (List ℕ)) (entries : List Said) → IsReadSoFar known left entries
+    → IfSome known (λ bytes. (more : List Said) × (entries_of_lines bytes ≡ entries ++ more))
 front-read None left entries before = tt
 front-read (Some bytes) None entries before = absurd before
 front-read (Some bytes) (Some left) entries before = (entries_of_lines left, before)

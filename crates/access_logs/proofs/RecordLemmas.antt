@@ -1,19 +1,21 @@
 -- Lemmas on the records of a text, one after the other.
-use Rattle.std.proofs.Common.{◌≡◌, ℕ, zero, suc, ◌+◌, ◌-◌, ◌<◌, ◌≤◌, Bool, true, false, cond, List, [], ◌∷◌, ◌++◌, map, drop, length, refl, sym, ap, subst, ◌∙◌, arith, length-append, length-drop, append-nil, zero-le, drop_of_length-le, true≢false}
+use Rattle.std.proofs.Common.{◌||◌, ◌≡◌, ℕ, zero, suc, ◌+◌, ◌-◌, ◌<◌, ◌≤◌, Bool, true, false, cond, List, [], ◌∷◌, ◌++◌, map, drop, length, refl, sym, ap, subst, ◌∙◌, arith, length-append, length-drop, append-nil, zero-le, drop_of_length-le, true≢false}
 use Rattle.std.specs.Prelude.{Option, None, Some, IfSome, ⊤, is_some, unwrap_or, option_map, nat_le}
 use Rattle.std.proofs.lemmas.List.{map-append, length-map}
 use Rattle.std.proofs.Math.Seq.{drop-append-le}
 use Rattle.std.proofs.lemmas.Bool.{leb-true, leb-false}
 use Rattle.csv.specs.Machine.{Read, next_record, step, is_end, ends_at_end, fields_after, field_after}
-use Rattle.csv.specs.Reading.{Reached, ReadRecord, default_config, records_from, records_next, source_of, strip_bom, reader_config, reader_state}
+use Rattle.csv.specs.Reading.{Reached, ReadRecord, default_config, records, records_from, records_next, source_of, strip_bom, reader_config, reader_state}
 use Rattle.csv.specs.declared.parser.Config.{Config}
 use Rattle.csv.specs.declared.parser.State.{State}
 use Rattle.csv.specs.declared.parser.State.TheVariants as st
 use Rattle.csv.specs.declared.reader.Reader.{Reader}
 use Rattle.csv.proofs.ReadFacts.{rows-more, rows-end}
-use Rattle.access_logs.specs.Entries.{Access}
-use Rattle.access_logs.specs.Records.{entry_of_record, records_of, entries_from}
-use Rattle.access_logs.specs.declared.records.Columns.{Columns}
+use Rattle.access_logs.specs.Entries.{Said}
+use Rattle.access_logs.specs.Records.{entry_of_record, entries_from, first_record}
+use Rattle.access_logs.specs.Columns.{has_name}
+use Rattle.access_logs.specs.declared.columns.Asked.{Asked}
+use Rattle.access_logs.specs.declared.columns.Columns.{Columns}
 
 -- what an option holds
 some-is : (x p : Read) → Some x ≡ Some p → x ≡ p
@@ -98,7 +100,7 @@ reached-records cfg (row ∷ other ∷ rows) (suc n) s [] s2 ys fuel reached =
     let end = next-end cfg s p reached.1 in
     absurd (none-behind cfg p reached.3.0 end.0 end.1 reached.3.1)
 
--- ---- the accesses of records
+-- ---- what records say
 
 pub entries_from-nil : (first : ℕ) (columns : Columns) → entries_from first columns [] ≡ []
 entries_from-nil first columns = ap (map (entry_of_record columns)) (drop_of_length-le [] {i = first - 1} zero-le)
@@ -111,6 +113,18 @@ entries_from-more first columns seen row far =
 
 pub length-entries_from : (first : ℕ) (columns : Columns) (seen : List (List (List ℕ))) → length (entries_from first columns seen) ≡ length seen - (first - 1)
 length-entries_from first columns seen = length-map (drop (first - 1) seen) (entry_of_record columns) ∙ length-drop (first - 1) seen
+
+-- the record behind those that were seen stands behind what they say, or before the first that has a key
+pub entries_from-reach : (first : ℕ) (columns : Columns) (seen : List (List (List ℕ))) (number : ℕ) → 0 < first → number ≡ 1 + length seen → number ≤ first + length (entries_from first columns seen)
+entries_from-reach first columns seen number some is = let long = length-entries_from first columns seen in omega (arith, long, some, is)
+
+-- the first record that has a key is no record 0
+pub first_record-some : (header : Bool) (asked : Asked) (first : ℕ) → first ≡ first_record header asked → 0 < first
+first_record-some header asked first is = by (header || has_name asked) is
+  where
+    by : (b : Bool) → first ≡ cond b 2 1 → 0 < first
+    by true same = omega (arith, same)
+    by false same = omega (arith, same)
 
 -- one more record before the first that has a key
 pub entries_from-before : (first : ℕ) (columns : Columns) (seen : List (List (List ℕ))) (row : List (List ℕ)) → length seen < first - 1
@@ -149,10 +163,10 @@ module _ {R : Type 0} (remaining : R → Option (List ℕ)) (old new : Reader R)
 
   -- no record more
   pub all-read : reader_config old ≡ default_config → AreReadSoFar known (source_of remaining old) (reader_state old) seen → ReadRecord remaining old new false row
-      → IfSome known (λ bytes. records_of bytes ≡ seen)
+      → IfSome known (λ bytes. records default_config (strip_bom bytes) ≡ seen)
   all-read config before read = by known (source_of remaining old) refl before
     where
-      by : (o left : Option (List ℕ)) → source_of remaining old ≡ left → AreReadSoFar o left (reader_state old) seen → IfSome o (λ bytes. records_of bytes ≡ seen)
+      by : (o left : Option (List ℕ)) → source_of remaining old ≡ left → AreReadSoFar o left (reader_state old) seen → IfSome o (λ bytes. records default_config (strip_bom bytes) ≡ seen)
       by None left is reached = tt
       by (Some bytes) None is reached = absurd reached
       by (Some bytes) (Some left) is reached =
@@ -162,19 +176,19 @@ module _ {R : Type 0} (remaining : R → Option (List ℕ)) (old new : Reader R)
 
 -- what was read so far is the front of all
 pub front-read : (known left : Option (List ℕ)) (s : State) (seen : List (List (List ℕ))) → AreReadSoFar known left s seen
-    → IfSome known (λ bytes. (more : List (List (List ℕ))) × (records_of bytes ≡ seen ++ more))
+    → IfSome known (λ bytes. (more : List (List (List ℕ))) × (records default_config (strip_bom bytes) ≡ seen ++ more))
 front-read None left s seen before = tt
 front-read (Some bytes) None s seen before = absurd before
 front-read (Some bytes) (Some left) s seen before =
     let rest = reached-records default_config seen (length (strip_bom bytes) + 1) st.StartRecord (strip_bom bytes) s left (omega arith) before in
     (rest.0, rest.1)
 
--- and its accesses are the first of all
+-- and what they say is the first of all
 pub entries_from-front : (first : ℕ) (columns : Columns) (seen more : List (List (List ℕ)))
-    → (rest : List (Option Access)) × (entries_from first columns (seen ++ more) ≡ entries_from first columns seen ++ rest)
+    → (rest : List Said) × (entries_from first columns (seen ++ more) ≡ entries_from first columns seen ++ rest)
 entries_from-front first columns seen more = by (nat_le (first - 1) (length seen)) refl
   where
-    by : (b : Bool) → nat_le (first - 1) (length seen) ≡ b → (rest : List (Option Access)) × (entries_from first columns (seen ++ more) ≡ entries_from first columns seen ++ rest)
+    by : (b : Bool) → nat_le (first - 1) (length seen) ≡ b → (rest : List Said) × (entries_from first columns (seen ++ more) ≡ entries_from first columns seen ++ rest)
     by true far = (
       map (entry_of_record columns) more,
       ap (map (entry_of_record columns)) (drop-append-le (first - 1) seen more (leb-true (first - 1) (length seen) far)) ∙ map-append (entry_of_record columns) (drop (first - 1) seen) more,

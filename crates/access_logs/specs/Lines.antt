@@ -1,7 +1,9 @@
--- The lines of a text, and the access of each.
-use Rattle.std.specs.Prelude.{ℕ, ◌==◌, ◌||◌, nat_lt, List, [], ◌∷◌, length, map, Option, Some, None, ⊤, option_map, if◌then◌else◌}
+-- The lines of a text, and what each says.
+use Rattle.std.specs.Prelude.{ℕ, ◌≡◌, ◌==◌, nat_lt, List, [], ◌∷◌, length, map, ⊤, if◌then◌else◌}
 use Rattle.std.specs.Io.BufRead.{ends_with_byte, strip_last}
-use Rattle.access_logs.specs.Entries.{Access, without_size}
+use Rattle.access_logs.specs.Entries.{Said, Taken, Unread, of_key}
+use Rattle.access_logs.specs.declared.log.Defect.TheVariants as defect
+use Rattle.access_logs.specs.declared.log.Field.TheVariants as field
 use Rattle.access_logs.specs.declared.log.LogFault.{LogFault}
 use Rattle.access_logs.specs.declared.log.LogFault.TheVariants as fault
 
@@ -24,20 +26,25 @@ abbrev pub longest_key : ℕ
 longest_key = 65536
 
 -- bytes as a key: none, and more than a key has at most, are no key
-abbrev pub key_of_content : List ℕ → Option (List ℕ)
-key_of_content content = if length content == 0 || nat_lt longest_key (length content) then None else Some content
+abbrev pub entry_of_content : List ℕ → Said
+entry_of_content content =
+    if length content == 0 then Unread (defect.Lacks field.Key)
+    else if nat_lt longest_key (length content) then Unread defect.TooLong
+    else Taken (of_key content)
 
--- the access of a line, where it can be read: no line tells a size
-unfoldable pub entry_of_line : List ℕ → Option Access
-entry_of_line line = option_map without_size (key_of_content (content_of line))
+-- what a line says: no line tells anything but a key
+unfoldable pub entry_of_line : List ℕ → Said
+entry_of_line line = entry_of_content (content_of line)
 
--- of each line its access
-abbrev pub entries_of_lines : List ℕ → List (Option Access)
+-- what each line says
+abbrev pub entries_of_lines : List ℕ → List Said
 entries_of_lines bytes = map entry_of_line (lines_of bytes)
 
--- the reader or memory failed
-abbrev pub IsReadOrMemory : LogFault → Type 0
-IsReadOrMemory fault.Read = ⊤
-IsReadOrMemory fault.Memory = ⊤
-IsReadOrMemory (fault.Unreadable number) = ⊥
-IsReadOrMemory fault.TooManyKeys = ⊥
+-- the reader failed in the line or record of this number, or memory
+abbrev pub IsReadOrMemory : ℕ → LogFault → Type 0
+IsReadOrMemory place (fault.Read number cause) = number ≡ place
+IsReadOrMemory place fault.TooManyLines = ⊥
+IsReadOrMemory place fault.Memory = ⊤
+IsReadOrMemory place (fault.Unreadable found) = ⊥
+IsReadOrMemory place fault.TooManyKeys = ⊥
+IsReadOrMemory place (fault.NoColumn field) = ⊥

@@ -11,7 +11,9 @@ keys_of numbering = map vec_items numbering.keys.keys
 
 -- why a key gets no number: memory, or as many keys as there are numbers
 abbrev pub RefusesKey : List (List ℕ) → List ℕ → LogFault → Type 0
-RefusesKey keys key fault.Read = ⊥
+RefusesKey keys key (fault.Read number cause) = ⊥
+RefusesKey keys key fault.TooManyLines = ⊥
 RefusesKey keys key fault.Memory = ⊤
-RefusesKey keys key (fault.Unreadable number) = ⊥
+RefusesKey keys key (fault.Unreadable found) = ⊥
 RefusesKey keys key fault.TooManyKeys = (length keys ≡ 4294967295) × (is_among keys key ≡ false)
+RefusesKey keys key (fault.NoColumn field) = ⊥

@@ -1,15 +1,19 @@
 //! Access logs as numbers: each distinct key of a log gets a number, in the order in which keys first come.
 #![tactic(auto)]
 
+mod columns;
 mod drafts;
 mod entries;
 mod lines;
 mod log;
 mod numbering;
+mod numerals;
+mod operations;
+mod padded;
 mod patient;
 mod reading;
 mod records;
-mod sizes;
 
-pub use log::{Format, Log, LogFault};
+pub use log::{Column, Defect, Field, Format, Log, LogFault, Unreadable};
+pub use operations::Operation;
 pub use reading::read_log;

@@ -5,11 +5,11 @@ ghost use Rattle.std.specs.Prelude.{option_map, vec_len, IfOk, IfErr, IfSome, On
 ghost use Rattle.std.specs.Io.{StopsAt, IsEmptyOrEndsWith};
 ghost use Rattle.std.specs.Io.BufRead.{ends_with_byte, take_through, DropsThrough};
 ghost use Rattle.std.specs.Io.KnownBytes.{Consumes, IsAtEnd};
-ghost use Rattle.access_logs.specs.Entries.{access_of};
+ghost use Rattle.access_logs.specs.Entries.{said_by};
 ghost use Rattle.access_logs.specs.Lines.{content_of, entry_of_line, IsReadOrMemory};
 
-use crate::entries::LogEntry;
-use crate::log::LogFault;
+use crate::entries::{Entry, LogEntry};
+use crate::log::{Defect, Field, LogFault};
 use memchr::memchr;
 use std::io::{BufRead, ErrorKind};
 
@@ -44,18 +44,23 @@ fn content_of(line: &[u8]) -> &[u8]
     }
 }
 
-/// What a line with its end says, or nothing where it can't be read.
+/// What a line with its end says.
 #[tactic(auto, unfolding(crate::specs::Lines::entry_of_line))]
-pub fn entry_of_line(line: &[u8]) -> Option<LogEntry<'_>>
-    ensures { option_map access_of result ≡ entry_of_line line.now }
+pub fn entry_of_line(line: &[u8]) -> Entry<'_>
+    ensures { said_by result ≡ entry_of_line line.now }
 {
     let content = content_of(line);
-    if content.is_empty() || content.len() > LONGEST_KEY {
-        None
+    if content.is_empty() {
+        Entry::Unreadable(Defect::Lacks(Field::Key))
+    } else if content.len() > LONGEST_KEY {
+        Entry::Unreadable(Defect::TooLong)
     } else {
-        Some(LogEntry {
+        Entry::Access(LogEntry {
             key: content,
             size: None,
+            time: None,
+            operation: None,
+            ttl: None,
         })
     }
 }
@@ -73,14 +78,14 @@ fn len_through(bytes: &[u8]) -> usize
 }
 
 // Reads on in a line, up to its end or as far as the reader has bytes at hand. Whether the line is at its end, or the
-// input.
-fn read_piece<B: BufRead>(source: &mut B, line: &mut Vec<u8>) -> Result<bool, LogFault>
+// input. The number is that of the line.
+fn read_piece<B: BufRead>(source: &mut B, line: &mut Vec<u8>, number: u64) -> Result<bool, LogFault>
     requires { vec_len line.old ≤ 65539 }
     ensures piece { IfOk result (λ done. (piece : List ℕ) × (line.new.items ≡ take 65539 (line.old.items ++ piece))
         × Consumes (B.remaining source.old) (B.remaining source.new) piece × StopsAt piece 10
         × (done ≢ true → All (λ x. x ≢ 10) piece) × (done ≡ true → IsEmptyOrEndsWith piece 10)
         × (done ≡ true → length piece ≡ 0 → OnSome (B.remaining source.old) (IsAtEnd (B.remaining source.new)))) }
-    ensures refusal { IfErr result IsReadOrMemory }
+    ensures refusal { IfErr result (IsReadOrMemory number) }
 {
     let shown = match source.fill_buf() {
         Ok(shown) => shown,
@@ -88,7 +93,10 @@ fn read_piece<B: BufRead>(source: &mut B, line: &mut Vec<u8>) -> Result<bool, Lo
             return if e.kind() == ErrorKind::Interrupted {
                 Ok(false)
             } else {
-                Err(LogFault::Read)
+                Err(LogFault::Read {
+                    number,
+                    cause: e.kind(),
+                })
             };
         }
     };
@@ -102,18 +110,26 @@ fn read_piece<B: BufRead>(source: &mut B, line: &mut Vec<u8>) -> Result<bool, Lo
     Ok(is_done)
 }
 
-/// Reads the next line with its end, of which it keeps the first 65,539 bytes. At the end of the input it is empty.
-pub fn read_line<B: BufRead>(source: &mut B, line: &mut Vec<u8>) -> Result<(), LogFault>
+/// Reads the next line with its end, of which it keeps the first 65,539 bytes. At the end of the input it is empty. The
+/// number is that of the line.
+pub fn read_line<B: BufRead>(
+    source: &mut B,
+    line: &mut Vec<u8>,
+    number: u64,
+) -> Result<(), LogFault>
     ensures line { OnOk result (IfSome (B.remaining source.old) (λ bytes.
         line.new.items ≡ take 65539 (take_through 10 bytes))) }
     ensures rest { OnOk result (DropsThrough (B.remaining source.old) (B.remaining source.new) 10) }
-    ensures refusal { IfErr result IsReadOrMemory }
+    ensures refusal { IfErr result (IsReadOrMemory number) }
 {
     line.clear();
     for _ in 0..u64::MAX {
-        if read_piece(source, line)? {
+        if read_piece(source, line, number)? {
             return Ok(());
         }
     }
-    Err(LogFault::Read)
+    Err(LogFault::Read {
+        number,
+        cause: ErrorKind::TimedOut,
+    })
 }

@@ -1,4 +1,5 @@
 //! The accesses of a log, by the class of their key.
+use crate::course::Course;
 use access_logs::Log;
 use std::alloc::{AllocError, Global};
 
@@ -8,8 +9,11 @@ pub struct ClassAccesses {
     /// The largest size of the class in bytes.
     pub class: u32,
 
-    /// The keys, by number.
-    pub accesses: Vec<u32>,
+    /// How many keys are of the class.
+    pub keys: u32,
+
+    /// The accesses.
+    pub course: Course,
 }
 
 /// The accesses of a log, by the class of their key.
@@ -43,10 +47,24 @@ fn places_of(alloc: Global, log: &Log, classes: &[u32]) -> Result<Vec<Option<usi
     Ok(places)
 }
 
-// One access more, in the part with this place.
-fn take(parts: &mut AccessesByClass, place: usize, key: u32) -> Result<(), AllocError> {
+// One key more, in the part with this place, if it has one.
+fn count_key(parts: &mut AccessesByClass, place: &Option<usize>) {
+    if let Some(place) = place {
+        if let Some(part) = parts.parts.get_mut(*place) {
+            part.keys = part.keys.saturating_add(1);
+        }
+    }
+}
+
+// One access more, which has this number in the log, in the part with this place.
+fn take(
+    parts: &mut AccessesByClass,
+    place: usize,
+    log: &Log,
+    number: usize,
+) -> Result<(), AllocError> {
     match parts.parts.get_mut(place) {
-        Some(part) => Ok(part.accesses.push(key)?),
+        Some(part) => part.course.add(log, number),
         None => {
             parts.too_large = parts.too_large.saturating_add(1);
             Ok(())
@@ -63,16 +81,37 @@ pub fn parts_of(alloc: Global, log: &Log, classes: &[u32]) -> Result<AccessesByC
         too_large: 0,
     };
     for class in classes {
-        let accesses = Vec::new(alloc);
         parts.parts.push(ClassAccesses {
             class: *class,
-            accesses,
+            keys: 0,
+            course: Course::new(alloc),
         })?;
     }
-    for key in &log.accesses {
+    for place in &places {
+        count_key(&mut parts, place);
+    }
+    for (number, key) in log.accesses.iter().enumerate() {
         if let Some(Some(place)) = places.get(*key as usize) {
-            take(&mut parts, *place, *key)?;
+            take(&mut parts, *place, log, number)?;
         }
     }
     Ok(parts)
+}
+
+/// How many bytes the items of all keys would take, each in a chunk of its class: as large as the largest item there.
+pub fn bytes_of_all(parts: &[ClassAccesses]) -> u128 {
+    let mut bytes = 0u128;
+    for part in parts {
+        let of_class = u128::from(part.keys).saturating_mul(u128::from(part.class));
+        bytes = bytes.saturating_add(of_class);
+    }
+    bytes
+}
+
+/// How many items of a class so many bytes buy, where the items of all keys would take `all` of them: each class gets
+/// chunks for the same share of its keys, rounded down; but one at least, and no more than it has keys.
+pub fn items_of(part: &ClassAccesses, bytes: u64, all: u128) -> u32 {
+    let bought = u128::from(part.keys).saturating_mul(u128::from(bytes)) / all.max(1);
+    let items = bought.min(u128::from(part.keys)).max(1);
+    u32::try_from(items).unwrap_or(u32::MAX)
 }

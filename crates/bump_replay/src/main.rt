@@ -1,21 +1,33 @@
 //! Runs an access log through caches, and tells how often its keys were there.
 #![tactic(auto)]
 
+mod chart;
 mod classes;
+mod course;
+mod flows;
 mod json;
+mod layouts;
 mod options;
+mod outputs;
+mod plain;
 mod progress;
 mod rows;
 mod runs;
+mod sampling;
+mod scales;
+mod summary;
 mod svg;
 mod tables;
 mod traced;
 
 use access_logs::{Log, LogFault, read_log};
+use clap::Error;
+use json::Told;
 use options::Options;
 use replay_runs::{ReplayFault, ReplayTrace};
 use rows::Row;
 use runs::Runs;
+use sampling::Sampled;
 use std::env;
 use std::fs::{self, File};
 use std::io::{self, Read};
@@ -27,6 +39,12 @@ use std::sync::Wait;
 /// Why there is nothing to print.
 #[derive(Drop)]
 enum Failure {
+    /// The log can't be opened.
+    Open(io::Error),
+
+    /// Standard input was to be read a second time.
+    Twice,
+
     /// The log isn't read.
     Log(LogFault),
 
@@ -49,17 +67,28 @@ fn log_of<R: Files + AllocGlobal, S: Read + Drop>(
     file: &str,
     input: &mut Option<S>,
     options: &Options<'_>,
-) -> Result<Log, LogFault> {
-    let alloc = rt.alloc();
+) -> Result<Log, Failure> {
     if file == "-" {
         return match input.take() {
-            Some(input) => read_log(alloc, input, options.format, options.is_strict),
-            None => Err(LogFault::Read),
+            Some(input) => read(rt, input, options),
+            None => Err(Failure::Twice),
         };
     }
     match File::open(rt, file) {
-        Ok(file) => read_log(alloc, file, options.format, options.is_strict),
-        Err(_) => Err(LogFault::Read),
+        Ok(file) => read(rt, file, options),
+        Err(error) => Err(Failure::Open(error)),
+    }
+}
+
+// Reads what is open.
+fn read<R: AllocGlobal, S: Read + Drop>(
+    rt: &R,
+    source: S,
+    options: &Options<'_>,
+) -> Result<Log, Failure> {
+    match read_log(rt.alloc(), source, options.format, options.is_strict) {
+        Ok(log) => Ok(log),
+        Err(fault) => Err(Failure::Log(fault)),
     }
 }
 
@@ -67,8 +96,18 @@ fn log_of<R: Files + AllocGlobal, S: Read + Drop>(
 fn tell_unreadable<R: Eprint>(rt: &R, log: &Log) {
     if let Some(first) = log.first_unreadable {
         let _ = eprintln!(rt;
-            "{} lines can't be read, the first of them line {first}",
-            log.unreadable
+            "{} lines can't be read, the first of them line {}",
+            log.unreadable, first.number
+        );
+    }
+}
+
+// Says how many accesses are none that a cache is asked for, if any.
+fn tell_passed_over<R: Eprint>(rt: &R, log: &Log) {
+    let count = course::passed_over(log);
+    if count > 0 {
+        let _ = eprintln!(rt;
+            "{count} accesses are neither gets, sets nor deletes, and passed over"
         );
     }
 }
@@ -78,7 +117,7 @@ fn draw<R: Files + AllocGlobal>(rt: &R, options: &Options<'_>, rows: &[Row]) -> 
     let Some(file) = options.svg else {
         return Ok(());
     };
-    let text = svg::picture(rt.alloc(), rows)?;
+    let text = svg::picture(rt.alloc(), rows, options.is_full)?;
     fs::write(rt, file, text)
 }
 
@@ -110,37 +149,66 @@ fn write_trace<R: Files + AllocGlobal + RandomSource>(
 }
 
 // Prints what a log came to.
-fn put<R: Print>(
+fn put<R: Print + AllocGlobal>(rt: &R, told: &Told<'_, '_>) -> io::Result<()> {
+    if told.options.is_json {
+        return rt.println(json::object_of(rt.alloc(), told)?);
+    }
+    tables::put_rows(rt, told.rows)?;
+    if let Some(hits) = told.traced {
+        tables::put_trace(rt, hits)?;
+    }
+    summary::put_sentences(rt, told.options, told.rows)
+}
+
+// Leaves a sample of the log's keys, where one is asked for, and says how many of all accesses it has.
+fn take_sample<R: AllocGlobal + Eprint>(
     rt: &R,
     options: &Options<'_>,
-    log: &Log,
-    runs: &Runs,
-    trace: &Option<ReplayTrace>,
-) -> io::Result<()> {
-    if options.is_json {
-        return json::put_rows(rt, log, &runs.rows);
+    log: &mut Log,
+) -> Result<Option<Sampled>, Failure> {
+    if options.sample <= 1 {
+        return Ok(None);
     }
-    tables::put_rows(rt, &runs.rows)?;
-    match trace {
-        Some(trace) => tables::put_trace(rt, &trace.hits),
-        None => Ok(()),
-    }
+    let Ok(sampled) = sampling::sample(rt.alloc(), log, options.sample) else {
+        return Err(Failure::Replay(ReplayFault::Memory));
+    };
+    let lean = sampling::lean(log, sampled);
+    let _ = eprintln!(rt;
+        "a sample of {} of {} keys has {} of {} accesses, which is its share but for {}.{:02} %",
+        sampled.keys,
+        log.keys,
+        log.accesses.len(),
+        sampled.accesses,
+        lean / 100,
+        lean % 100
+    );
+    Ok(Some(sampled))
 }
 
 // Runs a log, and prints what it came to.
-fn run_log<R: Print + Eprint + Files + AllocGlobal + RandomSource + Wait>(
+fn run_log<'a, R: Print + Eprint + Files + AllocGlobal + RandomSource + Wait>(
     rt: &R,
-    options: &Options<'_>,
-    log: &Log,
+    options: &'a Options<'a>,
+    file: &'a str,
+    log: &'a Log,
+    sampled: Option<Sampled>,
 ) -> Result<(), Failure> {
-    tell_unreadable(rt, log);
     let runs = match runs::run_log(rt, options, log) {
         Ok(runs) => runs,
         Err(fault) => return Err(Failure::Replay(fault)),
     };
     tell_too_large(rt, &runs);
     let trace = write_trace(rt, options, log, &runs.rows)?;
-    if put(rt, options, log, &runs, &trace).is_err() || draw(rt, options, &runs.rows).is_err() {
+    let told = Told {
+        file,
+        options,
+        log,
+        sampled,
+        rows: &runs.rows,
+        too_large: runs.too_large,
+        traced: trace.as_ref().map(|trace| &trace.hits),
+    };
+    if put(rt, &told).is_err() || draw(rt, options, &runs.rows).is_err() {
         return Err(Failure::Write);
     }
     Ok(())
@@ -157,30 +225,30 @@ fn put_name<R: Print>(rt: &R, options: &Options<'_>, place: usize, file: &str) -
     println!(rt; "{file}:")
 }
 
-// Runs what the words ask for, log after log.
-fn run<R: Print + Eprint + Files + AllocGlobal + RandomSource + Wait, S: Read + Drop>(
+// Reads a log, and runs it.
+fn run_file<R: Print + Eprint + Files + AllocGlobal + RandomSource + Wait, S: Read + Drop>(
     rt: &R,
-    input: S,
+    input: &mut Option<S>,
     options: &Options<'_>,
+    place: usize,
+    file: &str,
 ) -> Result<(), Failure> {
-    let mut input = Some(input);
-    for (place, file) in options.files.iter().enumerate() {
-        let log = match log_of(rt, file, &mut input, options) {
-            Ok(log) => log,
-            Err(fault) => return Err(Failure::Log(fault)),
-        };
-        if put_name(rt, options, place, file).is_err() {
-            return Err(Failure::Write);
-        }
-        run_log(rt, options, &log)?;
+    let mut log = log_of(rt, file, input, options)?;
+    if put_name(rt, options, place, file).is_err() {
+        return Err(Failure::Write);
     }
-    Ok(())
+    tell_unreadable(rt, &log);
+    tell_passed_over(rt, &log);
+    let sampled = take_sample(rt, options, &mut log)?;
+    run_log(rt, options, file, &log, sampled)
 }
 
-// Says why there is nothing to print.
-fn tell<R: Eprint>(rt: &R, failure: &Failure) {
+// Says why a log's run ended early.
+fn tell<R: Eprint>(rt: &R, file: &str, failure: &Failure) {
     let _ = match failure {
-        Failure::Log(fault) => eprintln!(rt; "{fault}"),
+        Failure::Open(error) => eprintln!(rt; "{file} can't be opened: {error}"),
+        Failure::Twice => eprintln!(rt; "standard input can be read once"),
+        Failure::Log(fault) => eprintln!(rt; "{file}: {fault}"),
         Failure::Replay(fault) => eprintln!(rt; "{fault}"),
         Failure::Differs => eprintln!(rt; "the trace's hits aren't those of the run"),
         Failure::Random => eprintln!(rt; "the system has no random bytes"),
@@ -188,25 +256,54 @@ fn tell<R: Eprint>(rt: &R, failure: &Failure) {
     };
 }
 
-fn main(rt: HostRuntime) -> ExitCode {
-    let alloc = rt.alloc();
-    let Ok(args) = env::args(&rt) else {
-        return ExitCode::from(1);
-    };
-    let Ok(words) = args.collect::<Vec<String>>(alloc) else {
-        return ExitCode::from(1);
-    };
-    match options::choose(alloc, &words) {
-        Ok(options) => match run(&rt, rt.stdin(), &options) {
-            Ok(()) => ExitCode::from(0),
-            Err(failure) => {
-                tell(&rt, &failure);
-                ExitCode::from(1)
-            }
-        },
-        Err(error) => {
-            let _ = error.print(&rt);
-            ExitCode::from(error.exit_code() as u8)
+// Runs what the words ask for, log after log; the program's status.
+fn run<R: Print + Eprint + Files + AllocGlobal + RandomSource + Wait, S: Read + Drop>(
+    rt: &R,
+    input: S,
+    options: &Options<'_>,
+) -> u8 {
+    let mut input = Some(input);
+    for (place, file) in options.files.iter().enumerate() {
+        if let Err(failure) = run_file(rt, &mut input, options, place, file) {
+            tell(rt, file, &failure);
+            return 1;
         }
     }
+    0
+}
+
+// Prints why the words can't be followed, or the help that was asked for; the program's status.
+fn refuse<R: Print + Eprint>(rt: &R, error: &Error) -> u8 {
+    let _ = error.print(rt);
+    error.exit_code() as u8
+}
+
+// Follows the words; the program's status.
+fn follow<R: Print + Eprint + Files + AllocGlobal + RandomSource + Wait, S: Read + Drop>(
+    rt: &R,
+    input: S,
+    words: &[String],
+) -> u8 {
+    let options = match options::choose(rt.alloc(), words) {
+        Ok(options) => options,
+        Err(error) => return refuse(rt, &error),
+    };
+    let Some(why) = outputs::fault(rt, &options) else {
+        return run(rt, input, &options);
+    };
+    match options::refusal(rt.alloc(), why) {
+        Ok(error) => refuse(rt, &error),
+        Err(_) => 1,
+    }
+}
+
+fn main(rt: HostRuntime) -> ExitCode {
+    let Ok(args) = env::args(&rt) else {
+        let _ = eprintln!(&rt; "a word of the command line isn't UTF-8");
+        return ExitCode::from(1);
+    };
+    let Ok(words) = args.collect::<Vec<String>>(rt.alloc()) else {
+        return ExitCode::from(1);
+    };
+    ExitCode::from(follow(&rt, rt.stdin(), &words))
 }

@@ -2,13 +2,14 @@
 ghost use Rattle.std.specs.Prelude.{◌≡◌};
 ghost use Rattle.replay_runs.specs.Plans.{spare_for, with_items};
 
-use crate::classes::{AccessesByClass, ClassAccesses, parts_of};
+use crate::classes::{AccessesByClass, ClassAccesses, bytes_of_all, items_of, parts_of};
+use crate::course::asked_of;
 use crate::options::Options;
-use crate::progress;
-use crate::rows::Row;
+use crate::rows::{PolicyRun, Row};
+use crate::sampling::scaled;
+use crate::{plain, progress};
 use access_logs::Log;
-use replay_policies::{Policy, Tally};
-use replay_runs::{CacheConfig, Plan, ReplayFault};
+use replay_runs::{Asked, CacheConfig, Plan, ReplayFault};
 use std::alloc::{AllocError, Global};
 use std::rt::Files;
 use std::sync::Wait;
@@ -23,21 +24,20 @@ pub struct Runs {
     pub too_large: u64,
 }
 
-// Runs a plain policy, where it is asked for.
+// Runs the plain policies that are compared.
 fn compared(
     alloc: Global,
-    is_asked: bool,
-    policy: Policy,
+    options: &Options<'_>,
     items: u32,
-    accesses: &[u32],
-) -> Result<Option<Tally>, ReplayFault> {
-    if !is_asked {
-        return Ok(None);
+    asked: &Asked<'_>,
+) -> Result<Vec<PolicyRun>, ReplayFault> {
+    let mut others = Vec::new(alloc);
+    for policy in &options.policies {
+        let policy = *policy;
+        let tally = plain::run(alloc, policy, items, asked)?;
+        others.push(PolicyRun { policy, tally })?;
     }
-    match replay_policies::replay(alloc, policy, items, accesses) {
-        Ok(tally) => Ok(Some(tally)),
-        Err(_) => Err(ReplayFault::Memory),
-    }
+    Ok(others)
 }
 
 // How many spare chunks a cache of so many items has.
@@ -63,31 +63,45 @@ pub fn plan_of(options: &Options<'_>, items: u32) -> Plan
     plan
 }
 
+// So many items, in a sample.
+fn scaled_items(options: &Options<'_>, items: u32) -> u32 {
+    u32::try_from(scaled(u64::from(items), options.sample)).unwrap_or(items)
+}
+
+// Of what a cache is: of which class and of how many bytes for all, if it is said, and of how many items, and how many
+// of these the cache has that is run: of a sample fewer.
+#[derive(Clone, Copy)]
+struct Size {
+    class: Option<u32>,
+    bytes: Option<u64>,
+    items: u32,
+    run: u32,
+}
+
 // The runs through caches of one size.
 fn row_of<R: Files + Eprint + AllocGlobal + Wait>(
     rt: &R,
     options: &Options<'_>,
-    class: Option<u32>,
-    items: u32,
-    accesses: &[u32],
+    size: Size,
+    asked: &Asked<'_>,
 ) -> Result<Row, ReplayFault> {
     let alloc = rt.alloc();
-    let plan = plan_of(options, items);
-    let bump = replay_runs::replay(&rt, alloc, &plan, accesses)?;
+    let plan = plan_of(options, size.run);
+    let bump = replay_runs::replay(&rt, alloc, &plan, asked)?;
     let row = Row {
-        class,
-        items,
+        class: size.class,
+        bytes: size.bytes,
+        items: size.items,
         bump,
-        lru: compared(alloc, options.has_lru, Policy::Lru, items, accesses)?,
-        fifo: compared(alloc, options.has_fifo, Policy::Fifo, items, accesses)?,
+        others: compared(alloc, options, size.run, asked)?,
     };
-    if progress::is_told(rt, accesses.len()) {
-        progress::tell(rt, &row, accesses.len());
+    if progress::is_told(rt, asked.keys.len()) {
+        progress::tell(rt, &row, asked.keys.len());
     }
     Ok(row)
 }
 
-// The rows of one size: one, or one for each class.
+// The rows of one number of items: one, or one for each class.
 fn put_rows_of<R: Files + Eprint + AllocGlobal + Wait>(
     rt: &R,
     options: &Options<'_>,
@@ -96,14 +110,46 @@ fn put_rows_of<R: Files + Eprint + AllocGlobal + Wait>(
     parts: &[ClassAccesses],
     rows: &mut Vec<Row>,
 ) -> Result<(), ReplayFault> {
+    let run = scaled_items(options, items);
     if options.classes.is_empty() {
-        return push(rows, row_of(rt, options, None, items, &log.accesses)?);
+        let size = Size {
+            class: None,
+            bytes: None,
+            items,
+            run,
+        };
+        return push(rows, row_of(rt, options, size, &asked_of(log))?);
     }
     for part in parts {
-        push(
-            rows,
-            row_of(rt, options, Some(part.class), items, &part.accesses)?,
-        )?;
+        let size = Size {
+            class: Some(part.class),
+            bytes: None,
+            items,
+            run,
+        };
+        push(rows, row_of(rt, options, size, &part.course.asked())?)?;
+    }
+    Ok(())
+}
+
+// The rows of one number of bytes, which are shared out: one for each class.
+fn put_rows_of_bytes<R: Files + Eprint + AllocGlobal + Wait>(
+    rt: &R,
+    options: &Options<'_>,
+    bytes: u64,
+    parts: &[ClassAccesses],
+    rows: &mut Vec<Row>,
+) -> Result<(), ReplayFault> {
+    let all = bytes_of_all(parts);
+    for part in parts {
+        let run = items_of(part, scaled(bytes, options.sample), all);
+        let size = Size {
+            class: Some(part.class),
+            bytes: Some(bytes),
+            items: run.saturating_mul(options.sample),
+            run,
+        };
+        push(rows, row_of(rt, options, size, &part.course.asked())?)?;
     }
     Ok(())
 }
@@ -137,6 +183,9 @@ pub fn run_log<R: Files + Eprint + AllocGlobal + Wait>(
     let mut rows = Vec::new(rt.alloc());
     for items in &options.sizes {
         put_rows_of(rt, options, *items, log, &parts.parts, &mut rows)?;
+    }
+    for bytes in &options.bytes {
+        put_rows_of_bytes(rt, options, *bytes, &parts.parts, &mut rows)?;
     }
     let too_large = if options.classes.is_empty() {
         0

@@ -1,11 +1,14 @@
 //! What runs came to, as tables.
-use crate::rows::{Row, missed, tally_of};
+use crate::rows::{Row, missed, tally_of, word_of};
 use replay_policies::Tally;
 use replay_runs::HitCounts;
 use std::io;
 
 fn put_tally<R: Print>(rt: &R, row: &Row, policy: &str, tally: &Tally) -> io::Result<()> {
     let share = missed(tally);
+    if let Some(bytes) = row.bytes {
+        print!(rt; "{bytes:>14}")?;
+    }
     if let Some(class) = row.class {
         print!(rt; "{class:>10}")?;
     }
@@ -22,11 +25,8 @@ fn put_tally<R: Print>(rt: &R, row: &Row, policy: &str, tally: &Tally) -> io::Re
 
 fn put_row<R: Print>(rt: &R, row: &Row) -> io::Result<()> {
     put_tally(rt, row, "bump", &tally_of(&row.bump))?;
-    if let Some(tally) = row.lru {
-        put_tally(rt, row, "lru", &tally)?;
-    }
-    if let Some(tally) = row.fifo {
-        put_tally(rt, row, "fifo", &tally)?;
+    for run in &row.others {
+        put_tally(rt, row, word_of(run.policy), &run.tally)?;
     }
     Ok(())
 }
@@ -54,7 +54,8 @@ fn put_evictions<R: Print>(rt: &R, row: &Row) -> io::Result<()> {
     let hit = stats.evicted.saturating_sub(stats.evicted_unfetched);
     put_count(rt, "  hit", hit)?;
     put_count(rt, "  ACTIVE", stats.evicted_active)?;
-    put_count(rt, "not placed", row.bump.unplaced)
+    put_count(rt, "not placed", row.bump.unplaced)?;
+    put_count(rt, "chunks held by bumps, most", row.bump.waiting)
 }
 
 fn put_bumps<R: Print>(rt: &R, row: &Row) -> io::Result<()> {
@@ -68,6 +69,9 @@ fn put_bumps<R: Print>(rt: &R, row: &Row) -> io::Result<()> {
 
 // What the columns of the first table are.
 fn put_head<R: Print>(rt: &R, rows: &[Row]) -> io::Result<()> {
+    if rows.iter().any(|row| row.bytes.is_some()) {
+        print!(rt; "    bytes, all")?;
+    }
     if rows.iter().any(|row| row.class.is_some()) {
         print!(rt; " of, bytes")?;
     }

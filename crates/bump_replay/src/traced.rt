@@ -54,6 +54,7 @@ pub fn trace_of_row<R: AllocGlobal + RandomSource>(
         keys,
         &plan_of(options, row.items),
         &log.accesses,
+        &log.times,
     ) {
         Ok(trace) => {
             if agrees(row, &trace.hits) {

@@ -5,6 +5,10 @@
 #[cfg(test)]
 mod lines;
 #[cfg(test)]
+mod names;
+#[cfg(test)]
+mod operations;
+#[cfg(test)]
 mod pieces;
 #[cfg(test)]
 mod policies;
@@ -14,3 +18,5 @@ mod records;
 mod reports;
 #[cfg(test)]
 mod sizes;
+#[cfg(test)]
+mod times;

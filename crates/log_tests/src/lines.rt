@@ -1,10 +1,10 @@
 //! A key in each line.
 
-use crate::reports::{Report, of_text, strictly, whole};
-use access_logs::{Format, Log, LogFault};
+use crate::reports::{Report, first_defect, no_key, of_text, strictly, whole};
+use access_logs::{Defect, Format, Log, LogFault};
 use std::alloc::{AllocError, Global};
 
-const LINES: Format = Format::Lines;
+const LINES: Format<'static> = Format::Lines;
 
 #[test]
 fn keys_are_numbered_as_they_come(rt: HostRuntime) {
@@ -52,7 +52,7 @@ fn empty_lines_are_counted(rt: HostRuntime) {
 #[test]
 fn strict_reading_stops_at_the_first_unreadable_line(rt: HostRuntime) {
     let fault = strictly(rt.alloc(), b"a\nb\n\na\n\n", LINES);
-    assert_eq!(rt; fault, Some(LogFault::Unreadable(3)));
+    assert_eq!(rt; fault, no_key(3));
     assert!(rt; strictly(rt.alloc(), b"a\nb\na\n", LINES).is_none());
 }
 
@@ -99,7 +99,7 @@ fn is_too_long(alloc: Global, length: usize, end: &[u8]) -> bool {
         first: Some(2),
     };
     match with_long(alloc, length, end) {
-        Ok(log) => report.is(&log),
+        Ok(log) => report.is(&log) && first_defect(&log) == Some(Defect::TooLong),
         Err(_) => false,
     }
 }

@@ -1,7 +1,7 @@
 //! Readers that give little at a time, are interrupted, or fail.
 
 use crate::reports::{Report, whole};
-use access_logs::{Format, LogFault, read_log};
+use access_logs::{Column, Format, LogFault, read_log};
 use std::alloc::{AllocError, Global};
 use std::io::{self, ErrorKind, Read};
 use std::test::*;
@@ -41,10 +41,13 @@ fn give<'a>(text: &'a [u8], size: usize, fails: bool) -> Pieces<'a> {
     }
 }
 
-const CSV: Format = Format::Csv {
-    column: 1,
+const CSV: Format<'static> = Format::Csv {
+    column: Column::Number(1),
     header: false,
     size: None,
+    time: None,
+    operation: None,
+    ttl: None,
 };
 
 #[test]
@@ -87,9 +90,12 @@ fn keys_twice(alloc: Global, count: u32) -> Result<(Vec<u8>, Vec<u32>), AllocErr
 fn reader_that_never_fails_is_read_to_its_end(rt: HostRuntime) -> Result<(), Fail> {
     let (text, numbers) = keys_twice(rt.alloc(), 300)?;
     let first = Format::Csv {
-        column: 0,
+        column: Column::Number(0),
         header: false,
         size: None,
+        time: None,
+        operation: None,
+        ttl: None,
     };
     for size in 1..4 {
         let lines = give(&text, size, false);
@@ -100,18 +106,35 @@ fn reader_that_never_fails_is_read_to_its_end(rt: HostRuntime) -> Result<(), Fai
     Ok(())
 }
 
+// The reader failed in the line or record of this number.
+fn failed(number: u64) -> Option<LogFault> {
+    Some(LogFault::Read {
+        number,
+        cause: ErrorKind::NotFound,
+    })
+}
+
 #[test]
 fn reader_that_fails_gives_no_log(rt: HostRuntime) {
-    let lines = give(b"a\nb\n", 3, true);
-    assert_eq!(rt;
-        read_log(rt.alloc(), lines, Format::Lines, false).err(),
-        Some(LogFault::Read)
-    );
-    let records = give(b"1,a\n2,b\n", 3, true);
-    assert_eq!(rt;
-        read_log(rt.alloc(), records, CSV, false).err(),
-        Some(LogFault::Read)
-    );
+    for (text, number) in [("", 1), ("a", 1), ("a\n", 2), ("a\nb\n", 3), ("a\nb\nc", 3)] {
+        let lines = give(text.as_bytes(), 3, true);
+        assert_eq!(rt;
+            read_log(rt.alloc(), lines, Format::Lines, false).err(),
+            failed(number)
+        );
+    }
+    for (text, number) in [
+        ("", 1),
+        ("1,a\n2,b", 2),
+        ("1,a\n2,b\n", 3),
+        ("1,a\n\n\n2,b\n", 3),
+    ] {
+        let records = give(text.as_bytes(), 3, true);
+        assert_eq!(rt;
+            read_log(rt.alloc(), records, CSV, false).err(),
+            failed(number)
+        );
+    }
 }
 
 #[test]

@@ -26,6 +26,23 @@ fn shuffled(alloc: Global, count: u32, bound: u32) -> Result<Vec<u32>, AllocErro
     Ok(keys)
 }
 
+// A log of so many keys below the bound, the lower ones far more often.
+fn skewed(alloc: Global, count: u32, bound: u32) -> Result<Vec<u32>, AllocError> {
+    let drawn = shuffled(alloc, count.saturating_mul(2), bound)?;
+    let mut keys = Vec::new(alloc);
+    let mut first = None;
+    for key in &drawn {
+        first = match first {
+            None => Some(*key),
+            Some(other) => {
+                keys.push(other.min(*key))?;
+                None
+            }
+        };
+    }
+    Ok(keys)
+}
+
 // A cache as a plain list, the one to evict first: whether the key was in it.
 fn model_access(
     keys: &mut Vec<u32>,
@@ -222,5 +239,147 @@ fn runs_as_a_plain_list_does(rt: HostRuntime) -> Result<(), Fail> {
         runs_alike(&rt, rt.alloc(), Policy::Lru, items, &accesses)?;
         runs_alike(&rt, rt.alloc(), Policy::Fifo, items, &accesses)?;
     }
+    Ok(())
+}
+
+#[test]
+fn clock_gives_a_second_round(rt: HostRuntime) -> Result<(), Fail> {
+    let mut run = Replay::new(rt.alloc(), Policy::Clock, 3)?;
+    let first = [(1, false), (2, false), (3, false), (1, true), (1, true)];
+    expect_hits(&rt, &mut run, &first)?;
+    // The hand passes 1, once for both hits, and evicts 2.
+    expect_hits(&rt, &mut run, &[(4, false), (1, true), (3, true)])?;
+    // It passes 3 and 1, and evicts 4; and then it evicts 3.
+    expect_hits(&rt, &mut run, &[(2, false), (4, false), (3, false)])?;
+    assert_eq!(rt; told(&run), tally(4, 7));
+    assert_eq!(rt; run.key_count(), 3);
+    Ok(())
+}
+
+#[test]
+fn sieve_stays_where_it_evicted(rt: HostRuntime) -> Result<(), Fail> {
+    let mut run = Replay::new(rt.alloc(), Policy::Sieve, 3)?;
+    let first = [(1, false), (2, false), (3, false), (1, true)];
+    expect_hits(&rt, &mut run, &first)?;
+    // The hand passes 1, which stays the oldest, and evicts 2; it goes on to 3, and not back to 1.
+    expect_hits(&rt, &mut run, &[(4, false), (5, false), (1, true)])?;
+    expect_hits(&rt, &mut run, &[(3, false), (2, false)])?;
+    assert_eq!(rt; told(&run), tally(2, 7));
+    assert_eq!(rt; run.key_count(), 3);
+    Ok(())
+}
+
+#[test]
+fn s3_fifo_keeps_what_comes_again(rt: HostRuntime) -> Result<(), Fail> {
+    // One item is the small queue's and two are the main one's, and there are two ghosts.
+    let mut run = Replay::new(rt.alloc(), Policy::S3Fifo, 3)?;
+    // 1 goes and is a ghost; it comes into the main queue, and 2 goes for it.
+    let first = [(1, false), (2, false), (3, false), (4, false), (1, false)];
+    expect_hits(&rt, &mut run, &first)?;
+    // 3 was asked for twice and goes on to the main queue; 4 goes for 5, and 5 for 6, so that 2 is no ghost any more.
+    let twice = [(3, true), (3, true), (5, false), (6, false), (2, false)];
+    expect_hits(&rt, &mut run, &twice)?;
+    // 5 is a ghost and comes into the main queue, and 2 goes for it, so that the small one is empty. So the main one
+    // evicts for 7: it passes 1, which was asked for, and 3 goes, which wasn't since it came there. It is no ghost.
+    let main = [(5, false), (1, true), (7, false), (3, false)];
+    expect_hits(&rt, &mut run, &main)?;
+    // 7 went for it.
+    expect_hits(&rt, &mut run, &[(1, true), (5, true), (3, true)])?;
+    assert_eq!(rt; told(&run), tally(6, 11));
+    assert_eq!(rt; run.key_count(), 3);
+    Ok(())
+}
+
+#[test]
+fn s3_fifo_counts_three_uses(rt: HostRuntime) -> Result<(), Fail> {
+    let mut run = Replay::new(rt.alloc(), Policy::S3Fifo, 2)?;
+    // 1 is a ghost and comes into the main queue; its 5 hits are 3 uses.
+    let first = [(1, false), (2, false), (3, false), (1, false)];
+    expect_hits(&rt, &mut run, &first)?;
+    expect_hits(&rt, &mut run, &[(1, true); 5])?;
+    // 2 and 3 are ghosts, so the small queue is empty. The main one passes 1 for 3, for 4, and for 5 at its second time.
+    let passed = [(2, false), (3, false), (4, false)];
+    expect_hits(&rt, &mut run, &passed)?;
+    expect_hits(&rt, &mut run, &[(5, false), (4, false), (5, false)])?;
+    // 1 has no uses left, and goes for 6.
+    expect_hits(&rt, &mut run, &[(6, false), (1, false)])?;
+    assert_eq!(rt; told(&run), tally(5, 12));
+    Ok(())
+}
+
+#[test]
+fn s3_fifo_of_one_item_has_no_ghosts(rt: HostRuntime) -> Result<(), Fail> {
+    let mut run = Replay::new(rt.alloc(), Policy::S3Fifo, 1)?;
+    let all = [(1, false), (1, true), (1, true), (2, false), (1, false)];
+    expect_hits(&rt, &mut run, &all)?;
+    assert_eq!(rt; told(&run), tally(2, 3));
+    assert_eq!(rt; run.key_count(), 1);
+    Ok(())
+}
+
+// The log comes to so many hits at each of these sizes.
+fn expect_at(
+    rt: &impl Abort,
+    alloc: Global,
+    policy: Policy,
+    accesses: &[u32],
+    wanted: &[(u32, u64)],
+) -> Result<(), PolicyFault> {
+    for (items, hits) in wanted {
+        let misses = (accesses.len() as u64).wrapping_sub(*hits);
+        expect(rt, alloc, policy, *items, accesses, tally(*hits, misses))?;
+    }
+    Ok(())
+}
+
+// What checks/policies.py comes to on the same log.
+#[test]
+fn runs_come_to_what_another_program_tells(rt: HostRuntime) -> Result<(), Fail> {
+    let log = skewed(rt.alloc(), 3_000, 40)?;
+    let lru = [
+        (1, 88),
+        (2, 179),
+        (7, 666),
+        (20, 1_869),
+        (30, 2_629),
+        (41, 2_961),
+    ];
+    expect_at(&rt, rt.alloc(), Policy::Lru, &log, &lru)?;
+    let fifo = [
+        (1, 88),
+        (2, 180),
+        (7, 670),
+        (20, 1_782),
+        (30, 2_516),
+        (41, 2_961),
+    ];
+    expect_at(&rt, rt.alloc(), Policy::Fifo, &log, &fifo)?;
+    let clock = [
+        (1, 88),
+        (2, 178),
+        (7, 669),
+        (20, 1_887),
+        (30, 2_642),
+        (41, 2_961),
+    ];
+    expect_at(&rt, rt.alloc(), Policy::Clock, &log, &clock)?;
+    let sieve = [
+        (1, 88),
+        (2, 178),
+        (7, 729),
+        (20, 2_002),
+        (30, 2_716),
+        (41, 2_961),
+    ];
+    expect_at(&rt, rt.alloc(), Policy::Sieve, &log, &sieve)?;
+    let s3_fifo = [
+        (1, 88),
+        (2, 209),
+        (7, 752),
+        (20, 2_003),
+        (30, 2_711),
+        (41, 2_961),
+    ];
+    expect_at(&rt, rt.alloc(), Policy::S3Fifo, &log, &s3_fifo)?;
     Ok(())
 }

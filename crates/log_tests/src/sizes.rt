@@ -1,13 +1,16 @@
 //! Sizes in a column of CSV.
 
-use crate::reports::{Report, of_text, strictly, whole};
-use access_logs::{Format, Log, LogFault};
+use crate::reports::{Report, first_defect, of_text, refused, strictly, whole};
+use access_logs::{Column, Defect, Field, Format, Log, LogFault};
 
 // The key is the first field, and the size the second.
-const SIZED: Format = Format::Csv {
-    column: 0,
+const SIZED: Format<'static> = Format::Csv {
+    column: Column::Number(0),
     header: false,
-    size: Some(1),
+    size: Some(Column::Number(1)),
+    time: None,
+    operation: None,
+    ttl: None,
 };
 
 fn has_sizes(log: &Result<Log, LogFault>, sizes: &[u32]) -> bool {
@@ -44,11 +47,12 @@ fn record_with_no_size_is_counted_and_its_key_is_not(rt: HostRuntime) {
     let log = of_text(rt.alloc(), text, SIZED);
     assert!(rt; report.is(&log));
     assert!(rt; has_sizes(&log, &[1, 2, 3]));
+    assert_eq!(rt; first_defect(&log), Some(Defect::Lacks(Field::Size)));
 }
 
 #[test]
 fn strict_reading_stops_at_the_first_record_with_no_size(rt: HostRuntime) {
     let fault = strictly(rt.alloc(), b"a,1\nb,2\na,two\na,\n", SIZED);
-    assert_eq!(rt; fault, Some(LogFault::Unreadable(3)));
+    assert_eq!(rt; fault, refused(3, Defect::Lacks(Field::Size)));
     assert!(rt; strictly(rt.alloc(), b"a,1\nb,2\n", SIZED).is_none());
 }

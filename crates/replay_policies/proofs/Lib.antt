@@ -1,2 +1,10 @@
+pub mod ClockLemmas
+pub mod EntryLemmas
+pub mod FifoLemmas
+pub mod GhostLemmas
 pub mod LogLemmas
 pub mod PolicyLemmas
+pub mod QueueLemmas
+pub mod S3FifoLemmas
+pub mod SieveLemmas
+pub mod TableLemmas

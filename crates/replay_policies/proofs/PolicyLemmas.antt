@@ -6,8 +6,7 @@ use Rattle.std.proofs.lemmas.Grind.{common_steps}
 use Rattle.std.proofs.lemmas.List.{take-map}
 use Rattle.lru.specs.LruCache.{LruCache, put_entries}
 use Rattle.lru.proofs.CallerLemmas.{Contains-lookup_entry}
-use Rattle.replay_policies.specs.declared.policies.Policy.TheVariants.{Lru}
-use Rattle.replay_policies.specs.Policies.{is_hit, keys_without, after_miss, after_access}
+use Rattle.replay_policies.specs.Plain.{is_hit, keys_without, after_miss, after_access_lru}
 
 module _ {V : Type 0} (key : ℕ) where
   -- a key is among the keys where a look-up finds its value
@@ -21,7 +20,7 @@ module _ {V : Type 0} (key : ℕ) where
   found-lookup_entry (e ∷ es) = grind (arith, common_steps, found-lookup_entry es)
 
   -- without the entry of a key, the keys are without that key
-  keys_of-remove_entry : (es : List (ℕ × V)) → keys_of (remove_entry (nat_eq key) es) ≡ keys_without key (keys_of es)
+  pub keys_of-remove_entry : (es : List (ℕ × V)) → keys_of (remove_entry (nat_eq key) es) ≡ keys_without key (keys_of es)
   keys_of-remove_entry [] = refl
   keys_of-remove_entry (e ∷ es) = grind (arith, common_steps, keys_of-remove_entry es)
 
@@ -55,8 +54,8 @@ module _ {V : Type 0} (key : ℕ) where
     keys_of-put_new room miss = put_new room (lookup_entry (nat_eq key) c.entries) (found-lookup_entry c.entries ∙ sym (is_hit-keys_of c.entries) ∙ miss)
 
     -- a put is an access of an LRU
-    pub keys_of-put : 0 < c.cap → keys_of (put_entries nat_eq c key v) ≡ after_access Lru c.cap key (keys_of c.entries)
-    keys_of-put room = (elim (is_hit key (keys_of c.entries)) as (λ hit. is_hit key (keys_of c.entries) ≡ hit → keys_of (put_entries nat_eq c key v) ≡ after_access Lru c.cap key (keys_of c.entries)) [
+    pub keys_of-put : 0 < c.cap → keys_of (put_entries nat_eq c key v) ≡ after_access_lru c.cap key (keys_of c.entries)
+    keys_of-put room = (elim (is_hit key (keys_of c.entries)) as (λ hit. is_hit key (keys_of c.entries) ≡ hit → keys_of (put_entries nat_eq c key v) ≡ after_access_lru c.cap key (keys_of c.entries)) [
       | true ↦ λ hit. rw hit (keys_of-put_there hit)
       | false ↦ λ miss. rw miss (keys_of-put_new room miss)
     ]) refl

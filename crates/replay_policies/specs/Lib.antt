@@ -1,3 +1,12 @@
+pub mod Caches
+pub mod Clock
+pub mod Entries
+pub mod Ghosts
+pub mod Plain
 pub mod Policies
+pub mod Queues
 pub mod Replays
+pub mod S3Fifo
+pub mod Sieve
+pub mod Tables
 pub mod Tallies

@@ -1,50 +1,70 @@
--- What the policies do, over the list of the keys that are in the cache: the key that would be evicted last stands
--- first, so the most recent one of an LRU, and the newest one of a FIFO.
-use Rattle.std.specs.Prelude.{ℕ, ◌+◌, Bool, List, [], ◌∷◌, nat_eq, take, if◌then◌else◌}
-use Rattle.std.specs.List.{list_any}
+-- What the policies do, over what a cache keeps of its keys.
+use Rattle.std.specs.Prelude.{ℕ, ◌+◌, List, [], ◌∷◌, if◌then◌else◌}
 use Rattle.replay_policies.specs.declared.policies.Policy.{Policy}
-use Rattle.replay_policies.specs.declared.policies.Policy.TheVariants.{Lru, Fifo}
+use Rattle.replay_policies.specs.declared.policies.Policy.TheVariants.{Lru, Fifo, Clock, Sieve, S3Fifo}
+use Rattle.replay_policies.specs.declared.queues.Entry.{Entry}
+use Rattle.replay_policies.specs.Clock.{after_access_clock}
+use Rattle.replay_policies.specs.Entries.{keys_in}
+use Rattle.replay_policies.specs.Plain.{is_hit, after_access_lru, after_access_fifo}
+use Rattle.replay_policies.specs.S3Fifo.{S3Queues, no_s3_queues, after_access_s3fifo, s3_keys}
+use Rattle.replay_policies.specs.Sieve.{SieveQueue, no_sieve, after_access_sieve, sieve_keys}
 
--- the key is in the cache
-abbrev pub is_hit : ℕ → List ℕ → Bool
-is_hit key keys = list_any (nat_eq key) keys
+-- what a cache keeps of its keys: of an LRU and of a FIFO no more than their order
+pub data Kept : Type 0 where
+  ByLru : List ℕ → Kept
+  ByFifo : List ℕ → Kept
+  ByClock : List Entry → Kept
+  BySieve : SieveQueue → Kept
+  ByS3Fifo : S3Queues → Kept
 
--- the keys without this one, which a cache has once at most
-abbrev pub keys_without : ℕ → List ℕ → List ℕ
-keys_without key [] = []
-keys_without key (first ∷ keys) = if nat_eq key first then keys else first ∷ keys_without key keys
+-- a cache without keys
+abbrev pub nothing_kept : Policy → Kept
+nothing_kept Lru = ByLru []
+nothing_kept Fifo = ByFifo []
+nothing_kept Clock = ByClock []
+nothing_kept Sieve = BySieve no_sieve
+nothing_kept S3Fifo = ByS3Fifo no_s3_queues
 
--- the keys after a hit: an LRU moves the key to the front, a FIFO moves nothing
-abbrev pub after_hit : Policy → ℕ → List ℕ → List ℕ
-after_hit Lru key keys = key ∷ keys_without key keys
-after_hit Fifo key keys = keys
+-- the policy by which it is kept
+abbrev pub policy_of : Kept → Policy
+policy_of (ByLru keys) = Lru
+policy_of (ByFifo keys) = Fifo
+policy_of (ByClock queue) = Clock
+policy_of (BySieve sieve) = Sieve
+policy_of (ByS3Fifo queues) = S3Fifo
 
--- the keys after a miss, of a cache of so many items: the key comes to the front, and the last one goes where there
--- were as many already
-abbrev pub after_miss : ℕ → ℕ → List ℕ → List ℕ
-after_miss items key keys = take items (key ∷ keys)
+-- the keys that are in the cache
+abbrev pub keys_of : Kept → List ℕ
+keys_of (ByLru keys) = keys
+keys_of (ByFifo keys) = keys
+keys_of (ByClock queue) = keys_in queue
+keys_of (BySieve sieve) = sieve_keys sieve
+keys_of (ByS3Fifo queues) = s3_keys queues
 
--- the keys after an access
-abbrev pub after_access : Policy → ℕ → ℕ → List ℕ → List ℕ
-after_access policy items key keys =
-    if is_hit key keys then after_hit policy key keys else after_miss items key keys
+-- what a cache of so many items keeps after an access
+abbrev pub after_access : ℕ → ℕ → Kept → Kept
+after_access items key (ByLru keys) = ByLru (after_access_lru items key keys)
+after_access items key (ByFifo keys) = ByFifo (after_access_fifo items key keys)
+after_access items key (ByClock queue) = ByClock (after_access_clock items key queue)
+after_access items key (BySieve sieve) = BySieve (after_access_sieve items key sieve)
+after_access items key (ByS3Fifo queues) = ByS3Fifo (after_access_s3fifo items key queues)
 
--- so many of these accesses hit, one after another, where the cache has these keys at first
-abbrev pub hits_from : Policy → ℕ → List ℕ → List ℕ → ℕ
-hits_from policy items keys [] = 0
-hits_from policy items keys (key ∷ later) =
-    (if is_hit key keys then 1 else 0) + hits_from policy items (after_access policy items key keys) later
+-- so many of these accesses hit, one after another, where the cache keeps this at first
+abbrev pub hits_from : ℕ → Kept → List ℕ → ℕ
+hits_from items kept [] = 0
+hits_from items kept (key ∷ later) =
+    (if is_hit key (keys_of kept) then 1 else 0) + hits_from items (after_access items key kept) later
 
 -- so many of them miss
-abbrev pub misses_from : Policy → ℕ → List ℕ → List ℕ → ℕ
-misses_from policy items keys [] = 0
-misses_from policy items keys (key ∷ later) =
-    (if is_hit key keys then 0 else 1) + misses_from policy items (after_access policy items key keys) later
+abbrev pub misses_from : ℕ → Kept → List ℕ → ℕ
+misses_from items kept [] = 0
+misses_from items kept (key ∷ later) =
+    (if is_hit key (keys_of kept) then 0 else 1) + misses_from items (after_access items key kept) later
 
 -- so many of these accesses hit, where the cache has no keys at first
 abbrev pub hits_of : Policy → ℕ → List ℕ → ℕ
-hits_of policy items accesses = hits_from policy items [] accesses
+hits_of policy items accesses = hits_from items (nothing_kept policy) accesses
 
 -- so many of them miss
 abbrev pub misses_of : Policy → ℕ → List ℕ → ℕ
-misses_of policy items accesses = misses_from policy items [] accesses
+misses_of policy items accesses = misses_from items (nothing_kept policy) accesses

@@ -1,21 +1,23 @@
 -- What a contract sees of a replay.
-use Rattle.std.specs.Prelude.{◌≡◌, ℕ, ◌+◌, ◌<◌, Bool, List, nat_le, ◌&&◌, if◌then◌else◌}
+use Rattle.std.specs.Prelude.{◌≡◌, ℕ, ◌+◌, ◌<◌, Bool, nat_le, ◌&&◌, if◌then◌else◌}
 use Rattle.bump_rules.specs.Configs.{most_chunks}
-use Rattle.replay_policies.specs.declared.policies.Policy.{Policy}
+use Rattle.replay_policies.specs.declared.caches.Cache.{Cache}
 use Rattle.replay_policies.specs.declared.tallies.Tally.{Tally}
 use Rattle.replay_policies.specs.declared.faults.PolicyFault.{PolicyFault}
 use Rattle.replay_policies.specs.declared.faults.PolicyFault.TheVariants.{Items, Memory}
+use Rattle.replay_policies.specs.Caches.{IsCache}
+use Rattle.replay_policies.specs.Policies.{Kept}
 
--- its policy, how many items it has room for, the keys that are in the cache, as `Policies` has them, and its tally
+-- how many items it has room for, what its cache keeps of the keys, as `Policies` has it, and its tally
 pub record ReplayView : Type 0 where
-  pub policy : Policy
   pub items : ℕ
-  pub keys : List ℕ
+  pub kept : Kept
   pub tally : Tally
 
--- what every replay keeps: it has room, and its hits and misses are its accesses
-pub record IsReplay (items : ℕ) (tally : Tally) : Type 0 where
-  pub room : 0 < items
+-- what every replay keeps: it has room, its cache is of so many items, and its hits and misses are its accesses
+pub record IsReplay (items : ℕ) (cache : Cache) (tally : Tally) : Type 0 where
+  pub some : 0 < items
+  pub room : IsCache items cache
   pub sum : tally.hits + tally.misses ≡ tally.accesses
 
 -- a cache may have room for so many items

@@ -1,10 +1,4 @@
-//! The policies, and an access of a cache by each.
-ghost use Rattle.std.specs.Prelude.{◌≡◌, ◌<◌, false, IfOk, OnOk, OnErr};
-ghost use Rattle.std.specs.Map.{keys_of};
-ghost use Rattle.replay_policies.specs.Policies.{is_hit, after_access};
-
-use lru::LruCache;
-use std::alloc::AllocError;
+//! The policies.
 
 /// Which key a full cache evicts for a new one.
 #[derive(Clone, Copy, Debug, PartialEq, Eq)]
@@ -14,32 +8,19 @@ pub enum Policy {
 
     /// The key that came first, however often it was asked for since.
     Fifo,
-}
 
-impl Policy {
-    // Whether the key was in the cache. It is afterwards; memory is refused only where it wasn't, and then nothing is
-    // changed.
-    #[inline(always)]
-    pub(crate) fn access(self, cache: &mut LruCache<u32, ()>, key: u32) -> Result<bool, AllocError>
-        requires room { 0 < cache.old.cap }
-        ensures hit { IfOk result (λ hit. hit ≡ is_hit key (keys_of cache.old.entries)) }
-        ensures keys { OnOk result (keys_of cache.new.entries
-            ≡ after_access self cache.old.cap key (keys_of cache.old.entries)) }
-        ensures room { cache.new.cap ≡ cache.old.cap }
-        ensures refused { OnErr result (cache.new ≡ cache.old) }
-        ensures refused_at_a_miss { OnErr result (is_hit key (keys_of cache.old.entries) ≡ false) }
-    {
-        match self {
-            // One look-up: a put makes a key that is there the most recent one.
-            Policy::Lru => Ok(cache.put(key, ())?.is_some()),
-            Policy::Fifo => {
-                // A put of a key that is there would move it to the front.
-                if cache.contains(&key) {
-                    return Ok(true);
-                }
-                cache.put(key, ())?;
-                Ok(false)
-            }
-        }
-    }
+    /// CLOCK, or second chance: the key that came first, but one that was asked for since gets another round, once for
+    /// all its hits.
+    Clock,
+
+    /// SIEVE: a hand goes from the oldest key towards the newest, and evicts the first key that wasn't asked for since
+    /// it last came by. The keys that it passes stay where they are.
+    Sieve,
+
+    /// S3-FIFO: a small queue has a tenth of the items, 1 at least, and a main one the others. A new key comes into the
+    /// small one. When its turn to go comes there it goes on to the main one if it was asked for twice or more since, and
+    /// else it goes, and is remembered for a while: where it is asked for again in that time it comes into the main one at
+    /// once. In the main one the key that came first gets another round for each time that it was asked for, up to 3. A
+    /// key goes from the small queue if that has its tenth or more, and else from the main one.
+    S3Fifo,
 }

@@ -1,16 +1,17 @@
 //! A cache through which an access log is run.
-ghost use Rattle.std.specs.Prelude.{◌≡◌, ◌+◌, ◌≤◌, [], true, false, nat_eq, length, IfOk, OnOk, IfErr, OnErr};
+ghost use Rattle.std.specs.Prelude.{◌≡◌, ◌+◌, ◌≤◌, true, false, nat_eq, length, IfOk, OnOk, IfErr, OnErr};
 ghost use Rattle.std.specs.List.{IsDistinct};
-ghost use Rattle.replay_policies.specs.Policies.{is_hit, after_access};
+ghost use Rattle.replay_policies.specs.Caches.{kept_of};
+ghost use Rattle.replay_policies.specs.Plain.{is_hit};
+ghost use Rattle.replay_policies.specs.Policies.{after_access, keys_of, nothing_kept, policy_of};
 ghost use Rattle.replay_policies.specs.Replays.{ReplayView as TheReplayView, is_size_allowed, policy_fault_of, IsReplay};
 ghost use Rattle.replay_policies.specs.Tallies.{no_accesses, counted_access};
-ghost use Rattle.std.specs.Map.{keys_of};
 
+use crate::caches::Cache;
 use crate::faults::PolicyFault;
 use crate::policies::Policy;
 use crate::tallies::Tally;
 use bump_rules::MAX_CHUNKS;
-use lru::LruCache;
 use std::alloc::{AllocError, Global};
 use std::marker::Model;
 use std::num::NonZeroUsize;
@@ -18,26 +19,21 @@ use std::num::NonZeroUsize;
 /// So many items a cache has room for at most: 1,000,000, as many as one of bump's has chunks.
 pub const MAX_ITEMS: u32 = MAX_CHUNKS;
 
-/// A cache through which an access log is run, access by access, and what it came to so far. A contract sees its policy,
-/// how many items it has room for, its keys, and its tally (`specs/Replays.antt`).
+/// A cache through which an access log is run, access by access, and what it came to so far. A contract sees how many
+/// items it has room for, what it keeps of its keys by its policy, and its tally (`specs/Replays.antt`).
 #[derive(Drop)]
 pub struct Replay {
-    policy: Policy,
-    cache: LruCache<u32, ()>,
+    items: u32,
+    cache: Cache,
     tally: Tally,
 }
 
 impl Model for Replay {
     ghost Value = { TheReplayView };
 
-    ghost view = { λ r. record {
-      policy = r.policy;
-      items = r.cache.cap;
-      keys = keys_of r.cache.entries;
-      tally = r.tally;
-    } };
+    ghost view = { λ r. record { items = r.items; kept = kept_of r.cache; tally = r.tally } };
 
-    ghost invariant = { λ r. IsReplay r.cache.cap r.tally };
+    ghost invariant = { λ r. IsReplay r.items r.cache r.tally };
 }
 
 impl Replay {
@@ -45,9 +41,8 @@ impl Replay {
     /// isn't so, and else only for want of memory.
     pub fn new(alloc: Global, policy: Policy, items: u32) -> Result<Replay, PolicyFault>
         ensures empty { IfOk result (λ r. r ≡ record {
-          policy = policy;
           items = items;
-          keys = [];
+          kept = nothing_kept policy;
           tally = no_accesses;
         }) }
         ensures allowed { OnOk result (is_size_allowed items ≡ true) }
@@ -60,8 +55,8 @@ impl Replay {
             return Err(PolicyFault::Items);
         };
         Ok(Replay {
-            policy,
-            cache: LruCache::new(alloc, room)?,
+            items,
+            cache: Cache::new(alloc, policy, room)?,
             tally: Tally::new(),
         })
     }
@@ -71,25 +66,25 @@ impl Replay {
     /// changed. Accesses past the first 2^64 - 1 aren't counted either.
     #[inline]
     pub fn access(&mut self, key: u32) -> Result<bool, AllocError>
-        ensures hit { IfOk result (λ hit. hit ≡ is_hit key self.old.keys) }
-        ensures keys { OnOk result (self.new.keys
-            ≡ after_access self.old.policy self.old.items key self.old.keys) }
-        ensures tally { OnOk result (self.new.tally ≡ counted_access (is_hit key self.old.keys) self.old.tally) }
-        ensures policy { self.new.policy ≡ self.old.policy }
+        ensures hit { IfOk result (λ hit. hit ≡ is_hit key (keys_of self.old.kept)) }
+        ensures keys { OnOk result (self.new.kept ≡ after_access self.old.items key self.old.kept) }
+        ensures tally { OnOk result (self.new.tally
+            ≡ counted_access (is_hit key (keys_of self.old.kept)) self.old.tally) }
+        ensures policy { policy_of self.new.kept ≡ policy_of self.old.kept }
         ensures items { self.new.items ≡ self.old.items }
         ensures refused { OnErr result (self.new ≡ self.old) }
-        ensures refused_at_a_miss { OnErr result (is_hit key self.old.keys ≡ false) }
+        ensures refused_at_a_miss { OnErr result (is_hit key (keys_of self.old.kept) ≡ false) }
     {
-        let hit = self.policy.access(&mut self.cache, key)?;
+        let hit = self.cache.access(self.items as usize, key)?;
         self.tally.count(hit);
         Ok(hit)
     }
 
     /// How many keys are in the cache: never more than it has room for, and none of them twice.
     pub fn key_count(&self) -> usize
-        ensures count { result ≡ length self.now.keys }
+        ensures count { result ≡ length (keys_of self.now.kept) }
         ensures room { result ≤ self.now.items }
-        ensures distinct { IsDistinct nat_eq self.now.keys }
+        ensures distinct { IsDistinct nat_eq (keys_of self.now.kept) }
     {
         self.cache.len()
     }

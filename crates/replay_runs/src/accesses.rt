@@ -5,6 +5,7 @@ ghost use Rattle.replay_runs.specs.Writing.{IsUpkeep, Adds, AddsPut, AddsAccess,
 ghost use Rattle.replay_runs.specs.Writing.{IsOfCalls, IsOfPut, most_before, most_behind};
 ghost use Rattle.replay_runs.specs.Faults.{IsOfTraceWriting};
 
+use crate::asked::time_at;
 use crate::faults::ReplayFault;
 use crate::plans::Plan;
 use crate::scribes::Scribe;
@@ -156,15 +157,21 @@ fn get_or_put(scribe: &mut Scribe, plan: &Plan, worker: u32, key: u32) -> Result
 }
 
 // Writes the lines of an access, and tends the cache behind it where it is time for it.
-fn write_access(scribe: &mut Scribe, plan: &Plan, place: usize, key: u32) -> Result<(), ReplayFault>
+fn write_access(
+    scribe: &mut Scribe,
+    plan: &Plan,
+    place: usize,
+    key: u32,
+    time: u64,
+) -> Result<(), ReplayFault>
     requires part { 0 < plan.now.config.parts }
     ensures text { OnOk result (AddsAccess (place % max plan.now.config.readers 1) key most_behind
         scribe.old.text.items scribe.new.text.items) }
     ensures fault { IfErr result (IsOfPut plan.now) }
 {
-    scribe.begin_access(place as u64);
+    scribe.begin_access(plan, place, time);
     get_or_put(scribe, plan, plan.reader_at(place), key)?;
-    let is_time = plan.is_time(place);
+    let is_time = scribe.is_time();
     if !is_time {
         return Ok(());
     }
@@ -172,14 +179,15 @@ fn write_access(scribe: &mut Scribe, plan: &Plan, place: usize, key: u32) -> Res
     Ok(())
 }
 
-/// Writes the trace of a log's run by a plan, whose store is of this configuration. It isn't run yet, and it may be too
-/// long by what the last access wrote.
+/// Writes the trace of a log's run by a plan, whose store is of this configuration; `times` has the accesses' times. It
+/// isn't run yet, and it may be too long by what the last access wrote.
 pub(crate) fn write_trace(
     alloc: Global,
     keys: RandomState,
     plan: &Plan,
     config: &Config,
     accesses: &[u32],
+    times: &[u64],
 ) -> Result<Vec<u8>, ReplayFault>
     requires some { 0 < length config.now.classes }
     requires part { 0 < plan.now.config.parts }
@@ -188,7 +196,8 @@ pub(crate) fn write_trace(
 {
     let mut scribe = Scribe::new(alloc, keys, plan, config)?;
     for place in 0..accesses.len() {
-        write_access(&mut scribe, plan, place, accesses[place])?;
+        let key = accesses[place];
+        write_access(&mut scribe, plan, place, key, time_at(times, place))?;
         if scribe.is_long() {
             return Err(ReplayFault::Long);
         }

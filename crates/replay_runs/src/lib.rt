@@ -4,6 +4,7 @@
 #![tactic(auto)]
 
 mod accesses;
+mod asked;
 mod counting;
 mod faults;
 mod outcomes;
@@ -11,13 +12,16 @@ mod plans;
 mod replays;
 mod scribes;
 mod traces;
+mod waits;
 
+pub use access_logs::Operation;
+pub use asked::Asked;
 pub use bump_cache::{Accounts, CacheConfig, CacheFault, Seed, Stats};
 pub use bump_trace::SimFault;
 pub use cache_lists::Flow;
 pub use counting::HitCounts;
 pub use faults::ReplayFault;
 pub use outcomes::RunOutcome;
-pub use plans::Plan;
+pub use plans::{Plan, Tending};
 pub use replays::replay;
 pub use traces::{ReplayTrace, trace_of};

@@ -4,7 +4,7 @@ use bump_cache::{Accounts, Stats};
 /// What a run came to.
 #[derive(Clone, Copy, Debug, PartialEq, Eq)]
 pub struct RunOutcome {
-    /// How many accesses there were.
+    /// How many gets there were.
     pub accesses: u64,
 
     /// Those whose key was in the cache.
@@ -13,8 +13,12 @@ pub struct RunOutcome {
     /// Those whose key wasn't.
     pub misses: u64,
 
-    /// Those of the misses whose key couldn't be put, since each chunk was held: by bumps that wait.
+    /// How many keys couldn't be put, behind a miss or by a put of its own, since each chunk was held: by bumps that wait.
     pub unplaced: u64,
+
+    /// At most so many bumps waited when a put had applied its share of them. Each holds the chunk of its item, also of
+    /// one that has ended.
+    pub waiting: u64,
 
     /// The cache's statistics at the end.
     pub stats: Stats,

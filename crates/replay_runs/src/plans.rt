@@ -6,20 +6,34 @@ use crate::faults::ReplayFault;
 use bump_cache::{CacheConfig, Config};
 use std::alloc::Global;
 
+/// How often a cache is tended.
+#[derive(Clone, Copy, Debug, PartialEq, Eq)]
+pub enum Tending {
+    /// Behind the first access, and then behind each so many; 0 is taken as 1.
+    Accesses(u32),
+
+    /// Behind the first access, and then behind each whose time is so many ticks behind that of the last tend, or more.
+    Ticks(u64),
+}
+
 /// How an access log is run.
 #[derive(Clone, Copy)]
 pub struct Plan {
     /// What the cache is made from, also the seed of its keys' hashes. Its readers get in turn.
     pub config: CacheConfig,
 
-    /// The cache is tended behind the first access, and then behind each so many; 0 is taken as 1.
-    pub tend_every: u32,
+    /// How often the cache is tended.
+    pub tending: Tending,
 }
 
 impl Plan {
-    // Whether the cache is tended behind the access with this place.
-    pub(crate) fn is_time(&self, place: usize) -> bool {
-        place % self.tend_every.max(1) as usize == 0
+    // Whether the cache is tended behind the access with this place, from 0, and this time. The last tend's time was
+    // `tended`, which counts only if there was one.
+    pub(crate) fn is_time(&self, place: usize, now: u64, tended: u64) -> bool {
+        match self.tending {
+            Tending::Accesses(count) => place % count.max(1) as usize == 0,
+            Tending::Ticks(ticks) => place == 0 || now.saturating_sub(tended) >= ticks,
+        }
     }
 
     // Whose turn an access is: a reader's place.

@@ -20,8 +20,12 @@ use trace_lines::put_word;
 pub(crate) struct Scribe {
     world: World,
     text: Vec<u8>,
-    // the time of the access whose lines are written: its place
+    // the time of the access whose lines are written
     time: u64,
+    // whether the cache is tended behind it
+    is_time: bool,
+    // when it was tended last, if it was
+    tended: u64,
     // the key of the item that each chunk had last, by chunk
     key_of_chunk: Vec<u32>,
     // the item of each key that has one
@@ -77,6 +81,8 @@ impl Scribe {
             world: World::new(alloc, config)?,
             text: header_of(alloc, plan)?,
             time: 0,
+            is_time: false,
+            tended: 0,
             key_of_chunk,
             items: HashMap::with_hasher(alloc, hasher),
             ring: plan.config.ring,
@@ -84,11 +90,20 @@ impl Scribe {
         })
     }
 
-    /// What is written from now on belongs to the access with this place.
-    pub(crate) fn begin_access(&mut self, place: u64)
+    /// What is written from now on belongs to the access of the plan's run with this place and time.
+    pub(crate) fn begin_access(&mut self, plan: &Plan, place: usize, time: u64)
         ensures { self.new.text ≡ self.old.text }
     {
-        self.time = place;
+        self.time = time;
+        self.is_time = plan.is_time(place, time, self.tended);
+        if self.is_time {
+            self.tended = time;
+        }
+    }
+
+    /// Whether the cache is tended behind this access.
+    pub(crate) fn is_time(&self) -> bool {
+        self.is_time
     }
 
     /// The trace that was written.

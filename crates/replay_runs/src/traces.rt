@@ -58,6 +58,7 @@ fn write_and_run(
     plan: &Plan,
     config: &Config,
     accesses: &[u32],
+    times: &[u64],
 ) -> Result<ReplayTrace, ReplayFault>
     requires some { 0 < length config.now.classes }
     requires part { 0 < plan.now.config.parts }
@@ -67,7 +68,7 @@ fn write_and_run(
     ensures accesses { IfOk result (λ it. IsTraceOf plan.now accesses.now it.text.items) }
     ensures fault { IfErr result (IsOfTracing plan.now accesses.now) }
 {
-    let text = write_trace(alloc, keys, plan, config, accesses)?;
+    let text = write_trace(alloc, keys, plan, config, accesses, times)?;
     let told = told_by_model(alloc, keys, &text)?;
     Ok(ReplayTrace {
         hits: count_hits(&told),
@@ -77,7 +78,8 @@ fn write_and_run(
 
 /// Writes the trace of an access log's run, the numbers of keys, through a cache that is empty at first: the calls that
 /// bump_cache makes where one thread has it. An access is got by the reader whose turn it is, where its key has an item,
-/// and else put. A key's item has the name `k` and the key's number, and the label 0.
+/// and else put. A key's item has the name `k` and the key's number, and the label 0. `times` has the accesses' times, as
+/// `replay` takes them.
 ///
 /// The trace is run on a World before it is given to anybody, so it has no fault. `keys` hash the keys and the names. It
 /// is refused as `Config` exactly where the plan's configuration has a fault, as `Parts` exactly where it has none and
@@ -90,6 +92,7 @@ pub fn trace_of(
     keys: RandomState,
     plan: &Plan,
     accesses: &[u32],
+    times: &[u64],
 ) -> Result<ReplayTrace, ReplayFault>
     ensures no_fault { IfOk result (λ it. (verdict_of it.text.items).is_fault ≡ false) }
     ensures size { IfOk result (λ it. length it.text.items ≤ most_bytes) }
@@ -102,7 +105,7 @@ pub fn trace_of(
         Ok(config) => config,
         Err(fault) => return Err(fault),
     };
-    match write_and_run(alloc, keys, plan, &config, accesses) {
+    match write_and_run(alloc, keys, plan, &config, accesses, times) {
         Ok(trace) => Ok(trace),
         Err(fault) => Err(fault),
     }

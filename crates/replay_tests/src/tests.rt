@@ -1,6 +1,6 @@
 use bump_cache::{CacheConfig, CacheFault, Seed};
 use bump_trace::{Counted, SimFault, run_model};
-use replay_runs::{Plan, ReplayFault, ReplayTrace, replay, trace_of};
+use replay_runs::{Asked, Operation, Plan, ReplayFault, ReplayTrace, Tending, replay, trace_of};
 use std::alloc::{AllocError, Global};
 use std::hash::RandomState;
 use std::process::Abort;
@@ -27,7 +27,17 @@ fn plan(items: u32, hot: u32, warm: u32, tend_every: u32) -> Plan {
             ring: 4,
             ..CacheConfig::new(items, 1, SEED)
         },
-        tend_every,
+        tending: Tending::Accesses(tend_every),
+    }
+}
+
+// A get of each key, at these times.
+fn gets<'a>(keys: &'a [u32], times: &'a [u64]) -> Asked<'a> {
+    Asked {
+        keys,
+        times,
+        operations: &[],
+        ttls: &[],
     }
 }
 
@@ -54,7 +64,7 @@ fn one_key(rt: HostRuntime) -> Result<(), Fail> {
     let keys = RandomState::new(&rt)?;
     let mut two = plan(1, 0, 0, 100);
     two.config.readers = 2;
-    let trace = trace_of(rt.alloc(), keys, &two, &[5, 5, 5])?;
+    let trace = trace_of(rt.alloc(), keys, &two, &[5, 5, 5], &[])?;
     expect(&rt, &trace, 2, ONE_KEY);
     assert!(rt; trace.hits.first == 1 && trace.hits.queued == 1);
     Ok(())
@@ -63,7 +73,13 @@ fn one_key(rt: HostRuntime) -> Result<(), Fail> {
 #[test]
 fn three_keys_through_two_items(rt: HostRuntime) -> Result<(), Fail> {
     let keys = RandomState::new(&rt)?;
-    let trace = trace_of(rt.alloc(), keys, &plan(2, 50, 50, 3), &[1, 2, 1, 3, 1, 2])?;
+    let trace = trace_of(
+        rt.alloc(),
+        keys,
+        &plan(2, 50, 50, 3),
+        &[1, 2, 1, 3, 1, 2],
+        &[],
+    )?;
     expect(&rt, &trace, 1, THREE_KEYS);
     assert!(rt; trace.hits.first == 1);
     Ok(())
@@ -72,7 +88,7 @@ fn three_keys_through_two_items(rt: HostRuntime) -> Result<(), Fail> {
 #[test]
 fn last_of_hot_ends_where_cold_and_warm_are_empty(rt: HostRuntime) -> Result<(), Fail> {
     let keys = RandomState::new(&rt)?;
-    let trace = trace_of(rt.alloc(), keys, &plan(1, 100, 0, 9), &[1, 2])?;
+    let trace = trace_of(rt.alloc(), keys, &plan(1, 100, 0, 9), &[1, 2], &[])?;
     expect(&rt, &trace, 0, WITHOUT_COLD);
     Ok(())
 }
@@ -83,16 +99,49 @@ fn put_applies_the_bumps_that_wait(rt: HostRuntime) -> Result<(), Fail> {
     let keys = RandomState::new(&rt)?;
     let mut one = plan(3, 0, 100, 4);
     one.config.ring = 1;
-    let trace = trace_of(rt.alloc(), keys, &one, &[1, 2, 1, 2, 9, 1, 2, 3])?;
+    let trace = trace_of(rt.alloc(), keys, &one, &[1, 2, 1, 2, 9, 1, 2, 3], &[])?;
     expect(&rt, &trace, 4, BUMPED);
     assert!(rt; trace.hits.first == 2 && trace.hits.queued == 1 && trace.hits.full == 1);
+    Ok(())
+}
+
+// Where each access is 10 ticks behind the one before, a tend each 70 ticks is one each 7 accesses.
+#[test]
+fn ticks_are_counted_by_the_times(rt: HostRuntime) -> Result<(), Fail> {
+    let accesses = shuffled(rt.alloc(), 600, 64)?;
+    let mut times = Vec::new(rt.alloc());
+    for place in 0u64..600 {
+        times.push(place.saturating_mul(10))?;
+    }
+    let by_accesses = plan(20, 20, 40, 7);
+    let mut by_ticks = by_accesses;
+    by_ticks.tending = Tending::Ticks(70);
+    let outcome = replay(&rt, rt.alloc(), &by_accesses, &gets(&accesses, &[]))?;
+    assert!(rt; replay(&rt, rt.alloc(), &by_ticks, &gets(&accesses, &times))? == outcome);
+    let trace = trace_of(
+        rt.alloc(),
+        RandomState::new(&rt)?,
+        &by_accesses,
+        &accesses,
+        &[],
+    )?;
+    let timed = trace_of(
+        rt.alloc(),
+        RandomState::new(&rt)?,
+        &by_ticks,
+        &accesses,
+        &times,
+    )?;
+    assert!(rt; timed.text.as_slice() == trace.text.as_slice());
+    by_ticks.tending = Tending::Ticks(71);
+    assert!(rt; replay(&rt, rt.alloc(), &by_ticks, &gets(&accesses, &times))? != outcome);
     Ok(())
 }
 
 #[test]
 fn plan_of_no_items_is_refused(rt: HostRuntime) -> Result<(), Fail> {
     let keys = RandomState::new(&rt)?;
-    let refused = trace_of(rt.alloc(), keys, &plan(0, 0, 0, 1), &[1]).err();
+    let refused = trace_of(rt.alloc(), keys, &plan(0, 0, 0, 1), &[1], &[]).err();
     assert!(rt; refused == Some(ReplayFault::Config(CacheFault::Items)));
     Ok(())
 }
@@ -101,10 +150,10 @@ fn plan_of_no_items_is_refused(rt: HostRuntime) -> Result<(), Fail> {
 fn trace_of_two_parts_is_refused(rt: HostRuntime) -> Result<(), Fail> {
     let mut two = plan(4, 20, 40, 1);
     two.config.parts = 2;
-    let refused = trace_of(rt.alloc(), RandomState::new(&rt)?, &two, &[1]).err();
+    let refused = trace_of(rt.alloc(), RandomState::new(&rt)?, &two, &[1], &[]).err();
     assert!(rt; refused == Some(ReplayFault::Parts));
     two.config.items = 0;
-    let refused = trace_of(rt.alloc(), RandomState::new(&rt)?, &two, &[1]).err();
+    let refused = trace_of(rt.alloc(), RandomState::new(&rt)?, &two, &[1], &[]).err();
     assert!(rt; refused == Some(ReplayFault::Config(CacheFault::Items)));
     Ok(())
 }
@@ -138,7 +187,7 @@ fn gets_in(text: &[u8]) -> u64 {
 fn each_get_tells_a_hit(rt: HostRuntime) -> Result<(), Fail> {
     let keys = RandomState::new(&rt)?;
     let accesses = shuffled(rt.alloc(), 600, 64)?;
-    let trace = trace_of(rt.alloc(), keys, &plan(20, 20, 40, 7), &accesses)?;
+    let trace = trace_of(rt.alloc(), keys, &plan(20, 20, 40, 7), &accesses, &[])?;
     assert!(rt; trace.hits.total() == gets_in(&trace.text));
     assert!(rt; trace.hits.marked > 0 && trace.hits.queued > 0 && trace.hits.full == 0);
     Ok(())
@@ -150,8 +199,8 @@ fn trace_tells_the_hits_and_bumps_that_the_replay_counts(rt: HostRuntime) -> Res
     let mut plan = plan(40, 20, 40, 100);
     plan.config.readers = 3;
     plan.config.ring = 1;
-    let outcome = replay(&rt, rt.alloc(), &plan, &accesses)?;
-    let hits = trace_of(rt.alloc(), RandomState::new(&rt)?, &plan, &accesses)?.hits;
+    let outcome = replay(&rt, rt.alloc(), &plan, &gets(&accesses, &[]))?;
+    let hits = trace_of(rt.alloc(), RandomState::new(&rt)?, &plan, &accesses, &[])?.hits;
     assert!(rt; outcome.hits == hits.total() && outcome.hits + outcome.misses == 600);
     assert!(rt; outcome.bumps.accepted == hits.queued && outcome.bumps.full == hits.full);
     assert!(rt; hits.queued > 0 && hits.full > 0);
@@ -162,9 +211,9 @@ fn trace_tells_the_hits_and_bumps_that_the_replay_counts(rt: HostRuntime) -> Res
 fn plan_whose_shares_are_too_large_is_refused(rt: HostRuntime) -> Result<(), Fail> {
     let fault = Some(ReplayFault::Config(CacheFault::Shares));
     let plan = plan(10, 60, 50, 1);
-    assert!(rt; replay(&rt, rt.alloc(), &plan, &[1]).err() == fault);
+    assert!(rt; replay(&rt, rt.alloc(), &plan, &gets(&[1], &[])).err() == fault);
     let keys = RandomState::new(&rt)?;
-    assert!(rt; trace_of(rt.alloc(), keys, &plan, &[1]).err() == fault);
+    assert!(rt; trace_of(rt.alloc(), keys, &plan, &[1], &[]).err() == fault);
     Ok(())
 }
 
@@ -185,7 +234,7 @@ fn put_at_which_more_bumps_wait_than_it_applies_is_refused(rt: HostRuntime) -> R
     let mut plan = plan(40, 0, 100, 24);
     plan.config.ring = 64;
     let keys = RandomState::new(&rt)?;
-    let refused = trace_of(rt.alloc(), keys, &plan, &accesses).err();
+    let refused = trace_of(rt.alloc(), keys, &plan, &accesses, &[]).err();
     assert!(rt; refused == Some(ReplayFault::Bumps));
     Ok(())
 }
@@ -195,8 +244,8 @@ fn ring_of_sixteen_has_no_more_bumps_than_a_put_applies(rt: HostRuntime) -> Resu
     let accesses = bumped(rt.alloc())?;
     let mut plan = plan(40, 0, 100, 24);
     plan.config.ring = 16;
-    let outcome = replay(&rt, rt.alloc(), &plan, &accesses)?;
-    let hits = trace_of(rt.alloc(), RandomState::new(&rt)?, &plan, &accesses)?.hits;
+    let outcome = replay(&rt, rt.alloc(), &plan, &gets(&accesses, &[]))?;
+    let hits = trace_of(rt.alloc(), RandomState::new(&rt)?, &plan, &accesses, &[])?.hits;
     assert!(rt; outcome.hits == hits.total() && outcome.misses == 25);
     assert!(rt; outcome.bumps.accepted == 17 && hits.queued == 17 && hits.full == 7);
     Ok(())
@@ -252,8 +301,8 @@ fn expect_same_moves<R: Wait + AllocGlobal + RandomSource + Abort>(
     plan.config.warm_age = warm_age;
     plan.config.readers = 3;
     plan.config.ring = 2;
-    let stats = replay(rt, rt.alloc(), &plan, &accesses)?.stats;
-    let trace = trace_of(rt.alloc(), RandomState::new(rt)?, &plan, &accesses)?;
+    let stats = replay(rt, rt.alloc(), &plan, &gets(&accesses, &[]))?.stats;
+    let trace = trace_of(rt.alloc(), RandomState::new(rt)?, &plan, &accesses, &[])?;
     let text = told(rt, &trace)?;
     let moved = lines_of(&text, b"pull 0 cold warm ", b"").saturating_add(lines_of(
         &text, b"bump ", b" warm",
@@ -274,4 +323,50 @@ fn trace_moves_and_ends_items_as_the_cache_does(rt: HostRuntime) -> Result<(), F
     expect_same_moves(&rt, None, None)?;
     expect_same_moves(&rt, Some(20), Some(200))?;
     expect_same_moves(&rt, Some(0), Some(50))
+}
+
+// The gets, the hits and the misses of a run.
+fn counts(
+    rt: &(impl Wait + AllocGlobal),
+    asked: &Asked<'_>,
+) -> Result<(u64, u64, u64), ReplayFault> {
+    let outcome = replay(rt, rt.alloc(), &plan(4, 50, 50, 1), asked)?;
+    Ok((outcome.accesses, outcome.hits, outcome.misses))
+}
+
+#[test]
+fn what_is_no_get_is_neither_hit_nor_miss(rt: HostRuntime) -> Result<(), Fail> {
+    let asked = Asked {
+        keys: &[1, 1, 2, 1, 1, 2, 1, 2],
+        times: &[],
+        operations: &[
+            Operation::Set,
+            Operation::Get,
+            Operation::Get,
+            Operation::Delete,
+            Operation::Get,
+            Operation::Get,
+        ],
+        ttls: &[],
+    };
+    assert!(rt;
+        counts(&rt, &asked)? == (5, 3, 2),
+        "what stands behind the last operation is a get"
+    );
+    Ok(())
+}
+
+#[test]
+fn what_is_put_expires_when_its_time_has_come(rt: HostRuntime) -> Result<(), Fail> {
+    let asked = Asked {
+        keys: &[1, 1, 1, 1, 2, 2],
+        times: &[10, 14, 15, 19, 20, u64::MAX],
+        operations: &[],
+        ttls: &[5, 9, 5, 9, 0, 0],
+    };
+    assert!(rt;
+        counts(&rt, &asked)? == (6, 3, 3),
+        "it is there until a tick before, and what never expires stays"
+    );
+    Ok(())
 }

@@ -13,4 +13,4 @@ loop-key-preserved c =
     let all = c.args.accesses.now in
     let run = subst (IsRun c.args.policy c.args.items all c.loop-key.replay) (drop_more all at 0 (omega arith)) c.loop-key.invariant in
     IsRun-access c.args.policy c.args.items all c.loop-key.replay c.access.new.self (get_or all at 0) (drop (at + 1) all) (omega arith)
-    told.policy told.items told.keys told.tally run
+    told.items told.keys told.tally run

@@ -1,0 +1,41 @@
+use Rattle.std.proofs.Common.{◌≡◌, [], ◌∷◌, ◌++◌, sym, ap, subst, ◌∙◌}
+use Rattle.replay_policies.specs.Entries.{times}
+use Rattle.replay_policies.specs.Plain.{is_hit}
+use Rattle.replay_policies.specs.Queues.{QueuesView, IsQueues, all_keys, entries_from}
+use Rattle.replay_policies.proofs.QueueLemmas.{absent-view, absent-turned, IsQueues-swap, IsQueues-more, first-more, second-more}
+use Rattle.replay_policies.proofs.queues.Queues.push_second.Goals as goal
+
+pub invariant_of-self : goal.invariant_of-self
+invariant_of-self c =
+    let q = c.self.inside in
+    let e = c.args.entry in
+    let turned = IsQueues-swap q.first.keys q.second.keys q.table c.self.invariant in
+    let absent : times e.key (q.second.keys ++ q.first.keys) ≡ 0 =
+    absent-turned q.first.keys q.second.keys e.key (absent-view q.first.keys q.second.keys q.table e.key
+    (ap (λ (v : QueuesView). is_hit e.key (all_keys v)) c.self.view_is ∙ c.requires.new)) in
+    subst (λ keys. IsQueues q.first.keys keys c.set.new.self) (sym c.push.ensures.keys)
+    (IsQueues-swap (q.second.keys ++ e.key ∷ []) q.first.keys c.set.new.self
+    (IsQueues-more q.table c.set.new.self e.key e.uses q.second.keys q.first.keys turned absent c.set.ensures.numbers))
+
+pub returns-clause-second : goal.returns-clause-second
+returns-clause-second c =
+    let q = c.self.inside in
+    let e = c.args.entry in
+    let turned = IsQueues-swap q.first.keys q.second.keys q.table c.self.invariant in
+    let absent : times e.key (q.second.keys ++ q.first.keys) ≡ 0 =
+    absent-turned q.first.keys q.second.keys e.key (absent-view q.first.keys q.second.keys q.table e.key
+    (ap (λ (v : QueuesView). is_hit e.key (all_keys v)) c.self.view_is ∙ c.requires.new)) in
+    ap (entries_from c.set.new.self) c.push.ensures.keys
+    ∙ first-more q.table c.set.new.self e.key e.uses q.second.keys q.first.keys turned absent c.set.ensures.numbers
+    ∙ ap (λ (v : QueuesView). v.second ++ e ∷ []) c.self.view_is
+
+pub returns-clause-first : goal.returns-clause-first
+returns-clause-first c =
+    let q = c.self.inside in
+    let e = c.args.entry in
+    let turned = IsQueues-swap q.first.keys q.second.keys q.table c.self.invariant in
+    let absent : times e.key (q.second.keys ++ q.first.keys) ≡ 0 =
+    absent-turned q.first.keys q.second.keys e.key (absent-view q.first.keys q.second.keys q.table e.key
+    (ap (λ (v : QueuesView). is_hit e.key (all_keys v)) c.self.view_is ∙ c.requires.new)) in
+    second-more q.table c.set.new.self e.key e.uses q.second.keys q.first.keys turned absent c.set.ensures.numbers
+    ∙ ap (λ (v : QueuesView). v.first) c.self.view_is

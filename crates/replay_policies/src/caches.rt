@@ -1,0 +1,85 @@
+//! A cache of keys by each policy.
+ghost use Rattle.std.specs.Prelude.{◌≡◌, ℕ, ◌<◌, ◌≤◌, false, nat_eq, length, IfOk, OnOk, OnErr};
+ghost use Rattle.std.specs.List.{IsDistinct};
+ghost use Rattle.std.specs.NonZero.{non_zero_usize_get};
+ghost use Rattle.replay_policies.specs.Caches.{IsCache, kept_of};
+ghost use Rattle.replay_policies.specs.Plain.{is_hit};
+ghost use Rattle.replay_policies.specs.Policies.{after_access, keys_of, nothing_kept};
+
+use crate::ghosts::Ghosts;
+use crate::policies::Policy;
+use crate::queues::Queues;
+use crate::{clocks, plain, s3fifos, sieves};
+use lru::LruCache;
+use std::alloc::{AllocError, Global};
+use std::num::NonZeroUsize;
+
+// The keys of a cache, as its policy keeps them.
+#[derive(Drop)]
+pub(crate) enum Cache {
+    Lru(LruCache<u32, ()>),
+    Fifo(Queues),
+    Clock(Queues),
+    Sieve(Queues),
+    S3Fifo(Queues, Ghosts),
+}
+
+impl Cache {
+    // A cache without keys. It is refused only for want of memory.
+    pub(crate) fn new(
+        alloc: Global,
+        policy: Policy,
+        items: NonZeroUsize,
+    ) -> Result<Cache, AllocError>
+        ensures empty { IfOk result (λ cache. kept_of cache ≡ nothing_kept policy) }
+        ensures room { IfOk result (λ cache. IsCache (non_zero_usize_get items) cache) }
+    {
+        let room = items.get();
+        Ok(match policy {
+            Policy::Lru => Cache::Lru(LruCache::new(alloc, items)?),
+            Policy::Fifo => Cache::Fifo(Queues::new(alloc, room, 0)?),
+            Policy::Clock => Cache::Clock(Queues::new(alloc, room, 0)?),
+            Policy::Sieve => Cache::Sieve(Queues::new(alloc, room, room)?),
+            Policy::S3Fifo => Cache::S3Fifo(
+                Queues::new(alloc, room, room)?,
+                s3fifos::ghosts_of(alloc, room)?,
+            ),
+        })
+    }
+
+    // An access of a cache of so many items: whether the key was in it. Memory is refused only where it wasn't, and then
+    // nothing is changed.
+    #[inline(always)]
+    pub(crate) fn access(&mut self, items: usize, key: u32) -> Result<bool, AllocError>
+        requires some { 0 < items }
+        requires room { IsCache items self.old }
+        ensures hit { IfOk result (λ hit. hit ≡ is_hit key (keys_of (kept_of self.old))) }
+        ensures kept { OnOk result (kept_of self.new ≡ after_access items key (kept_of self.old)) }
+        ensures room { IsCache items self.new }
+        ensures refused { OnErr result (kept_of self.new ≡ kept_of self.old) }
+        ensures refused_at_a_miss { OnErr result (is_hit key (keys_of (kept_of self.old)) ≡ false) }
+    {
+        match self {
+            Cache::Lru(cache) => plain::access_lru(cache, key),
+            Cache::Fifo(queue) => plain::access_fifo(queue, items, key),
+            Cache::Clock(queue) => clocks::access(queue, items, key),
+            Cache::Sieve(queues) => sieves::access(queues, items, key),
+            Cache::S3Fifo(queues, ghosts) => s3fifos::access(queues, ghosts, items, key),
+        }
+    }
+
+    // How many keys are in it. None of them is in it twice.
+    pub(crate) fn len(&self) -> usize
+        ensures count { result ≡ length (keys_of (kept_of self.now)) }
+        ensures room { (items : ℕ) → IsCache items self.now → result ≤ items }
+        ensures distinct { IsDistinct nat_eq (keys_of (kept_of self.now)) }
+    {
+        match self {
+            Cache::Lru(cache) => cache.len(),
+            Cache::Fifo(queue) => queue.first_len(),
+            Cache::Clock(queue) => queue.first_len(),
+            Cache::Sieve(queues) => queues.len(),
+            Cache::S3Fifo(queues, _) => queues.len(),
+        }
+    }
+}
