@@ -27,7 +27,7 @@
  * place of the chunk, a reader sees by the lock under which the program names the item to readers.
  *
  * COSTS are steps on an item's words (one atomic load, store, exchange, addition each), or what they grow with. What
- * they come to in instructions docs/C.md tells. */
+ * they come to in instructions docs/BENCH.md tells. */
 #ifndef BUMP_H
 #define BUMP_H
 
