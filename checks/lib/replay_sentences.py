@@ -23,13 +23,16 @@ def beside(misses, others):
 
 
 def sentences_of(table, ages):
-    """The sentences for the rows of a table's first part, where rows of one size and class are beside each other."""
+    """The sentences for the rows of a table's first part, where rows of one size and class stand together, the cache's first."""
     head, *lines = table.split("\n\n")[0].splitlines()
-    sized = {}
+    sized = []
     for line in lines:
         *place, policy, _, _, misses, _ = line.split()
-        sized.setdefault(tuple(place), {})[policy] = int(misses)
-    for place, misses in sized.items():
+        # each row of the cache begins another size, also where it is asked for twice
+        if policy == "bump":
+            sized.append((place, {}))
+        sized[-1][1][policy] = int(misses)
+    for place, misses in sized:
         bump, others = misses.pop("bump"), [name for name in NAMES if name in misses]
         base = "lru" if "lru" in others else others[0] if others else None
         if base is None or misses[base] == 0:
