@@ -18,7 +18,7 @@ if_any (Some bytes) Q all = all bytes
 
 -- a buffer that nothing was read into leaves the bytes
 pub fresh : {T A : Type 0} (remaining : T → Option (List ℕ)) (reader : BufReader T A) (source : T) → reader_inner reader ≡ source → reader_buffer reader ≡ []
-    → reader_capacity reader ≡ 8192 → reader_remaining remaining reader ≡ remaining source
+    → reader_capacity reader ≡ 1048576 → reader_remaining remaining reader ≡ remaining source
 fresh remaining reader source inner empty capacity =
     ap (λ n. if n == 0 then None else prepend_known (reader_buffer reader) (remaining (reader_inner reader))) capacity
     ∙ ap (λ bytes. prepend_known bytes (remaining (reader_inner reader))) empty ∙ prepend_known-nil (remaining (reader_inner reader)) ∙ ap remaining inner

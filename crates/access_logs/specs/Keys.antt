@@ -1,6 +1,11 @@
 -- How keys are numbered: each by its place among the distinct keys, in the order in which they first come.
 use Rattle.std.specs.Prelude.{ℕ, Bool, List, [], ◌∷◌, ◌++◌, map, fold, bytes_eq, if◌then◌else◌}
 use Rattle.std.specs.List.{list_any, position_or_len}
+use Rattle.access_logs.specs.declared.keys.Key.{Key}
+
+-- the bytes of a key
+abbrev pub bytes_of : Key → List ℕ
+bytes_of key = key.bytes.items
 
 -- the key is one of these
 abbrev pub is_among : List (List ℕ) → List ℕ → Bool

@@ -4,6 +4,7 @@
 mod columns;
 mod drafts;
 mod entries;
+mod keys;
 mod lines;
 mod log;
 mod numbering;

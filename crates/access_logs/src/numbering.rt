@@ -3,6 +3,7 @@
 ghost use Rattle.std.specs.Prelude.{◌≤◌};
 ghost use Rattle.indexmap.specs.IndexSet.{index_set_len};
 
+use crate::keys::Key;
 use crate::log::LogFault;
 use indexmap::IndexSet;
 use std::alloc::Global;
@@ -13,7 +14,10 @@ pub const MAX_KEYS: usize = 4_294_967_295;
 /// Keys with their numbers: 0, 1, 2.. in the order in which they first came.
 #[derive(Drop)]
 pub struct Numbering {
-    keys: IndexSet<Vec<u8>>,
+    keys: IndexSet<Key>,
+
+    // The key that was looked up last. It is kept for its memory, so that a look-up allocates only for a longer key.
+    wanted: Key,
     alloc: Global,
     ghost few: { index_set_len keys ≤ 4294967295 },
 }
@@ -29,6 +33,7 @@ impl Numbering {
     {
         Numbering {
             keys: IndexSet::new(alloc),
+            wanted: Key::empty(alloc),
             alloc,
         }
     }
@@ -47,7 +52,10 @@ impl Numbering {
         ensures kept { OnErr result (keys_of self.new ≡ keys_of self.old) }
         ensures refusal { IfErr result (RefusesKey (keys_of self.old) key.now) }
     {
-        if let Some(number) = self.keys.get_index_of(key) {
+        if self.wanted.set_bytes(key).is_err() {
+            return Err(LogFault::Memory);
+        }
+        if let Some(number) = self.keys.get_index_of(&self.wanted) {
             return Ok(number as u32);
         }
         self.add(key)
@@ -65,10 +73,9 @@ impl Numbering {
         if number >= MAX_KEYS {
             return Err(LogFault::TooManyKeys);
         }
-        let mut owned = Vec::new(self.alloc);
-        if owned.extend_from_slice(key).is_err() {
+        let Ok(owned) = Key::new(self.alloc, key) else {
             return Err(LogFault::Memory);
-        }
+        };
         if self.keys.insert_full(owned).is_err() {
             return Err(LogFault::Memory);
         }

@@ -19,6 +19,9 @@ use csv::ByteRecord;
 use std::alloc::Global;
 use std::io::{BufReader, Read};
 
+// How many bytes are read at a time: enough that a log's lines are seldom cut.
+const READ_SIZE: usize = 1_048_576;
+
 /// The log of a reader's lines.
 pub fn read_lines<R: Read + Drop>(alloc: Global, source: R, strict: bool) -> Result<Log, LogFault>
     ensures any { IfOk result (λ log. (entries : List Said) × IsLogOf strict 1 entries log
@@ -27,7 +30,7 @@ pub fn read_lines<R: Read + Drop>(alloc: Global, source: R, strict: bool) -> Res
     ensures refusal { IfSome (R.remaining source) (λ bytes.
         IfErr result (RefusesLog strict 1 (entries_of_lines bytes))) }
 {
-    let mut lines = match BufReader::new(alloc, source) {
+    let mut lines = match BufReader::with_capacity(alloc, READ_SIZE, source) {
         Ok(lines) => lines,
         Err(_) => return Err(LogFault::Memory),
     };
