@@ -242,144 +242,209 @@ fn runs_as_a_plain_list_does(rt: HostRuntime) -> Result<(), Fail> {
     Ok(())
 }
 
-#[test]
-fn clock_gives_a_second_round(rt: HostRuntime) -> Result<(), Fail> {
-    let mut run = Replay::new(rt.alloc(), Policy::Clock, 3)?;
-    let first = [(1, false), (2, false), (3, false), (1, true), (1, true)];
-    expect_hits(&rt, &mut run, &first)?;
-    // The hand passes 1, once for both hits, and evicts 2.
-    expect_hits(&rt, &mut run, &[(4, false), (1, true), (3, true)])?;
-    // It passes 3 and 1, and evicts 4; and then it evicts 3.
-    expect_hits(&rt, &mut run, &[(2, false), (4, false), (3, false)])?;
-    assert_eq!(rt; told(&run), tally(4, 7));
-    assert_eq!(rt; run.key_count(), 3);
+// Such a run comes to so many hits, and leaves so many keys.
+fn expect_run(
+    rt: &impl Abort,
+    alloc: Global,
+    policy: Policy,
+    items: u32,
+    accesses: &[(u32, bool)],
+    hits: u64,
+) -> Result<(), Fail> {
+    let mut run = Replay::new(alloc, policy, items)?;
+    expect_hits(rt, &mut run, accesses)?;
+    let misses = (accesses.len() as u64).wrapping_sub(hits);
+    assert_eq!(rt; told(&run), tally(hits, misses));
+    assert_eq!(rt; run.key_count(), items as usize);
     Ok(())
 }
+
+const CLOCK: [(u32, bool); 11] = [
+    (1, false),
+    (2, false),
+    (3, false),
+    (1, true),
+    (1, true),
+    // The hand passes 1, once for both hits, and evicts 2.
+    (4, false),
+    (1, true),
+    (3, true),
+    // It passes 3 and 1, and evicts 4; and then it evicts 3.
+    (2, false),
+    (4, false),
+    (3, false),
+];
+
+#[test]
+fn clock_gives_a_second_round(rt: HostRuntime) -> Result<(), Fail> {
+    expect_run(&rt, rt.alloc(), Policy::Clock, 3, &CLOCK, 4)
+}
+
+const SIEVE: [(u32, bool); 9] = [
+    (1, false),
+    (2, false),
+    (3, false),
+    (1, true),
+    // The hand passes 1, which stays the oldest, and evicts 2; it goes on to 3, and not back to 1.
+    (4, false),
+    (5, false),
+    (1, true),
+    (3, false),
+    (2, false),
+];
 
 #[test]
 fn sieve_stays_where_it_evicted(rt: HostRuntime) -> Result<(), Fail> {
-    let mut run = Replay::new(rt.alloc(), Policy::Sieve, 3)?;
-    let first = [(1, false), (2, false), (3, false), (1, true)];
-    expect_hits(&rt, &mut run, &first)?;
-    // The hand passes 1, which stays the oldest, and evicts 2; it goes on to 3, and not back to 1.
-    expect_hits(&rt, &mut run, &[(4, false), (5, false), (1, true)])?;
-    expect_hits(&rt, &mut run, &[(3, false), (2, false)])?;
-    assert_eq!(rt; told(&run), tally(2, 7));
-    assert_eq!(rt; run.key_count(), 3);
-    Ok(())
+    expect_run(&rt, rt.alloc(), Policy::Sieve, 3, &SIEVE, 2)
 }
+
+// One item is the small queue's and two are the main one's, and there are two ghosts.
+const S3_FIFO: [(u32, bool); 17] = [
+    (1, false),
+    (2, false),
+    (3, false),
+    // 1 goes and is a ghost; it comes into the main queue, and 2 goes for it.
+    (4, false),
+    (1, false),
+    // 3 was asked for twice and goes on to the main queue; 4 goes for 5, and 5 for 6, so that 2 is no ghost any more.
+    (3, true),
+    (3, true),
+    (5, false),
+    (6, false),
+    (2, false),
+    // 5 is a ghost and comes into the main queue, and 2 goes for it, so that the small one is empty. So the main one
+    // evicts for 7: it passes 1, which was asked for, and 3 goes, which wasn't since it came there. It is no ghost.
+    (5, false),
+    (1, true),
+    (7, false),
+    (3, false),
+    // 7 went for it.
+    (1, true),
+    (5, true),
+    (3, true),
+];
 
 #[test]
 fn s3_fifo_keeps_what_comes_again(rt: HostRuntime) -> Result<(), Fail> {
-    // One item is the small queue's and two are the main one's, and there are two ghosts.
-    let mut run = Replay::new(rt.alloc(), Policy::S3Fifo, 3)?;
-    // 1 goes and is a ghost; it comes into the main queue, and 2 goes for it.
-    let first = [(1, false), (2, false), (3, false), (4, false), (1, false)];
-    expect_hits(&rt, &mut run, &first)?;
-    // 3 was asked for twice and goes on to the main queue; 4 goes for 5, and 5 for 6, so that 2 is no ghost any more.
-    let twice = [(3, true), (3, true), (5, false), (6, false), (2, false)];
-    expect_hits(&rt, &mut run, &twice)?;
-    // 5 is a ghost and comes into the main queue, and 2 goes for it, so that the small one is empty. So the main one
-    // evicts for 7: it passes 1, which was asked for, and 3 goes, which wasn't since it came there. It is no ghost.
-    let main = [(5, false), (1, true), (7, false), (3, false)];
-    expect_hits(&rt, &mut run, &main)?;
-    // 7 went for it.
-    expect_hits(&rt, &mut run, &[(1, true), (5, true), (3, true)])?;
-    assert_eq!(rt; told(&run), tally(6, 11));
-    assert_eq!(rt; run.key_count(), 3);
-    Ok(())
+    expect_run(&rt, rt.alloc(), Policy::S3Fifo, 3, &S3_FIFO, 6)
 }
+
+const S3_FIFO_USES: [(u32, bool); 17] = [
+    (1, false),
+    (2, false),
+    (3, false),
+    // 1 is a ghost and comes into the main queue; its 5 hits are 3 uses.
+    (1, false),
+    (1, true),
+    (1, true),
+    (1, true),
+    (1, true),
+    (1, true),
+    // 2 and 3 are ghosts, so the small queue is empty. The main one passes 1 for 3, for 4, and for 5 at its second time.
+    (2, false),
+    (3, false),
+    (4, false),
+    (5, false),
+    (4, false),
+    (5, false),
+    // 1 has no uses left, and goes for 6.
+    (6, false),
+    (1, false),
+];
 
 #[test]
 fn s3_fifo_counts_three_uses(rt: HostRuntime) -> Result<(), Fail> {
-    let mut run = Replay::new(rt.alloc(), Policy::S3Fifo, 2)?;
-    // 1 is a ghost and comes into the main queue; its 5 hits are 3 uses.
-    let first = [(1, false), (2, false), (3, false), (1, false)];
-    expect_hits(&rt, &mut run, &first)?;
-    expect_hits(&rt, &mut run, &[(1, true); 5])?;
-    // 2 and 3 are ghosts, so the small queue is empty. The main one passes 1 for 3, for 4, and for 5 at its second time.
-    let passed = [(2, false), (3, false), (4, false)];
-    expect_hits(&rt, &mut run, &passed)?;
-    expect_hits(&rt, &mut run, &[(5, false), (4, false), (5, false)])?;
-    // 1 has no uses left, and goes for 6.
-    expect_hits(&rt, &mut run, &[(6, false), (1, false)])?;
-    assert_eq!(rt; told(&run), tally(5, 12));
-    Ok(())
+    expect_run(&rt, rt.alloc(), Policy::S3Fifo, 2, &S3_FIFO_USES, 5)
 }
+
+const S3_FIFO_OF_ONE: [(u32, bool); 5] = [(1, false), (1, true), (1, true), (2, false), (1, false)];
 
 #[test]
 fn s3_fifo_of_one_item_has_no_ghosts(rt: HostRuntime) -> Result<(), Fail> {
-    let mut run = Replay::new(rt.alloc(), Policy::S3Fifo, 1)?;
-    let all = [(1, false), (1, true), (1, true), (2, false), (1, false)];
-    expect_hits(&rt, &mut run, &all)?;
-    assert_eq!(rt; told(&run), tally(2, 3));
-    assert_eq!(rt; run.key_count(), 1);
-    Ok(())
+    expect_run(&rt, rt.alloc(), Policy::S3Fifo, 1, &S3_FIFO_OF_ONE, 2)
 }
 
-// The log comes to so many hits at each of these sizes.
+// The same log comes to so many hits at each of these sizes: what checks/lib/policies.py comes to.
 fn expect_at(
     rt: &impl Abort,
     alloc: Global,
     policy: Policy,
-    accesses: &[u32],
     wanted: &[(u32, u64)],
-) -> Result<(), PolicyFault> {
+) -> Result<(), Fail> {
+    let log = skewed(alloc, 3_000, 40)?;
     for (items, hits) in wanted {
-        let misses = (accesses.len() as u64).wrapping_sub(*hits);
-        expect(rt, alloc, policy, *items, accesses, tally(*hits, misses))?;
+        let misses = (log.len() as u64).wrapping_sub(*hits);
+        expect(rt, alloc, policy, *items, &log, tally(*hits, misses))?;
     }
     Ok(())
 }
 
-// What checks/policies.py comes to on the same log.
+const LRU_HITS: [(u32, u64); 6] = [
+    (1, 88),
+    (2, 179),
+    (7, 666),
+    (20, 1_869),
+    (30, 2_629),
+    (41, 2_961),
+];
+
 #[test]
-fn runs_come_to_what_another_program_tells(rt: HostRuntime) -> Result<(), Fail> {
-    let log = skewed(rt.alloc(), 3_000, 40)?;
-    let lru = [
-        (1, 88),
-        (2, 179),
-        (7, 666),
-        (20, 1_869),
-        (30, 2_629),
-        (41, 2_961),
-    ];
-    expect_at(&rt, rt.alloc(), Policy::Lru, &log, &lru)?;
-    let fifo = [
-        (1, 88),
-        (2, 180),
-        (7, 670),
-        (20, 1_782),
-        (30, 2_516),
-        (41, 2_961),
-    ];
-    expect_at(&rt, rt.alloc(), Policy::Fifo, &log, &fifo)?;
-    let clock = [
-        (1, 88),
-        (2, 178),
-        (7, 669),
-        (20, 1_887),
-        (30, 2_642),
-        (41, 2_961),
-    ];
-    expect_at(&rt, rt.alloc(), Policy::Clock, &log, &clock)?;
-    let sieve = [
-        (1, 88),
-        (2, 178),
-        (7, 729),
-        (20, 2_002),
-        (30, 2_716),
-        (41, 2_961),
-    ];
-    expect_at(&rt, rt.alloc(), Policy::Sieve, &log, &sieve)?;
-    let s3_fifo = [
-        (1, 88),
-        (2, 209),
-        (7, 752),
-        (20, 2_003),
-        (30, 2_711),
-        (41, 2_961),
-    ];
-    expect_at(&rt, rt.alloc(), Policy::S3Fifo, &log, &s3_fifo)?;
-    Ok(())
+fn lru_comes_to_what_another_program_tells(rt: HostRuntime) -> Result<(), Fail> {
+    expect_at(&rt, rt.alloc(), Policy::Lru, &LRU_HITS)
+}
+
+const FIFO_HITS: [(u32, u64); 6] = [
+    (1, 88),
+    (2, 180),
+    (7, 670),
+    (20, 1_782),
+    (30, 2_516),
+    (41, 2_961),
+];
+
+#[test]
+fn fifo_comes_to_what_another_program_tells(rt: HostRuntime) -> Result<(), Fail> {
+    expect_at(&rt, rt.alloc(), Policy::Fifo, &FIFO_HITS)
+}
+
+const CLOCK_HITS: [(u32, u64); 6] = [
+    (1, 88),
+    (2, 178),
+    (7, 669),
+    (20, 1_887),
+    (30, 2_642),
+    (41, 2_961),
+];
+
+#[test]
+fn clock_comes_to_what_another_program_tells(rt: HostRuntime) -> Result<(), Fail> {
+    expect_at(&rt, rt.alloc(), Policy::Clock, &CLOCK_HITS)
+}
+
+const SIEVE_HITS: [(u32, u64); 6] = [
+    (1, 88),
+    (2, 178),
+    (7, 729),
+    (20, 2_002),
+    (30, 2_716),
+    (41, 2_961),
+];
+
+#[test]
+fn sieve_comes_to_what_another_program_tells(rt: HostRuntime) -> Result<(), Fail> {
+    expect_at(&rt, rt.alloc(), Policy::Sieve, &SIEVE_HITS)
+}
+
+const S3_FIFO_HITS: [(u32, u64); 6] = [
+    (1, 88),
+    (2, 209),
+    (7, 752),
+    (20, 2_003),
+    (30, 2_711),
+    (41, 2_961),
+];
+
+#[test]
+fn s3_fifo_comes_to_what_another_program_tells(rt: HostRuntime) -> Result<(), Fail> {
+    expect_at(&rt, rt.alloc(), Policy::S3Fifo, &S3_FIFO_HITS)
 }

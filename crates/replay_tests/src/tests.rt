@@ -345,7 +345,7 @@ fn what_is_no_get_is_neither_hit_nor_miss(rt: HostRuntime) -> Result<(), Fail> {
             Operation::Get,
             Operation::Delete,
             Operation::Get,
-            Operation::Get,
+            Operation::Other,
         ],
         ttls: &[],
     };
