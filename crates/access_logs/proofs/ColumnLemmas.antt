@@ -4,7 +4,7 @@ use Rattle.std.specs.Prelude.{Option, Some, None, is_some, unwrap_or, option_map
 use Rattle.std.specs.List.{position_from}
 use Rattle.csv.specs.Records.{field_at}
 use Rattle.access_logs.specs.Columns.{column_in, asked_in, columns_with_key, columns_in}
-use Rattle.access_logs.specs.declared.columns.Asked.{Asked}
+use Rattle.access_logs.specs.declared.columns.AskedColumns.{AskedColumns}
 use Rattle.access_logs.specs.declared.columns.Columns.{Columns}
 use Rattle.access_logs.specs.declared.log.Column.{Column}
 use Rattle.access_logs.specs.declared.log.Field.{Field}
@@ -60,7 +60,7 @@ result-is other x y is = ap (λ r. held r) is
     held (Ok columns) = columns
     held (Err field) = other
 
-module _ (header : List (List ℕ)) (asked : Asked) (columns : Columns) (are : columns_in header asked ≡ Ok columns) where
+module _ (header : List (List ℕ)) (asked : AskedColumns) (columns : Columns) (are : columns_in header asked ≡ Ok columns) where
   -- what is found for each column that is asked for is what the columns have
   parts : (key : Option ℕ) (size time operation ttl : Option (Option ℕ)) → columns_with_key key size time operation ttl ≡ Ok columns
       → (size ≡ Some columns.size) × (time ≡ Some columns.time) × (operation ≡ Some columns.operation) × (ttl ≡ Some columns.ttl)

@@ -10,7 +10,7 @@ use Rattle.access_logs.specs.Drafts.{IsLogOf}
 use Rattle.access_logs.specs.Entries.{RefusesLog}
 use Rattle.access_logs.specs.Lines.{IsReadOrMemory}
 use Rattle.access_logs.specs.Records.{entries_from, entries_by, entries_of_records, first_record, header_of, columns_of, records_of, line_feeds, RefusesBy, RefusesRecords}
-use Rattle.access_logs.specs.declared.columns.Asked.{Asked}
+use Rattle.access_logs.specs.declared.columns.AskedColumns.{AskedColumns}
 use Rattle.access_logs.specs.declared.columns.Columns.{Columns}
 use Rattle.access_logs.specs.declared.log.Field.{Field}
 use Rattle.access_logs.specs.declared.log.Log.{Log}
@@ -31,7 +31,7 @@ refused-by-first strict first (Err lacking) rows (fault.Unreadable found) due so
 refused-by-first strict first (Err lacking) rows fault.TooManyKeys due some = absurd due
 refused-by-first strict first (Err lacking) rows (fault.NoColumn field) due some = absurd due
 
-module _ (strict : Bool) (asked : Asked) (header : Bool) (first : ℕ) (is : first ≡ first_record header asked) (known : Option (List ℕ)) where
+module _ (strict : Bool) (asked : AskedColumns) (header : Bool) (first : ℕ) (is : first ≡ first_record header asked) (known : Option (List ℕ)) where
   -- the same, whatever the text is
   pub refused-first : (why : LogFault) → IsReadOrMemory 1 why → 0 < first → IfSome known (λ bytes. RefusesRecords strict asked header bytes why)
   refused-first why due some = by known

@@ -14,7 +14,7 @@ use Rattle.csv.proofs.ReadFacts.{rows-more, rows-end}
 use Rattle.access_logs.specs.Entries.{Said}
 use Rattle.access_logs.specs.Records.{entry_of_record, entries_from, first_record}
 use Rattle.access_logs.specs.Columns.{has_name}
-use Rattle.access_logs.specs.declared.columns.Asked.{Asked}
+use Rattle.access_logs.specs.declared.columns.AskedColumns.{AskedColumns}
 use Rattle.access_logs.specs.declared.columns.Columns.{Columns}
 
 -- what an option holds
@@ -119,7 +119,7 @@ pub entries_from-reach : (first : ℕ) (columns : Columns) (seen : List (List (L
 entries_from-reach first columns seen number some is = let long = length-entries_from first columns seen in omega (arith, long, some, is)
 
 -- the first record that has a key is no record 0
-pub first_record-some : (header : Bool) (asked : Asked) (first : ℕ) → first ≡ first_record header asked → 0 < first
+pub first_record-some : (header : Bool) (asked : AskedColumns) (first : ℕ) → first ≡ first_record header asked → 0 < first
 first_record-some header asked first is = by (header || has_name asked) is
   where
     by : (b : Bool) → first ≡ cond b 2 1 → 0 < first

@@ -1,7 +1,7 @@
 -- Columns of CSV, by their numbers or by their names in a header.
 use Rattle.std.specs.Prelude.{ℕ, ◌||◌, Bool, true, false, List, Option, Some, None, option_map, bytes_eq, Result, Ok, Err}
 use Rattle.std.specs.List.{position_from}
-use Rattle.access_logs.specs.declared.columns.Asked.{Asked}
+use Rattle.access_logs.specs.declared.columns.AskedColumns.{AskedColumns}
 use Rattle.access_logs.specs.declared.columns.Columns.{Columns}
 use Rattle.access_logs.specs.declared.log.Column.{Column}
 use Rattle.access_logs.specs.declared.log.Column.TheVariants as column
@@ -19,7 +19,7 @@ may_be_name None = false
 may_be_name (Some column) = is_name column
 
 -- one of the columns has a name
-abbrev pub has_name : Asked → Bool
+abbrev pub has_name : AskedColumns → Bool
 has_name asked = (((is_name asked.key || may_be_name asked.size) || may_be_name asked.time) || may_be_name asked.operation) || may_be_name asked.ttl
 
 -- the place of a name in a header, counted from 0: that of the first field that is the name, byte for byte
@@ -62,7 +62,7 @@ columns_with_key None size time operation ttl = Err field.Key
 columns_with_key (Some key) size time operation ttl = columns_with_size key size time operation ttl
 
 -- the numbers of the columns that are asked for, or the first of key, size, time, operation and ttl that the header lacks
-abbrev pub columns_in : List (List ℕ) → Asked → Result Columns Field
+abbrev pub columns_in : List (List ℕ) → AskedColumns → Result Columns Field
 columns_in header asked =
     columns_with_key (column_in header asked.key) (asked_in header asked.size) (asked_in header asked.time)
     (asked_in header asked.operation) (asked_in header asked.ttl)

@@ -17,7 +17,7 @@ use Rattle.access_logs.specs.declared.log.LogFault.TheVariants as fault
 use Rattle.access_logs.specs.declared.operations.Operation.{Operation}
 use Rattle.access_logs.specs.declared.padded.Padded.{Padded}
 use Rattle.access_logs.specs.declared.patient.Patient.{Patient}
-use Rattle.access_logs.specs.declared.columns.Asked.{Asked}
+use Rattle.access_logs.specs.declared.columns.AskedColumns.{AskedColumns}
 use Rattle.access_logs.specs.declared.columns.Columns.{Columns}
 
 -- a field as a key: an empty one is none
@@ -119,7 +119,7 @@ abbrev pub records_of : List ℕ → List (List (List ℕ))
 records_of bytes = records default_config (strip_bom (bytes ++ line_feeds))
 
 -- the number of the first record that has a key: a header is record 1, and there is one where a column has a name
-abbrev pub first_record : Bool → Asked → ℕ
+abbrev pub first_record : Bool → AskedColumns → ℕ
 first_record header asked = if header || has_name asked then 2 else 1
 
 -- the fields of the first record: none where there is no record
@@ -137,11 +137,11 @@ entries_by first (Ok columns) rows = entries_from first columns rows
 entries_by first (Err lacking) rows = []
 
 -- the columns that are asked for of a text, by its first record
-abbrev pub columns_of : Asked → List ℕ → Result Columns Field
+abbrev pub columns_of : AskedColumns → List ℕ → Result Columns Field
 columns_of asked bytes = columns_in (header_of (records_of bytes)) asked
 
 -- what each record of a text says
-abbrev pub entries_of_records : Asked → Bool → List ℕ → List Said
+abbrev pub entries_of_records : AskedColumns → Bool → List ℕ → List Said
 entries_of_records asked header bytes = entries_by (first_record header asked) (columns_of asked bytes) (records_of bytes)
 
 -- why no log is read whose header lacks a column: that, or the reader failed before that was known, or memory
@@ -159,5 +159,5 @@ RefusesBy strict first (Ok columns) rows why = RefusesLog strict first (entries_
 RefusesBy strict first (Err lacking) rows why = RefusesHeader lacking why
 
 -- the same of a text
-abbrev pub RefusesRecords : Bool → Asked → Bool → List ℕ → LogFault → Type 0
+abbrev pub RefusesRecords : Bool → AskedColumns → Bool → List ℕ → LogFault → Type 0
 RefusesRecords strict asked header bytes why = RefusesBy strict (first_record header asked) (columns_of asked bytes) (records_of bytes) why

@@ -9,7 +9,7 @@ use csv::ByteRecord;
 
 /// The columns that are asked for.
 #[derive(Clone, Copy)]
-pub struct Asked<'a> {
+pub struct AskedColumns<'a> {
     /// That of the key.
     pub key: Column<'a>,
 
@@ -66,7 +66,7 @@ fn may_be_name(column: Option<Column<'_>>) -> bool
 }
 
 /// Whether one of the columns has a name, which is in a header.
-pub fn has_name(asked: Asked<'_>) -> bool
+pub fn has_name(asked: AskedColumns<'_>) -> bool
     ensures { result ≡ has_name asked.entry }
 {
     is_name(asked.key)
@@ -116,7 +116,7 @@ fn asked_in(header: &ByteRecord, column: Option<Column<'_>>) -> Option<Option<us
 
 /// The numbers of the columns that are asked for: those with a name have the number of its place in the header. Where the
 /// header lacks one, the first such of key, size, time, operation and ttl.
-pub fn columns_in(header: &ByteRecord, asked: Asked<'_>) -> Result<Columns, Field>
+pub fn columns_in(header: &ByteRecord, asked: AskedColumns<'_>) -> Result<Columns, Field>
     ensures { result ≡ columns_in (fields_of header.now) asked.entry }
 {
     let Some(key) = column_in(header, asked.key) else {

@@ -139,7 +139,7 @@ pub enum Format<'a> {
     /// takes the rest of the text. A byte order mark at the start is passed over.
     Csv {
         /// The column of the key.
-        column: Column<'a>,
+        key: Column<'a>,
 
         /// Whether the first record is a header: it always is where a column has a name. It is record 1 then, and has no
         /// key.

@@ -10,7 +10,7 @@ ghost use Rattle.access_logs.specs.Keys.{distinct, numbers_of};
 ghost use Rattle.access_logs.specs.Lines.{entries_of_lines};
 ghost use Rattle.access_logs.specs.Records.{entries_of_records, entries_from, first_record, header_of, columns_of, RefusesRecords};
 
-use crate::columns::{Asked, Columns, columns_in};
+use crate::columns::{AskedColumns, Columns, columns_in};
 use crate::drafts::Draft;
 use crate::lines::{entry_of_line, read_line};
 use crate::log::{Format, Log, LogFault};
@@ -51,7 +51,7 @@ pub fn read_lines<R: Read + Drop>(alloc: Global, source: R, strict: bool) -> Res
 pub fn read_records<R: Read + Drop>(
     alloc: Global,
     source: R,
-    asked: Asked<'_>,
+    asked: AskedColumns<'_>,
     header: bool,
     strict: bool,
 ) -> Result<Log, LogFault>
@@ -136,15 +136,15 @@ pub fn read_log<R: Read + Drop>(
     match format {
         Format::Lines => read_lines(alloc, source, strict),
         Format::Csv {
-            column,
+            key,
             header,
             size,
             time,
             operation,
             ttl,
         } => {
-            let asked = Asked {
-                key: column,
+            let asked = AskedColumns {
+                key,
                 size,
                 time,
                 operation,

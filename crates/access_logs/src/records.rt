@@ -13,7 +13,7 @@ ghost use Rattle.access_logs.specs.Entries.{RefusesLog, said_by};
 ghost use Rattle.access_logs.specs.Lines.{IsReadOrMemory};
 ghost use Rattle.access_logs.specs.Records.{key_of_record, size_of_record, time_of_record, operation_of_record, ttl_of_record, asked_size, asked_time, asked_operation, asked_ttl, is_long, entry_of_record, entries_from, first_record, line_feeds, padded_of};
 
-use crate::columns::{Asked, Columns, has_name};
+use crate::columns::{AskedColumns, Columns, has_name};
 use crate::drafts::Draft;
 use crate::entries::{Entry, LogEntry};
 use crate::lines::LONGEST_KEY;
@@ -27,7 +27,7 @@ use std::alloc::Global;
 use std::io::Read;
 
 /// The number of the first record that has a key: a header is record 1, and there is one where a column has a name.
-pub fn first_record(header: bool, asked: Asked<'_>) -> u64
+pub fn first_record(header: bool, asked: AskedColumns<'_>) -> u64
     ensures { result ≡ first_record header asked.entry }
 {
     if header || has_name(asked) { 2 } else { 1 }

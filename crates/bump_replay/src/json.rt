@@ -99,7 +99,7 @@ fn put_column(
 // How the log is read.
 fn put_format(members: &mut Members, format: Format<'_>) -> Result<(), AllocError> {
     let Format::Csv {
-        column,
+        key,
         header,
         size,
         time,
@@ -112,7 +112,7 @@ fn put_format(members: &mut Members, format: Format<'_>) -> Result<(), AllocErro
         }
         return members.put("header", false);
     };
-    put_column(members, "key", Some(column))?;
+    put_column(members, "key", Some(key))?;
     put_column(members, "sizes", size)?;
     put_column(members, "time", time)?;
     put_column(members, "op", operation)?;

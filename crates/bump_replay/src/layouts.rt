@@ -78,7 +78,7 @@ pub fn format_of<'a>(matches: &ArgMatches<'a>) -> Format<'a> {
     }
     let layout = named(matches);
     Format::Csv {
-        column: column_of(matches, "key", layout.key).unwrap_or(Column::Number(0)),
+        key: column_of(matches, "key", layout.key).unwrap_or(Column::Number(0)),
         header: matches.get_flag("header"),
         size: column_of(matches, "sizes", layout.size),
         time: column_of(matches, "time", layout.time),

@@ -5,7 +5,7 @@ use access_logs::{Column, Defect, Field, Format, Log, LogFault, Operation};
 
 // The key, size, time, operation and ttl are in the columns of these names, though no header is said.
 const ALL_NAMED: Format<'static> = Format::Csv {
-    column: Column::Name("key"),
+    key: Column::Name("key"),
     header: false,
     size: Some(Column::Name("size")),
     time: Some(Column::Name("time")),
@@ -15,7 +15,7 @@ const ALL_NAMED: Format<'static> = Format::Csv {
 
 // The key, size and time alone.
 const NAMED: Format<'static> = Format::Csv {
-    column: Column::Name("key"),
+    key: Column::Name("key"),
     header: false,
     size: Some(Column::Name("size")),
     time: Some(Column::Name("time")),
@@ -26,7 +26,7 @@ const NAMED: Format<'static> = Format::Csv {
 // The key alone, in the column of this name.
 fn key_alone(name: &str) -> Format<'_> {
     Format::Csv {
-        column: Column::Name(name),
+        key: Column::Name(name),
         header: false,
         size: None,
         time: None,
@@ -54,7 +54,7 @@ fn columns_are_those_of_their_names(rt: HostRuntime) {
 #[test]
 fn names_and_numbers_go_together(rt: HostRuntime) {
     let format = Format::Csv {
-        column: Column::Number(0),
+        key: Column::Number(0),
         header: false,
         size: Some(Column::Name("size")),
         time: Some(Column::Number(1)),

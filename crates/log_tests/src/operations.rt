@@ -5,7 +5,7 @@ use access_logs::{Column, Defect, Field, Format, Operation};
 
 // As Twitter's logs are: time, key, key size, value size, client, operation, ttl.
 const OF_TWITTER: Format<'static> = Format::Csv {
-    column: Column::Number(1),
+    key: Column::Number(1),
     header: false,
     size: Some(Column::Number(3)),
     time: Some(Column::Number(0)),
@@ -15,7 +15,7 @@ const OF_TWITTER: Format<'static> = Format::Csv {
 
 // The key is the first field, and the operation the second.
 const KEY_AND_OPERATION: Format<'static> = Format::Csv {
-    column: Column::Number(0),
+    key: Column::Number(0),
     header: false,
     size: None,
     time: None,
@@ -25,7 +25,7 @@ const KEY_AND_OPERATION: Format<'static> = Format::Csv {
 
 // The key is the first field, and how long it lasts the second.
 const KEY_AND_TTL: Format<'static> = Format::Csv {
-    column: Column::Number(0),
+    key: Column::Number(0),
     header: false,
     size: None,
     time: None,

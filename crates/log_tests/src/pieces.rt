@@ -42,7 +42,7 @@ fn give<'a>(text: &'a [u8], size: usize, fails: bool) -> Pieces<'a> {
 }
 
 const CSV: Format<'static> = Format::Csv {
-    column: Column::Number(1),
+    key: Column::Number(1),
     header: false,
     size: None,
     time: None,
@@ -90,7 +90,7 @@ fn keys_twice(alloc: Global, count: u32) -> Result<(Vec<u8>, Vec<u32>), AllocErr
 fn reader_that_never_fails_is_read_to_its_end(rt: HostRuntime) -> Result<(), Fail> {
     let (text, numbers) = keys_twice(rt.alloc(), 300)?;
     let first = Format::Csv {
-        column: Column::Number(0),
+        key: Column::Number(0),
         header: false,
         size: None,
         time: None,

@@ -7,7 +7,7 @@ use std::test::*;
 
 fn column(column: u32) -> Format<'static> {
     Format::Csv {
-        column: Column::Number(column),
+        key: Column::Number(column),
         header: false,
         size: None,
         time: None,
@@ -18,7 +18,7 @@ fn column(column: u32) -> Format<'static> {
 
 fn under_header(column: u32) -> Format<'static> {
     Format::Csv {
-        column: Column::Number(column),
+        key: Column::Number(column),
         header: true,
         size: None,
         time: None,

@@ -5,7 +5,7 @@ use access_logs::{Column, Defect, Field, Format, Log, LogFault};
 
 // The key is the first field, and the size the second.
 const SIZED: Format<'static> = Format::Csv {
-    column: Column::Number(0),
+    key: Column::Number(0),
     header: false,
     size: Some(Column::Number(1)),
     time: None,

@@ -5,7 +5,7 @@ use access_logs::{Column, Defect, Field, Format, Log, LogFault};
 
 // The time is the first field, the key the second, and the size the third.
 const TIMED: Format<'static> = Format::Csv {
-    column: Column::Number(1),
+    key: Column::Number(1),
     header: false,
     size: Some(Column::Number(2)),
     time: Some(Column::Number(0)),
@@ -15,7 +15,7 @@ const TIMED: Format<'static> = Format::Csv {
 
 // The key is the first field, and the time the second. There are no sizes.
 const KEY_AND_TIME: Format<'static> = Format::Csv {
-    column: Column::Number(0),
+    key: Column::Number(0),
     header: false,
     size: None,
     time: Some(Column::Number(1)),
