@@ -30,7 +30,8 @@ fn agrees(row: &Row, hits: &HitCounts) -> bool
         && bumps.busy == hits.busy
 }
 
-/// The run of a row as a trace: each access of the log is there, in order. It is refused where the trace's hits aren't those of the run.
+/// The run of a row as a trace: each access of the log is there, in order, and the cache is tended where it is due. It is refused where the
+/// trace's hits aren't those of the run.
 pub fn trace_of_row<R: AllocGlobal + RandomSource>(
     rt: &R,
     options: &Options<'_>,
@@ -39,7 +40,7 @@ pub fn trace_of_row<R: AllocGlobal + RandomSource>(
 ) -> Result<ReplayTrace, Failure>
     ensures no_fault { IfOk result (λ it. (verdict_of it.text.items).is_fault ≡ false) }
     ensures accesses { IfOk result (λ it. IsTraceOf (with_items row.now.items options.now.spare options.now.plan)
-        log.now.accesses.items it.text.items) }
+        log.now.accesses.items log.now.times.items it.text.items) }
     ensures hits { IfOk result (λ it. total_hits it.hits ≡ row.now.bump.hits) }
     ensures accepted { IfOk result (λ it. it.hits.queued ≡ row.now.bump.bumps.accepted) }
     ensures full { IfOk result (λ it. it.hits.full ≡ row.now.bump.bumps.full) }

@@ -8,16 +8,16 @@ use Rattle.replay_runs.specs.declared.plans.Plan.{Plan}
 use Rattle.replay_runs.specs.declared.faults.ReplayFault.{ReplayFault}
 
 -- no store is made of the plan
-pub store_refused : (own : Option ReplayFault) (plan : Plan) (accesses : List ℕ) (fault : ReplayFault)
-    → RefusesStore own fault → Refuses own plan accesses fault
-store_refused None plan accesses fault is = subst (λ (f : ReplayFault). IsOfTracing plan accesses f) (sym is) (inl tt)
-store_refused (Some first) plan accesses fault is = is
+pub store_refused : (own : Option ReplayFault) (plan : Plan) (accesses times : List ℕ) (fault : ReplayFault)
+    → RefusesStore own fault → Refuses own plan accesses times fault
+store_refused None plan accesses times fault is = subst (λ (f : ReplayFault). IsOfTracing plan accesses times f) (sym is) (inl tt)
+store_refused (Some first) plan accesses times fault is = is
 
 -- a store is made of it, and no trace
-pub trace_refused : (own : Option ReplayFault) (plan : Plan) (accesses : List ℕ) (fault : ReplayFault) → own ≡ None
-    → IsOfTracing plan accesses fault → Refuses own plan accesses fault
-trace_refused own plan accesses fault none is =
-    subst (λ (o : Option ReplayFault). Refuses o plan accesses fault) (sym none) is
+pub trace_refused : (own : Option ReplayFault) (plan : Plan) (accesses times : List ℕ) (fault : ReplayFault) → own ≡ None
+    → IsOfTracing plan accesses times fault → Refuses own plan accesses times fault
+trace_refused own plan accesses times fault none is =
+    subst (λ (o : Option ReplayFault). Refuses o plan accesses times fault) (sym none) is
 
 -- the configuration of a plan without a fault has none
 pub no_config_fault : (own : Option CacheFault) (parts : ℕ) → plan_fault_by own parts ≡ None → own ≡ None

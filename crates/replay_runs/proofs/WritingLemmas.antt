@@ -1,10 +1,15 @@
 -- Texts to which lines are added.
-use Rattle.std.proofs.Common.{ℕ, ◌+◌, ◌%◌, ◌≡◌, ◌≤◌, ◌<◌, List, [], ◌∷◌, ◌++◌, length, take, refl, sym, ap, subst, ◌∙◌, arith, append_assoc, append-nil, length-append, length-take, get_or, codes, inl, inr}
-use Rattle.std.proofs.lemmas.List.Elements.{All-nil, All-cons, All-append}
+use Rattle.std.proofs.Common.{ℕ, suc, Bool, true, false, ◌+◌, ◌%◌, ◌≡◌, ◌≤◌, ◌<◌, max, List, [], ◌∷◌, ◌++◌, length, take, refl, sym, ap, subst, ◌∙◌, arith, append_assoc, append-nil, length-append, length-take, get_or, codes, if◌then◌else◌}
+use Rattle.std.proofs.lemmas.List.Elements.{All-nil, All-cons, All-append, All-weaker}
 use Rattle.std.proofs.lemmas.Grind.{flat_map-append}
 use Rattle.std.proofs.lemmas.List.{take_more}
 use Rattle.bump_trace.specs.Runs.{most_bytes}
-use Rattle.replay_runs.specs.Writing.{with_end, text_of, IsUpkeep, Adds, AddsAccess, AddsRun, TellsFirst, HasTooLong}
+use Rattle.bump_rules.specs.declared.places.Tail.{Tail}
+use Rattle.bump_rules.specs.declared.places.Tail.TheVariants.{Hot, Warm, Cold, Evict}
+use Rattle.replay_runs.specs.Asked.{time_at}
+use Rattle.replay_runs.specs.Tends.{is_due, is_tended, last_tend}
+use Rattle.replay_runs.specs.declared.plans.Tending.{Tending}
+use Rattle.replay_runs.specs.Writing.{with_end, text_of, pull_instruction, tend_instructions, most_tending, IsUpkeep, IsBalance, Adds, AddsAccess, AddsTended, AddsRun, TellsFirst, HasTooLong}
 use Rattle.replay_runs.specs.declared.plans.Plan.{Plan}
 
 -- nothing was added
@@ -46,51 +51,95 @@ adds_fewer {Kind} {most} more few added = record {
   few = omega (arith, added.few, few);
 }
 
--- upkeep behind the lines of an access is of that access
-pub access_and_upkeep : (most more worker key : ℕ) (old between new : List ℕ) → AddsAccess worker key most old between
-    → Adds IsUpkeep more between new → AddsAccess worker key (most + more) old new
-access_and_upkeep most more worker key old between new (inl got) up = inl (adds_both got up)
-access_and_upkeep most more worker key old between new (inr put) up = inr (put.0, put.1, adds_both put.2 up)
+-- lines of a kind are also of each kind that has all of these
+pub adds_weaker : {Kind Other : List ℕ → Type 0} {most : ℕ} {old new : List ℕ} → ((line : List ℕ) → Kind line → Other line)
+    → Adds Kind most old new → Adds Other most old new
+adds_weaker {Kind} {Other} are added = record {
+  lines = added.lines;
+  text = added.text;
+  kind = All-weaker Kind Other are added.lines added.kind;
+  few = added.few;
+}
 
--- at most so many are also at most more
-pub access_fewer : (most worker key more : ℕ) (old new : List ℕ) → most ≤ more → AddsAccess worker key most old new
-    → AddsAccess worker key more old new
-access_fewer most worker key more old new few (inl got) = inl (adds_fewer more few got)
-access_fewer most worker key more old new few (inr put) = inr (put.0, put.1, adds_fewer more few put.2)
+-- a pull gets no item and puts none
+pub pull_is_upkeep : (tail : Tail) → IsUpkeep (pull_instruction tail)
+pull_is_upkeep Hot = refl
+pull_is_upkeep Warm = refl
+pull_is_upkeep Cold = refl
+pull_is_upkeep Evict = refl
+
+-- an access behind which the cache isn't tended
+pub not_tended : (worker key : ℕ) (is_tended : Bool) (old new : List ℕ) → is_tended ≡ false → AddsAccess worker key old new
+    → AddsTended worker key is_tended old new
+not_tended worker key true old new is access = absurd (let u : ⊥ = cc is in u)
+not_tended worker key false old new is access = (new, access, refl)
+
+-- an access behind which it is
+pub tended : (worker key : ℕ) (is_tended : Bool) (old between new : List ℕ) → is_tended ≡ true
+    → AddsAccess worker key old between → Adds IsBalance most_tending (between ++ tend_instructions) new
+    → AddsTended worker key is_tended old new
+tended worker key true old between new is access behind = (between, access, behind)
+tended worker key false old between new is access behind = absurd (let u : ⊥ = cc is in u)
+
+-- when a tend is due is when the cache is tended, if the times are those of the access and of the last tend
+pub due_is_tended : (tending : Tending) (times : List ℕ) (place now last : ℕ) → now ≡ time_at times place
+    → last ≡ last_tend tending times place → is_due tending place now last ≡ is_tended tending times place
+due_is_tended tending times place now last here before =
+    ap (λ (t : ℕ). is_due tending place t last) here
+    ∙ ap (λ (t : ℕ). is_due tending place (time_at times place) t) before
+
+-- a tend is the last one then
+pub last_if_tended : (tending : Tending) (times : List ℕ) (place : ℕ) → is_tended tending times place ≡ true
+    → last_tend tending times (place + 1) ≡ time_at times place
+last_if_tended tending times place is =
+    let next : place + 1 ≡ suc place = omega arith in
+    ap (last_tend tending times) next ∙ ap (λ (b : Bool). if b then time_at times place else last_tend tending times place) is
+
+-- without one the last tend stays the last
+pub last_if_not_tended : (tending : Tending) (times : List ℕ) (place : ℕ) → is_tended tending times place ≡ false
+    → last_tend tending times (place + 1) ≡ last_tend tending times place
+last_if_not_tended tending times place is =
+    let next : place + 1 ≡ suc place = omega arith in
+    ap (last_tend tending times) next ∙ ap (λ (b : Bool). if b then time_at times place else last_tend tending times place) is
+
+-- the lines of the access with this place, and of the tend behind it, if there is one
+abbrev pub AddsPlace : Plan → List ℕ → ℕ → List ℕ → List ℕ → ℕ → Type 0
+AddsPlace plan times key old new place =
+    AddsTended (place % max plan.config.readers 1) key (is_tended plan.tending times place) old new
 
 -- one more access behind a run
-run_and_access : (workers most place key : ℕ) (keys old between new : List ℕ) → AddsRun workers most place keys old between
-    → AddsAccess ((place + length keys) % workers) key most between new
-    → AddsRun workers most place (keys ++ key ∷ []) old new
-run_and_access workers most place key [] old between new run access =
+run_and_access : (plan : Plan) (times : List ℕ) (place key : ℕ) (keys old between new : List ℕ)
+    → AddsRun plan times place keys old between → AddsPlace plan times key between new (place + length keys)
+    → AddsRun plan times place (keys ++ key ∷ []) old new
+run_and_access plan times place key [] old between new run access =
     let here : place + 0 ≡ place = omega arith in (
       new,
-      subst (λ (t : List ℕ). AddsAccess (place % workers) key most t new) run
-          (subst (λ (n : ℕ). AddsAccess (n % workers) key most between new) here access),
+      subst (λ (t : List ℕ). AddsPlace plan times key t new place) run
+          (subst (AddsPlace plan times key between new) here access),
       refl,
     )
-run_and_access workers most place key (first ∷ keys) old between new run access =
+run_and_access plan times place key (first ∷ keys) old between new run access =
     let same : place + length (first ∷ keys) ≡ (place + 1) + length keys = omega arith in (
       run.0,
       run.1,
-      run_and_access workers most (place + 1) key keys run.0 between new run.2
-          (subst (λ (n : ℕ). AddsAccess (n % workers) key most between new) same access),
+      run_and_access plan times (place + 1) key keys run.0 between new run.2
+          (subst (AddsPlace plan times key between new) same access),
     )
 
 -- one more of some accesses, behind the first ones
-pub run_and_next : (workers most place : ℕ) (keys old between new : List ℕ) → place < length keys
-    → AddsRun workers most 0 (take place keys) old between → AddsAccess (place % workers) (get_or keys place 0) most between new
-    → AddsRun workers most 0 (take (place + 1) keys) old new
-run_and_next workers most place keys old between new lt run access =
+pub run_and_next : (plan : Plan) (times : List ℕ) (place : ℕ) (keys old between new : List ℕ) → place < length keys
+    → AddsRun plan times 0 (take place keys) old between → AddsPlace plan times (get_or keys place 0) between new place
+    → AddsRun plan times 0 (take (place + 1) keys) old new
+run_and_next plan times place keys old between new lt run access =
     let here : place ≡ 0 + length (take place keys) = omega (arith, length-take place keys, lt) in
-    subst (λ (ks : List ℕ). AddsRun workers most 0 ks old new) (sym (take_more keys place 0 lt))
-    (run_and_access workers most 0 (get_or keys place 0) (take place keys) old between new run
-    (subst (λ (n : ℕ). AddsAccess (n % workers) (get_or keys place 0) most between new) here access))
+    subst (λ (ks : List ℕ). AddsRun plan times 0 ks old new) (sym (take_more keys place 0 lt))
+    (run_and_access plan times 0 (get_or keys place 0) (take place keys) old between new run
+    (subst (AddsPlace plan times (get_or keys place 0) between new) here access))
 
 -- the first accesses have more bytes than a trace may have
-pub too_long : (plan : Plan) (count : ℕ) (accesses run : List ℕ) → TellsFirst plan count accesses run
-    → most_bytes < length run → HasTooLong plan accesses
-too_long plan count accesses run told long =
+pub too_long : (plan : Plan) (count : ℕ) (accesses times run : List ℕ) → TellsFirst plan count accesses times run
+    → most_bytes < length run → HasTooLong plan accesses times
+too_long plan count accesses times run told long =
     (count, run, told, omega (arith, long, length-append run (with_end (codes "show"))))
 
 -- a line in three parts

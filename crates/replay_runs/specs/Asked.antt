@@ -3,6 +3,10 @@ use Rattle.std.specs.Prelude.{ℕ, zero, suc, ◌+◌, ◌-◌, ◌^◌, List, m
 use Rattle.access_logs.specs.declared.operations.Operation.{Operation}
 use Rattle.access_logs.specs.declared.operations.Operation.TheVariants.{Get, Set, Delete, Other}
 
+-- an access's time: that of its place, and the place itself if nothing stands there
+abbrev pub time_at : List ℕ → ℕ → ℕ
+time_at times place = slice_index_or times place place
+
 -- what is asked for at a place: a get where nothing stands there
 abbrev pub operation_at : List Operation → ℕ → Operation
 operation_at operations place = slice_index_or operations place Get

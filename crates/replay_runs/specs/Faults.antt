@@ -27,14 +27,14 @@ RefusesStore (Some own) fault = fault ≡ own
 
 -- Why no text is written: memory was refused, or the World refused a call, or the text would be too long, or a reader's
 -- ring had more bumps at a put than it applies.
-abbrev pub IsOfTraceWriting : Plan → List ℕ → ReplayFault → Type 0
-IsOfTraceWriting plan accesses (Config own) = ⊥
-IsOfTraceWriting plan accesses Parts = ⊥
-IsOfTraceWriting plan accesses Long = HasTooLong plan accesses
-IsOfTraceWriting plan accesses Bumps = put_bumps < plan.config.ring
-IsOfTraceWriting plan accesses Memory = ⊤
-IsOfTraceWriting plan accesses Refused = ⊤
-IsOfTraceWriting plan accesses (Run own) = ⊥
+abbrev pub IsOfTraceWriting : Plan → List ℕ → List ℕ → ReplayFault → Type 0
+IsOfTraceWriting plan accesses times (Config own) = ⊥
+IsOfTraceWriting plan accesses times Parts = ⊥
+IsOfTraceWriting plan accesses times Long = HasTooLong plan accesses times
+IsOfTraceWriting plan accesses times Bumps = put_bumps < plan.config.ring
+IsOfTraceWriting plan accesses times Memory = ⊤
+IsOfTraceWriting plan accesses times Refused = ⊤
+IsOfTraceWriting plan accesses times (Run own) = ⊥
 
 -- The fault of a text's run, as one of a trace that is written. What the run tells is kept in memory, so only for want of
 -- it can that not be written.
@@ -66,11 +66,11 @@ IsOfText text (Run sim.Ring) = ⊥
 IsOfText text (Run sim.Gate) = ⊥
 
 -- why a run of these accesses isn't traced: no text is written, or the one that is written doesn't run
-abbrev pub IsOfTracing : Plan → List ℕ → ReplayFault → Type 0
-IsOfTracing plan accesses fault = IsOfTraceWriting plan accesses fault
-    ⊎ ((text : List ℕ) × IsTraceOf plan accesses text × IsOfText text fault)
+abbrev pub IsOfTracing : Plan → List ℕ → List ℕ → ReplayFault → Type 0
+IsOfTracing plan accesses times fault = IsOfTraceWriting plan accesses times fault
+    ⊎ ((text : List ℕ) × IsTraceOf plan accesses times text × IsOfText text fault)
 
 -- a plan that has a fault is refused by it, and one that has none is traced, but for those reasons
-abbrev pub Refuses : Option ReplayFault → Plan → List ℕ → ReplayFault → Type 0
-Refuses None plan accesses fault = IsOfTracing plan accesses fault
-Refuses (Some own) plan accesses fault = fault ≡ own
+abbrev pub Refuses : Option ReplayFault → Plan → List ℕ → List ℕ → ReplayFault → Type 0
+Refuses None plan accesses times fault = IsOfTracing plan accesses times fault
+Refuses (Some own) plan accesses times fault = fault ≡ own

@@ -2,6 +2,7 @@ pub mod Asked
 pub mod Counting
 pub mod Faults
 pub mod Plans
+pub mod Tends
 pub mod Writing
 pub use Rattle.cache_making.specs.Configs
 pub use Rattle.bump_rules.specs.Caches

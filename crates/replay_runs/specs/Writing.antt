@@ -1,13 +1,16 @@
--- What the trace of a log's run has in its text: the lines of each access, in turn.
-use Rattle.std.specs.Prelude.{ℕ, ◌+◌, ◌%◌, ◌≡◌, ◌≤◌, ◌<◌, ◌⊎◌, max, ⊤, Bool, true, not, ◌||◌, List, [], ◌∷◌, ◌++◌, All}
+-- What the trace of a log's run has in its text: the lines of each access, in turn, and those of each tend.
+use Rattle.std.specs.Prelude.{ℕ, ◌+◌, ◌%◌, ◌≡◌, ◌≤◌, ◌<◌, ◌⊎◌, max, ⊤, Bool, true, false, not, ◌||◌, List, [], ◌∷◌, ◌++◌, All}
 use Rattle.std.specs.Prelude.{length, take, codes, decimal, nat_eq}
 use Rattle.std.specs.List.{flat_map, starts_with}
+use Rattle.bump_rules.specs.declared.places.Tail.{Tail}
+use Rattle.bump_rules.specs.declared.places.Tail.TheVariants.{Hot, Warm, Cold, Evict}
 use Rattle.bump_rules.specs.Caches.{cache_refs}
 use Rattle.bump_trace.specs.Runs.{most_bytes}
 use Rattle.cache_shelf.specs.Limits.{put_bumps}
 use Rattle.replay_runs.specs.declared.faults.ReplayFault.{ReplayFault}
 use Rattle.replay_runs.specs.declared.faults.ReplayFault.TheVariants as fault
 use Rattle.replay_runs.specs.declared.plans.Plan.{Plan}
+use Rattle.replay_runs.specs.Tends.{is_tended}
 
 -- a line with its end
 abbrev pub with_end : List ℕ → List ℕ
@@ -24,6 +27,20 @@ get_instruction worker key = codes "get " ++ decimal worker ++ codes " k" ++ dec
 -- the line that puts an item for a key, whose label is 0
 abbrev pub set_instruction : ℕ → List ℕ
 set_instruction key = codes "set k" ++ decimal key ++ codes " 0 0"
+
+-- the line that pulls the last item of a list
+abbrev pub pull_instruction : Tail → List ℕ
+pull_instruction Hot = codes "pull 0 hot"
+pull_instruction Warm = codes "pull 0 warm"
+pull_instruction Cold = codes "pull 0 cold"
+pull_instruction Evict = codes "pull 0 evict"
+
+abbrev pub IsPull : Tail → List ℕ → Type 0
+IsPull tail line = line ≡ pull_instruction tail
+
+-- a line that balances the lists: it pulls the last item of HOT or that of WARM
+abbrev pub IsBalance : List ℕ → Type 0
+IsBalance line = IsPull Hot line ⊎ IsPull Warm line
 
 -- a line that gets no item and puts none
 abbrev pub is_upkeep : List ℕ → Bool
@@ -44,28 +61,45 @@ pub record Adds (Kind : List ℕ → Type 0) (most : ℕ) (old new : List ℕ) :
 abbrev pub most_before : ℕ
 most_before = 15
 
--- Behind a text an item was put for the key. At most so many lines of upkeep stand before that, and so many behind it.
-abbrev pub AddsPut : ℕ → ℕ → List ℕ → List ℕ → Type 0
-AddsPut key most old new = (before : List ℕ) × Adds IsUpkeep most_before old before
-    × Adds IsUpkeep most (before ++ with_end (set_instruction key)) new
+-- at most so many lines balance the lists behind a put
+abbrev pub most_behind : ℕ
+most_behind = 16
+
+-- Behind a text an item was put for the key. At most so many lines of upkeep stand before that, and then the lists may be
+-- balanced.
+abbrev pub AddsPut : ℕ → List ℕ → List ℕ → Type 0
+AddsPut key old new = (before : List ℕ) × Adds IsUpkeep most_before old before
+    × Adds IsBalance most_behind (before ++ with_end (set_instruction key)) new
 
 -- Behind a text the lines of an access were written: a get of its key by this worker, or one put of an item for the key.
--- At most so many lines of upkeep are behind that.
-abbrev pub AddsAccess : ℕ → ℕ → ℕ → List ℕ → List ℕ → Type 0
-AddsAccess worker key most old new = Adds IsUpkeep most (old ++ with_end (get_instruction worker key)) new
-    ⊎ AddsPut key most old new
+abbrev pub AddsAccess : ℕ → ℕ → List ℕ → List ℕ → Type 0
+AddsAccess worker key old new = (new ≡ old ++ with_end (get_instruction worker key)) ⊎ AddsPut key old new
 
--- Behind a text the lines of these accesses were written, in order. The workers take turns, and it is the turn of the
--- one of this place.
-abbrev pub AddsRun : ℕ → ℕ → ℕ → List ℕ → List ℕ → List ℕ → Type 0
-AddsRun workers most place [] old new = new ≡ old
-AddsRun workers most place (key ∷ keys) old new = (between : List ℕ)
-    × AddsAccess (place % workers) key most old between × AddsRun workers most (place + 1) keys between new
+-- the first lines of a tend: the bumps that wait are applied, and the chunks of ended items come free
+abbrev pub tend_instructions : List ℕ
+tend_instructions = with_end (codes "drain") ++ with_end (codes "sweep 0")
 
--- At most so many lines of upkeep stand behind the get or the put of an access: the lists are balanced by at most 16, and
--- the cache is tended by at most 202.
-abbrev pub most_behind : ℕ
-most_behind = 218
+-- at most so many lines balance the lists in a tend
+abbrev pub most_tending : ℕ
+most_tending = 200
+
+-- behind a text the lines of a tend were written, if the cache is tended, and else none
+abbrev pub AddsTend : Bool → List ℕ → List ℕ → Type 0
+AddsTend true old new = Adds IsBalance most_tending (old ++ tend_instructions) new
+AddsTend false old new = new ≡ old
+
+-- behind a text the lines of an access were written, and then those of a tend, if the cache is tended
+abbrev pub AddsTended : ℕ → ℕ → Bool → List ℕ → List ℕ → Type 0
+AddsTended worker key is_tended old new = (between : List ℕ) × AddsAccess worker key old between
+    × AddsTend is_tended between new
+
+-- Behind a text the lines of these accesses were written, in order, the first of which has this place in the plan's run.
+-- The workers take turns, and the cache is tended behind those at whose times it is due.
+abbrev pub AddsRun : Plan → List ℕ → ℕ → List ℕ → List ℕ → List ℕ → Type 0
+AddsRun plan times place [] old new = new ≡ old
+AddsRun plan times place (key ∷ keys) old new = (between : List ℕ)
+    × AddsTended (place % max plan.config.readers 1) key (is_tended plan.tending times place) old between
+    × AddsRun plan times (place + 1) keys between new
 
 -- the first lines of a plan's trace: what the store is
 abbrev pub header : Plan → List ℕ
@@ -73,18 +107,18 @@ header plan =
     codes "store " ++ decimal plan.config.readers ++ codes " " ++ decimal plan.config.ring ++ codes " " ++ decimal cache_refs
     ++ codes " 1\nclass " ++ decimal (plan.config.items + plan.config.spare) ++ codes " 0 0\n"
 
--- a text that tells what the store of a plan is, and then the first so many accesses
-abbrev pub TellsFirst : Plan → ℕ → List ℕ → List ℕ → Type 0
-TellsFirst plan count accesses text = AddsRun (max plan.config.readers 1) most_behind 0 (take count accesses) (header plan) text
+-- a text that tells what the store of a plan is, and then the first so many accesses, which have these times
+abbrev pub TellsFirst : Plan → ℕ → List ℕ → List ℕ → List ℕ → Type 0
+TellsFirst plan count accesses times text = AddsRun plan times 0 (take count accesses) (header plan) text
 
 -- the text of a whole run: what the store is, all accesses, and at last all that the store has
-abbrev pub IsTraceOf : Plan → List ℕ → List ℕ → Type 0
-IsTraceOf plan accesses text = (run : List ℕ) × TellsFirst plan (length accesses) accesses run
+abbrev pub IsTraceOf : Plan → List ℕ → List ℕ → List ℕ → Type 0
+IsTraceOf plan accesses times text = (run : List ℕ) × TellsFirst plan (length accesses) accesses times run
     × (text ≡ run ++ with_end (codes "show"))
 
 -- some of the first accesses have more lines than a trace may have, with what stands around them
-abbrev pub HasTooLong : Plan → List ℕ → Type 0
-HasTooLong plan accesses = (count : ℕ) × (run : List ℕ) × TellsFirst plan count accesses run
+abbrev pub HasTooLong : Plan → List ℕ → List ℕ → Type 0
+HasTooLong plan accesses times = (count : ℕ) × (run : List ℕ) × TellsFirst plan count accesses times run
     × (most_bytes < length (run ++ with_end (codes "show")))
 
 -- a fault of the calls that are made: memory was refused, or the World refused a call

@@ -1,8 +1,8 @@
 //! What a cache does at an access, and where it is tended.
-ghost use Rattle.std.specs.Prelude.{◌+◌, ◌*◌, ◌%◌, ◌<◌, IfOk, IfErr, OnOk, length, max};
+ghost use Rattle.std.specs.Prelude.{◌+◌, ◌*◌, ◌%◌, ◌<◌, ◌++◌, IfOk, IfErr, OnOk, length, max};
 ghost use Rattle.cache_lists.specs.Rescues.{most_rescues};
-ghost use Rattle.replay_runs.specs.Writing.{IsUpkeep, Adds, AddsPut, AddsAccess, IsTraceOf};
-ghost use Rattle.replay_runs.specs.Writing.{IsOfCalls, IsOfPut, most_before, most_behind};
+ghost use Rattle.replay_runs.specs.Writing.{IsUpkeep, IsBalance, Adds, AddsPut, AddsAccess, AddsTended, IsTraceOf};
+ghost use Rattle.replay_runs.specs.Writing.{IsOfCalls, IsOfPut, most_before, most_tending, tend_instructions};
 ghost use Rattle.replay_runs.specs.Faults.{IsOfTraceWriting};
 
 use crate::asked::time_at;
@@ -91,7 +91,7 @@ fn make_room(scribe: &mut Scribe, plan: &Plan) -> Result<(), ReplayFault>
 // Puts an item for a key that has none.
 fn place(scribe: &mut Scribe, plan: &Plan, key: u32) -> Result<(), ReplayFault>
     requires part { 0 < plan.now.config.parts }
-    ensures text { OnOk result (AddsPut key 16 scribe.old.text.items scribe.new.text.items) }
+    ensures text { OnOk result (AddsPut key scribe.old.text.items scribe.new.text.items) }
     ensures fault { IfErr result (IsOfPut plan.now) }
 {
     make_room(scribe, plan)?;
@@ -105,7 +105,7 @@ fn place(scribe: &mut Scribe, plan: &Plan, key: u32) -> Result<(), ReplayFault>
 
 // Looks at the last items of HOT and of WARM; whether one goes on.
 fn look(scribe: &mut Scribe, hot: Bound, warm: Bound) -> Result<bool, ReplayFault>
-    ensures text { OnOk result (Adds IsUpkeep 2 scribe.old.text.items scribe.new.text.items) }
+    ensures text { OnOk result (Adds IsBalance 2 scribe.old.text.items scribe.new.text.items) }
     ensures fault { IfErr result IsOfCalls }
 {
     let hot = scribe.pull_past(Tail::Hot, hot)?;
@@ -117,7 +117,7 @@ fn look(scribe: &mut Scribe, hot: Bound, warm: Bound) -> Result<bool, ReplayFaul
 // nor do those behind it.
 fn balance(scribe: &mut Scribe, plan: &Plan, count: u32) -> Result<(), ReplayFault>
     requires part { 0 < plan.now.config.parts }
-    ensures text { OnOk result (Adds IsUpkeep (2 * count) scribe.old.text.items scribe.new.text.items) }
+    ensures text { OnOk result (Adds IsBalance (2 * count) scribe.old.text.items scribe.new.text.items) }
     ensures fault { IfErr result IsOfCalls }
 {
     let bounds = plan.config.bounds(0);
@@ -134,7 +134,8 @@ fn balance(scribe: &mut Scribe, plan: &Plan, count: u32) -> Result<(), ReplayFau
 // Tends the cache.
 fn tend(scribe: &mut Scribe, plan: &Plan) -> Result<(), ReplayFault>
     requires part { 0 < plan.now.config.parts }
-    ensures text { OnOk result (Adds IsUpkeep 202 scribe.old.text.items scribe.new.text.items) }
+    ensures text { OnOk result (Adds IsBalance most_tending (scribe.old.text.items ++ tend_instructions)
+        scribe.new.text.items) }
     ensures fault { IfErr result IsOfCalls }
 {
     scribe.drain()?;
@@ -146,7 +147,7 @@ fn tend(scribe: &mut Scribe, plan: &Plan) -> Result<(), ReplayFault>
 // A key is got, and put where it has no item.
 fn get_or_put(scribe: &mut Scribe, plan: &Plan, worker: u32, key: u32) -> Result<(), ReplayFault>
     requires part { 0 < plan.now.config.parts }
-    ensures text { OnOk result (AddsAccess worker key 16 scribe.old.text.items scribe.new.text.items) }
+    ensures text { OnOk result (AddsAccess worker key scribe.old.text.items scribe.new.text.items) }
     ensures fault { IfErr result (IsOfPut plan.now) }
 {
     if scribe.get(worker, key)? {
@@ -162,16 +163,14 @@ fn write_access(
     plan: &Plan,
     place: usize,
     key: u32,
-    time: u64,
+    is_time: bool,
 ) -> Result<(), ReplayFault>
     requires part { 0 < plan.now.config.parts }
-    ensures text { OnOk result (AddsAccess (place % max plan.now.config.readers 1) key most_behind
+    ensures text { OnOk result (AddsTended (place % max plan.now.config.readers 1) key is_time
         scribe.old.text.items scribe.new.text.items) }
     ensures fault { IfErr result (IsOfPut plan.now) }
 {
-    scribe.begin_access(plan, place, time);
     get_or_put(scribe, plan, plan.reader_at(place), key)?;
-    let is_time = scribe.is_time();
     if !is_time {
         return Ok(());
     }
@@ -191,13 +190,20 @@ pub(crate) fn write_trace(
 ) -> Result<Vec<u8>, ReplayFault>
     requires some { 0 < length config.now.classes }
     requires part { 0 < plan.now.config.parts }
-    ensures text { IfOk result (λ text. IsTraceOf plan.now accesses.now text.items) }
-    ensures fault { IfErr result (IsOfTraceWriting plan.now accesses.now) }
+    ensures text { IfOk result (λ text. IsTraceOf plan.now accesses.now times.now text.items) }
+    ensures fault { IfErr result (IsOfTraceWriting plan.now accesses.now times.now) }
 {
     let mut scribe = Scribe::new(alloc, keys, plan, config)?;
+    let mut tended = 0;
     for place in 0..accesses.len() {
+        let time = time_at(times, place);
+        let is_time = plan.is_time(place, time, tended);
+        scribe.set_time(time);
         let key = accesses[place];
-        write_access(&mut scribe, plan, place, key, time_at(times, place))?;
+        write_access(&mut scribe, plan, place, key, is_time)?;
+        if is_time {
+            tended = time;
+        }
         if scribe.is_long() {
             return Err(ReplayFault::Long);
         }

@@ -1,6 +1,6 @@
 //! What an access log asks of a cache.
 ghost use Rattle.std.specs.Prelude.{◌≡◌, slice_index_or};
-ghost use Rattle.replay_runs.specs.Asked.{expires_by, operation_at};
+ghost use Rattle.replay_runs.specs.Asked.{expires_by, operation_at, time_at};
 
 use access_logs::Operation;
 
@@ -23,7 +23,7 @@ pub struct Asked<'a> {
 
 /// An access's time: that of its place, and where there is none the place itself.
 pub(crate) fn time_at(times: &[u64], place: usize) -> u64
-    ensures { result ≡ slice_index_or times.now place place }
+    ensures { result ≡ time_at times.now place }
 {
     match times.get(place) {
         Some(time) => *time,
@@ -44,15 +44,14 @@ impl Asked<'_> {
 
     /// The time of an access, by its place.
     pub fn time(&self, place: usize) -> u64
-        ensures { result ≡ slice_index_or self.now.times.now place place }
+        ensures { result ≡ time_at self.now.times.now place }
     {
         time_at(self.times, place)
     }
 
     /// When what is put at a place expires: 0 where it never does. A time past the last one is the last one.
     pub fn expires(&self, place: usize) -> u64
-        ensures { result ≡ expires_by (slice_index_or self.now.ttls.now place 0)
-            (slice_index_or self.now.times.now place place) }
+        ensures { result ≡ expires_by (slice_index_or self.now.ttls.now place 0) (time_at self.now.times.now place) }
     {
         match self.ttls.get(place) {
             Some(0) | None => 0,

@@ -1,6 +1,6 @@
-//! An access log's runs through a cache. Each access is a get of its key, and what isn't there is put: `replay` counts
-//! what that comes to, and `trace_of` writes it as a trace, whose lines make the calls that the cache makes where one
-//! thread has it. What is written is run on a World before it is given to anybody.
+//! An access log's runs through a cache: `replay` does what the log asks for, and counts what its gets come to, of which
+//! each that finds nothing is followed by a put; and `trace_of` writes a log of gets as a trace, whose lines make the calls
+//! that the cache makes where one thread has it. What is written is run on a World before it is given to anybody.
 #![tactic(auto)]
 
 mod accesses;

@@ -1,6 +1,7 @@
 //! How an access log is run.
 ghost use Rattle.std.specs.Prelude.{◌≡◌, ◌+◌, ◌%◌, ◌<◌, None, IfOk, OnOk, IfErr, length, max};
 ghost use Rattle.replay_runs.specs.Faults.{RefusesStore, plan_fault, plan_fault_by};
+ghost use Rattle.replay_runs.specs.Tends.{is_due};
 
 use crate::faults::ReplayFault;
 use bump_cache::{CacheConfig, Config};
@@ -29,7 +30,9 @@ pub struct Plan {
 impl Plan {
     // Whether the cache is tended behind the access with this place, from 0, and this time. The last tend's time was
     // `tended`, which counts only if there was one.
-    pub(crate) fn is_time(&self, place: usize, now: u64, tended: u64) -> bool {
+    pub(crate) fn is_time(&self, place: usize, now: u64, tended: u64) -> bool
+        ensures { result ≡ is_due self.now.tending place now tended }
+    {
         match self.tending {
             Tending::Accesses(count) => place % count.max(1) as usize == 0,
             Tending::Ticks(ticks) => place == 0 || now.saturating_sub(tended) >= ticks,

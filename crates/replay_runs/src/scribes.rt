@@ -1,8 +1,8 @@
 //! A trace that is written line by line, each of which is made on a World at once.
 ghost use Rattle.std.specs.Prelude.{◌≡◌, ◌<◌, ◌∷◌, ◌++◌, [], true, false, length, codes, IfOk, IfErr, IfSome, OnOk};
 ghost use Rattle.bump_trace.specs.Runs.{most_bytes};
-ghost use Rattle.replay_runs.specs.Writing.{with_end, get_instruction, set_instruction, header, is_upkeep, IsUpkeep, Adds};
-ghost use Rattle.replay_runs.specs.Writing.{IsOfCalls};
+ghost use Rattle.replay_runs.specs.Writing.{with_end, get_instruction, set_instruction, pull_instruction, header};
+ghost use Rattle.replay_runs.specs.Writing.{IsUpkeep, IsPull, Adds, IsOfCalls};
 
 use crate::faults::ReplayFault;
 use crate::plans::Plan;
@@ -22,10 +22,6 @@ pub(crate) struct Scribe {
     text: Vec<u8>,
     // the time of the access whose lines are written
     time: u64,
-    // whether the cache is tended behind it
-    is_time: bool,
-    // when it was tended last, if it was
-    tended: u64,
     // the key of the item that each chunk had last, by chunk
     key_of_chunk: Vec<u32>,
     // the item of each key that has one
@@ -52,7 +48,7 @@ fn header_of(alloc: Global, plan: &Plan) -> Result<Vec<u8>, ReplayFault>
 
 // The line of a pull.
 fn pull_line(tail: Tail) -> &'static str
-    ensures { is_upkeep result.now ≡ true }
+    ensures { result.now ≡ pull_instruction tail }
 {
     match tail {
         Tail::Hot => "pull 0 hot",
@@ -81,8 +77,6 @@ impl Scribe {
             world: World::new(alloc, config)?,
             text: header_of(alloc, plan)?,
             time: 0,
-            is_time: false,
-            tended: 0,
             key_of_chunk,
             items: HashMap::with_hasher(alloc, hasher),
             ring: plan.config.ring,
@@ -90,20 +84,11 @@ impl Scribe {
         })
     }
 
-    /// What is written from now on belongs to the access of the plan's run with this place and time.
-    pub(crate) fn begin_access(&mut self, plan: &Plan, place: usize, time: u64)
+    /// What is written from now on belongs to an access at this time.
+    pub(crate) fn set_time(&mut self, time: u64)
         ensures { self.new.text ≡ self.old.text }
     {
         self.time = time;
-        self.is_time = plan.is_time(place, time, self.tended);
-        if self.is_time {
-            self.tended = time;
-        }
-    }
-
-    /// Whether the cache is tended behind this access.
-    pub(crate) fn is_time(&self) -> bool {
-        self.is_time
     }
 
     /// The trace that was written.
@@ -252,7 +237,7 @@ impl Scribe {
 
     /// Frees the chunks of ended items that nobody holds.
     pub(crate) fn sweep(&mut self) -> Result<(), ReplayFault>
-        ensures text { OnOk result (Adds IsUpkeep 1 self.old.text.items self.new.text.items) }
+        ensures text { OnOk result (self.new.text.items ≡ self.old.text.items ++ with_end (codes "sweep 0")) }
         ensures fault { IfErr result IsOfCalls }
     {
         self.write("sweep 0")?;
@@ -262,7 +247,7 @@ impl Scribe {
 
     // Looks at the last item of a list; what came of it.
     fn pull(&mut self, tail: Tail) -> Result<Pulled, ReplayFault>
-        ensures text { OnOk result (Adds IsUpkeep 1 self.old.text.items self.new.text.items) }
+        ensures text { OnOk result (self.new.text.items ≡ self.old.text.items ++ with_end (pull_instruction tail)) }
         ensures fault { IfErr result IsOfCalls }
     {
         self.write(pull_line(tail))?;
@@ -354,7 +339,7 @@ impl Scribe {
     /// Moves the last item of HOT or WARM on, where it is to go; whether it is. A pull that leaves it changes nothing, and
     /// the class of a trace has no limits by which it would be left: so no line is written then.
     pub(crate) fn pull_past(&mut self, tail: Tail, bound: Bound) -> Result<bool, ReplayFault>
-        ensures text { OnOk result (Adds IsUpkeep 1 self.old.text.items self.new.text.items) }
+        ensures text { OnOk result (Adds (IsPull tail) 1 self.old.text.items self.new.text.items) }
         ensures fault { IfErr result IsOfCalls }
     {
         if !self.goes_on(tail, bound) {
@@ -378,7 +363,7 @@ impl Scribe {
 
     /// Applies the bumps that wait, at most a ring's room of each worker.
     pub(crate) fn drain(&mut self) -> Result<(), ReplayFault>
-        ensures text { OnOk result (Adds IsUpkeep 1 self.old.text.items self.new.text.items) }
+        ensures text { OnOk result (self.new.text.items ≡ self.old.text.items ++ with_end (codes "drain")) }
         ensures fault { IfErr result IsOfCalls }
     {
         self.write("drain")?;

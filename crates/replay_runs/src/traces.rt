@@ -65,8 +65,8 @@ fn write_and_run(
     ensures no_fault { IfOk result (λ it. (verdict_of it.text.items).is_fault ≡ false) }
     ensures size { IfOk result (λ it. length it.text.items ≤ most_bytes) }
     ensures hits { IfOk result (λ it. it.hits ≡ hits_told (verdict_of it.text.items).text) }
-    ensures accesses { IfOk result (λ it. IsTraceOf plan.now accesses.now it.text.items) }
-    ensures fault { IfErr result (IsOfTracing plan.now accesses.now) }
+    ensures accesses { IfOk result (λ it. IsTraceOf plan.now accesses.now times.now it.text.items) }
+    ensures fault { IfErr result (IsOfTracing plan.now accesses.now times.now) }
 {
     let text = write_trace(alloc, keys, plan, config, accesses, times)?;
     let told = told_by_model(alloc, keys, &text)?;
@@ -97,9 +97,9 @@ pub fn trace_of(
     ensures no_fault { IfOk result (λ it. (verdict_of it.text.items).is_fault ≡ false) }
     ensures size { IfOk result (λ it. length it.text.items ≤ most_bytes) }
     ensures hits { IfOk result (λ it. it.hits ≡ hits_told (verdict_of it.text.items).text) }
-    ensures accesses { IfOk result (λ it. IsTraceOf plan.now accesses.now it.text.items) }
+    ensures accesses { IfOk result (λ it. IsTraceOf plan.now accesses.now times.now it.text.items) }
     ensures allowed { OnOk result (plan_fault plan.now ≡ None) }
-    ensures refused { IfErr result (Refuses (plan_fault plan.now) plan.now accesses.now) }
+    ensures refused { IfErr result (Refuses (plan_fault plan.now) plan.now accesses.now times.now) }
 {
     let config = match plan.store(alloc) {
         Ok(config) => config,

@@ -59,6 +59,9 @@ const WITHOUT_COLD: &str =
 const BUMPED: &str =
     "store 1 1 1023 1\nclass 4 0 0\nset k1 0 0\ndrain\nsweep 0\npull 0 hot\nset k2 0 0\nget 0 k1\nget 0 k2\nset k9 0 0\ndrain\nsweep 0\npull 0 hot\npull 0 hot\nget 0 k1\nget 0 k2\ndrain\npull 0 cold\npull 0 evict\nset k3 0 0\nshow\n";
 
+const BY_TICKS: &str =
+    "store 1 4 1023 1\nclass 6 0 0\nset k1 0 0\ndrain\nsweep 0\nset k2 0 0\nset k3 0 0\ndrain\nsweep 0\nset k4 0 0\nset k5 0 0\ndrain\nsweep 0\nshow\n";
+
 #[test]
 fn one_key(rt: HostRuntime) -> Result<(), Fail> {
     let keys = RandomState::new(&rt)?;
@@ -102,6 +105,22 @@ fn put_applies_the_bumps_that_wait(rt: HostRuntime) -> Result<(), Fail> {
     let trace = trace_of(rt.alloc(), keys, &one, &[1, 2, 1, 2, 9, 1, 2, 3], &[])?;
     expect(&rt, &trace, 4, BUMPED);
     assert!(rt; trace.hits.first == 2 && trace.hits.queued == 1 && trace.hits.full == 1);
+    Ok(())
+}
+
+// A tend is due 10 ticks behind the last one, not 10 behind the access before.
+#[test]
+fn tends_stand_where_they_are_due(rt: HostRuntime) -> Result<(), Fail> {
+    let mut by_ticks = plan(5, 100, 0, 1);
+    by_ticks.tending = Tending::Ticks(10);
+    let trace = trace_of(
+        rt.alloc(),
+        RandomState::new(&rt)?,
+        &by_ticks,
+        &[1, 2, 3, 4, 5],
+        &[100, 103, 110, 119, 140],
+    )?;
+    expect(&rt, &trace, 0, BY_TICKS);
     Ok(())
 }
 

@@ -1,10 +1,10 @@
 use Rattle.std.proofs.Common.{◌+◌, ◌*◌, arith, refl}
-use Rattle.replay_runs.specs.Writing.{IsUpkeep}
+use Rattle.replay_runs.specs.Writing.{IsBalance}
 use Rattle.replay_runs.proofs.WritingLemmas.{adds_none, adds_both, adds_fewer}
 use Rattle.replay_runs.proofs.accesses.balance.Goals as goal
 
 pub loop-init : goal.loop-init
-loop-init c = adds_none IsUpkeep (2 * 0) _ _ refl
+loop-init c = adds_none IsBalance (2 * 0) _ _ refl
 
 pub returns-then-not-branch-clause-text : goal.returns-then-not-branch-clause-text
 returns-then-not-branch-clause-text c =

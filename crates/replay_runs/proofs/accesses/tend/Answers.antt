@@ -1,7 +1,13 @@
-use Rattle.std.proofs.Common.{arith}
-use Rattle.replay_runs.proofs.WritingLemmas.{adds_both, adds_fewer}
+use Rattle.std.proofs.Common.{◌≡◌, ◌++◌, ◌∙◌, List, ℕ, ap, arith, append_assoc, codes, subst}
+use Rattle.replay_runs.specs.Writing.{IsBalance, Adds, most_tending, tend_instructions, with_end}
+use Rattle.replay_runs.proofs.WritingLemmas.{adds_fewer}
 use Rattle.replay_runs.proofs.accesses.tend.Goals as goal
 
 pub returns-clause-text : goal.returns-clause-text
 returns-clause-text c =
-    adds_fewer 202 (omega arith) (adds_both (adds_both c.in_ok-drain.ensures.text c.in_ok-sweep.ensures.text) c.in_ok-balance.ensures.text)
+    let old = c.args.scribe.now.text.items in
+    let first : c.sweep.new.self.text.items ≡ old ++ tend_instructions =
+    c.in_ok-sweep.ensures.text ∙ ap (λ (t : List ℕ). t ++ with_end (codes "sweep 0")) c.in_ok-drain.ensures.text
+    ∙ append_assoc old (with_end (codes "drain")) (with_end (codes "sweep 0")) in
+    subst (λ (t : List ℕ). Adds IsBalance most_tending t c.balance.new.scribe.text.items) first
+    (adds_fewer most_tending (omega arith) c.in_ok-balance.ensures.text)
