@@ -98,7 +98,7 @@ def crates():
           "cache_part": (900, 268), "cache_shelf": (900, 216), "cache_making": (900, 164), "cache_readers": (1080, 240), "cache_nests": (1080, 300),
           "pen_words": (1080, 360), "call_log": (900, 400), "entry_times": (1080, 410), "packed_words": (900, 460),
           "keyed_hash": (1080, 460), "bump_cache": (900, 112), "replay_runs": (900, 60), "bump_replay": (1080, 60),
-          "access_logs": (1080, 120), "replay_policies": (1080, 180)}
+          "access_logs": (1080, 120), "replay_policies": (1080, 180), "cache_handles": (760, 60), "byte_words": (760, 460)}
     down = [("bump_rules", "bump_links"), ("bump_state", "bump_rules"), ("bump_core", "bump_state"),
             ("bump_word", "bump_rules"), ("bump_steps", "bump_word"), ("bump_readers", "bump_steps"),
             ("bump_heads", "bump_readers"), ("bump_ring", "bump_readers"), ("bump_class", "bump_heads"),
@@ -108,11 +108,12 @@ def crates():
             ("cache_shelf", "cache_part"), ("cache_part", "cache_lists"),
             ("cache_readers", "cache_nests"), ("cache_nests", "pen_words"), ("cache_making", "cache_shelf"), ("bump_cache", "cache_making"),
             ("replay_runs", "bump_cache"),
-            ("bump_replay", "access_logs")]
+            ("bump_replay", "access_logs"), ("cache_handles", "bump_cache"), ("cache_handles", "bump_handles")]
     used = {"bump_core", "bump_store", "bump_c", "bumpsim", "bump_links", "bump_cache", "bump_replay"}
     boxes = [(x, y, 130, name, MOVE if name in used else STEP) for name, (x, y) in at.items()]
     arrows = [([(at[a][0] + 65, at[a][1] + 33), (at[b][0] + 65, at[b][1])], "", None) for a, b in down]
-    arrows += [([(460, 196), (500, 196), (500, 153)], "", None), ([(620, 76), (585, 76)], "", None),
+    arrows += [([(460, 196), (500, 196), (500, 153)], "", None), ([(620, 76), (585, 76)], "", None), ([(750, 76), (760, 76)], "", None),
+               ([(890, 476), (900, 476)], "", None),
                ([(900, 180), (750, 190)], "", None), ([(900, 336), (750, 262)], "", None), ([(1030, 284), (1080, 310)], "", None),
                ([(1030, 180), (1050, 180), (1050, 250), (1080, 250)], "", None),
                ([(1080, 76), (1030, 76)], "", None), ([(1210, 76), (1225, 76), (1225, 196), (1210, 196)], "", None),
