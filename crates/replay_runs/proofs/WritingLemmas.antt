@@ -1,15 +1,14 @@
 -- Texts to which lines are added.
-use Rattle.std.proofs.Common.{ℕ, suc, Bool, true, false, ◌+◌, ◌%◌, ◌≡◌, ◌≤◌, ◌<◌, max, List, [], ◌∷◌, ◌++◌, length, take, refl, sym, ap, subst, ◌∙◌, arith, append_assoc, append-nil, length-append, length-take, get_or, codes, if◌then◌else◌}
+use Rattle.std.proofs.Common.{ℕ, suc, Bool, true, false, ◌+◌, ◌%◌, ◌≡◌, ◌≤◌, ◌<◌, max, List, [], ◌∷◌, ◌++◌, length, take, refl, sym, ap, subst, inl, inr, ◌∙◌, arith, append_assoc, append-nil, length-append, length-take, get_or, codes, if◌then◌else◌}
 use Rattle.std.proofs.lemmas.List.Elements.{All-nil, All-cons, All-append, All-weaker}
 use Rattle.std.proofs.lemmas.Grind.{flat_map-append}
 use Rattle.std.proofs.lemmas.List.{take_more}
 use Rattle.bump_trace.specs.Runs.{most_bytes}
-use Rattle.bump_rules.specs.declared.places.Tail.{Tail}
-use Rattle.bump_rules.specs.declared.places.Tail.TheVariants.{Hot, Warm, Cold, Evict}
+use Rattle.bump_rules.specs.declared.places.Tail.TheVariants.{Hot}
 use Rattle.replay_runs.specs.Asked.{time_at}
 use Rattle.replay_runs.specs.Tends.{is_due, is_tended, last_tend}
 use Rattle.replay_runs.specs.declared.plans.Tending.{Tending}
-use Rattle.replay_runs.specs.Writing.{with_end, text_of, pull_instruction, tend_instructions, most_tending, IsUpkeep, IsBalance, Adds, AddsAccess, AddsTended, AddsRun, TellsFirst, HasTooLong}
+use Rattle.replay_runs.specs.Writing.{with_end, text_of, pull_instruction, tend_instructions, most_tending, IsBalance, Adds, AddsEnd, EndsInHot, AddsAccess, AddsAccessAndTend, AddsRun, TellsFirst, HasTooLong}
 use Rattle.replay_runs.specs.declared.plans.Plan.{Plan}
 
 -- nothing was added
@@ -61,23 +60,22 @@ adds_weaker {Kind} {Other} are added = record {
   few = added.few;
 }
 
--- a pull gets no item and puts none
-pub pull_is_upkeep : (tail : Tail) → IsUpkeep (pull_instruction tail)
-pull_is_upkeep Hot = refl
-pull_is_upkeep Warm = refl
-pull_is_upkeep Cold = refl
-pull_is_upkeep Evict = refl
+-- behind a pull of HOT an item ended, or there was none
+pub ends_in_hot : (ended : Bool) (old new : List ℕ) → (ended ≡ true → AddsEnd Hot old new)
+    → (ended ≡ false → new ≡ old ++ with_end (pull_instruction Hot)) → EndsInHot old new
+ends_in_hot true old new some none = inr (some refl)
+ends_in_hot false old new some none = inl (none refl)
 
 -- an access behind which the cache isn't tended
 pub not_tended : (worker key : ℕ) (is_tended : Bool) (old new : List ℕ) → is_tended ≡ false → AddsAccess worker key old new
-    → AddsTended worker key is_tended old new
+    → AddsAccessAndTend worker key is_tended old new
 not_tended worker key true old new is access = absurd (let u : ⊥ = cc is in u)
 not_tended worker key false old new is access = (new, access, refl)
 
 -- an access behind which it is
 pub tended : (worker key : ℕ) (is_tended : Bool) (old between new : List ℕ) → is_tended ≡ true
     → AddsAccess worker key old between → Adds IsBalance most_tending (between ++ tend_instructions) new
-    → AddsTended worker key is_tended old new
+    → AddsAccessAndTend worker key is_tended old new
 tended worker key true old between new is access behind = (between, access, behind)
 tended worker key false old between new is access behind = absurd (let u : ⊥ = cc is in u)
 
@@ -105,7 +103,16 @@ last_if_not_tended tending times place is =
 -- the lines of the access with this place, and of the tend behind it, if there is one
 abbrev pub AddsPlace : Plan → List ℕ → ℕ → List ℕ → List ℕ → ℕ → Type 0
 AddsPlace plan times key old new place =
-    AddsTended (place % max plan.config.readers 1) key (is_tended plan.tending times place) old new
+    AddsAccessAndTend (place % max plan.config.readers 1) key (is_tended plan.tending times place) old new
+
+-- the lines of an access, if its tend is written when one is due at its time
+pub place_is_told : (plan : Plan) (times : List ℕ) (place key : ℕ) (is_due : Bool) (old between new : List ℕ)
+    → is_due ≡ is_tended plan.tending times place → between ≡ old
+    → AddsAccessAndTend (place % max plan.config.readers 1) key is_due between new → AddsPlace plan times key old new place
+place_is_told plan times place key is_due old between new due same access =
+    let turn = place % max plan.config.readers 1 in
+    subst (λ (b : Bool). AddsAccessAndTend turn key b old new) due
+    (subst (λ (t : List ℕ). AddsAccessAndTend turn key is_due t new) same access)
 
 -- one more access behind a run
 run_and_access : (plan : Plan) (times : List ℕ) (place key : ℕ) (keys old between new : List ℕ)

@@ -1,11 +1,12 @@
 -- What the trace of a log's run has in its text: the lines of each access, in turn, and those of each tend.
-use Rattle.std.specs.Prelude.{ℕ, ◌+◌, ◌%◌, ◌≡◌, ◌≤◌, ◌<◌, ◌⊎◌, max, ⊤, Bool, true, false, not, ◌||◌, List, [], ◌∷◌, ◌++◌, All}
-use Rattle.std.specs.Prelude.{length, take, codes, decimal, nat_eq}
-use Rattle.std.specs.List.{flat_map, starts_with}
+use Rattle.std.specs.Prelude.{ℕ, ◌+◌, ◌%◌, ◌≡◌, ◌≤◌, ◌<◌, ◌⊎◌, max, ⊤, Bool, true, false, List, [], ◌∷◌, ◌++◌, All}
+use Rattle.std.specs.Prelude.{length, take, codes, decimal}
+use Rattle.std.specs.List.{flat_map}
 use Rattle.bump_rules.specs.declared.places.Tail.{Tail}
 use Rattle.bump_rules.specs.declared.places.Tail.TheVariants.{Hot, Warm, Cold, Evict}
 use Rattle.bump_rules.specs.Caches.{cache_refs}
 use Rattle.bump_trace.specs.Runs.{most_bytes}
+use Rattle.cache_lists.specs.Rescues.{most_rescues}
 use Rattle.cache_shelf.specs.Limits.{put_bumps}
 use Rattle.replay_runs.specs.declared.faults.ReplayFault.{ReplayFault}
 use Rattle.replay_runs.specs.declared.faults.ReplayFault.TheVariants as fault
@@ -35,19 +36,25 @@ pull_instruction Warm = codes "pull 0 warm"
 pull_instruction Cold = codes "pull 0 cold"
 pull_instruction Evict = codes "pull 0 evict"
 
+-- the line that ends a key's item
+abbrev pub del_instruction : ℕ → List ℕ
+del_instruction key = codes "del k" ++ decimal key
+
+-- the line by which the bumps that wait are applied
+abbrev pub drain_instruction : List ℕ
+drain_instruction = codes "drain"
+
+-- the line by which the chunks of ended items come free
+abbrev pub sweep_instruction : List ℕ
+sweep_instruction = codes "sweep 0"
+
+-- a line that pulls the last item of this list
 abbrev pub IsPull : Tail → List ℕ → Type 0
 IsPull tail line = line ≡ pull_instruction tail
 
 -- a line that balances the lists: it pulls the last item of HOT or that of WARM
 abbrev pub IsBalance : List ℕ → Type 0
 IsBalance line = IsPull Hot line ⊎ IsPull Warm line
-
--- a line that gets no item and puts none
-abbrev pub is_upkeep : List ℕ → Bool
-is_upkeep line = not (starts_with nat_eq line (codes "get ") || starts_with nat_eq line (codes "set "))
-
-abbrev pub IsUpkeep : List ℕ → Type 0
-IsUpkeep line = is_upkeep line ≡ true
 
 -- Behind a text some lines of a kind were written, at most so many.
 pub record Adds (Kind : List ℕ → Type 0) (most : ℕ) (old new : List ℕ) : Type 0 where
@@ -56,19 +63,47 @@ pub record Adds (Kind : List ℕ → Type 0) (most : ℕ) (old new : List ℕ) :
   pub kind : All Kind lines
   pub few : length lines ≤ most
 
--- At most so many lines of upkeep stand before the put of an access: one applies bumps, 8 rescue, at most 5 evict, and
--- one sweeps.
-abbrev pub most_before : ℕ
-most_before = 15
+-- behind a text a line may have been written
+abbrev pub AddsOrNot : List ℕ → List ℕ → List ℕ → Type 0
+AddsOrNot line old new = (new ≡ old) ⊎ (new ≡ old ++ with_end line)
+
+-- behind a text the last item of a list was pulled, and a key's item ended
+abbrev pub AddsEnd : Tail → List ℕ → List ℕ → Type 0
+AddsEnd tail old new = (key : ℕ) × (new ≡ (old ++ with_end (pull_instruction tail)) ++ with_end (del_instruction key))
+
+-- behind a text the last item of HOT was pulled, and ended if there was one
+abbrev pub EndsInHot : List ℕ → List ℕ → Type 0
+EndsInHot old new = (new ≡ old ++ with_end (pull_instruction Hot)) ⊎ AddsEnd Hot old new
+
+-- behind a text the last item of WARM was pulled and ended, or if there was none, that of HOT
+abbrev pub EndsInWarm : List ℕ → List ℕ → Type 0
+EndsInWarm old new = AddsEnd Warm old new ⊎ EndsInHot (old ++ with_end (pull_instruction Warm)) new
+
+-- behind a text the last item of COLD was evicted, or if there was none, that of WARM or HOT ended
+abbrev pub EndsInCold : List ℕ → List ℕ → Type 0
+EndsInCold old new = let between = old ++ with_end (pull_instruction Evict) in (new ≡ between) ⊎ EndsInWarm between new
+
+-- Behind a text the lines of an evict were written: at most so many pulls of COLD, which rescue, and then an item ends.
+abbrev pub AddsEvict : List ℕ → List ℕ → Type 0
+AddsEvict old new = (between : List ℕ) × Adds (IsPull Cold) most_rescues old between × EndsInCold between new
+
+-- behind a text those of an evict were written, or none
+abbrev pub AddsEvictOrNot : List ℕ → List ℕ → Type 0
+AddsEvictOrNot old new = (new ≡ old) ⊎ AddsEvict old new
+
+-- Behind a text the lines that make room for an item were written: bumps may be applied, then an item may be evicted, and
+-- then chunks may come free.
+abbrev pub AddsRoom : List ℕ → List ℕ → Type 0
+AddsRoom old new = (drained evicted : List ℕ) × AddsOrNot drain_instruction old drained × AddsEvictOrNot drained evicted
+    × AddsOrNot sweep_instruction evicted new
 
 -- at most so many lines balance the lists behind a put
 abbrev pub most_behind : ℕ
 most_behind = 16
 
--- Behind a text an item was put for the key. At most so many lines of upkeep stand before that, and then the lists may be
--- balanced.
+-- behind a text room was made and an item put for the key, and then the lists may be balanced
 abbrev pub AddsPut : ℕ → List ℕ → List ℕ → Type 0
-AddsPut key old new = (before : List ℕ) × Adds IsUpkeep most_before old before
+AddsPut key old new = (before : List ℕ) × AddsRoom old before
     × Adds IsBalance most_behind (before ++ with_end (set_instruction key)) new
 
 -- Behind a text the lines of an access were written: a get of its key by this worker, or one put of an item for the key.
@@ -77,7 +112,7 @@ AddsAccess worker key old new = (new ≡ old ++ with_end (get_instruction worker
 
 -- the first lines of a tend: the bumps that wait are applied, and the chunks of ended items come free
 abbrev pub tend_instructions : List ℕ
-tend_instructions = with_end (codes "drain") ++ with_end (codes "sweep 0")
+tend_instructions = with_end drain_instruction ++ with_end sweep_instruction
 
 -- at most so many lines balance the lists in a tend
 abbrev pub most_tending : ℕ
@@ -89,8 +124,8 @@ AddsTend true old new = Adds IsBalance most_tending (old ++ tend_instructions) n
 AddsTend false old new = new ≡ old
 
 -- behind a text the lines of an access were written, and then those of a tend, if the cache is tended
-abbrev pub AddsTended : ℕ → ℕ → Bool → List ℕ → List ℕ → Type 0
-AddsTended worker key is_tended old new = (between : List ℕ) × AddsAccess worker key old between
+abbrev pub AddsAccessAndTend : ℕ → ℕ → Bool → List ℕ → List ℕ → Type 0
+AddsAccessAndTend worker key is_tended old new = (between : List ℕ) × AddsAccess worker key old between
     × AddsTend is_tended between new
 
 -- Behind a text the lines of these accesses were written, in order, the first of which has this place in the plan's run.
@@ -98,7 +133,7 @@ AddsTended worker key is_tended old new = (between : List ℕ) × AddsAccess wor
 abbrev pub AddsRun : Plan → List ℕ → ℕ → List ℕ → List ℕ → List ℕ → Type 0
 AddsRun plan times place [] old new = new ≡ old
 AddsRun plan times place (key ∷ keys) old new = (between : List ℕ)
-    × AddsTended (place % max plan.config.readers 1) key (is_tended plan.tending times place) old between
+    × AddsAccessAndTend (place % max plan.config.readers 1) key (is_tended plan.tending times place) old between
     × AddsRun plan times (place + 1) keys between new
 
 -- the first lines of a plan's trace: what the store is

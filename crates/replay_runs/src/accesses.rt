@@ -1,8 +1,10 @@
 //! What a cache does at an access, and where it is tended.
 ghost use Rattle.std.specs.Prelude.{◌+◌, ◌*◌, ◌%◌, ◌<◌, ◌++◌, IfOk, IfErr, OnOk, length, max};
 ghost use Rattle.cache_lists.specs.Rescues.{most_rescues};
-ghost use Rattle.replay_runs.specs.Writing.{IsUpkeep, IsBalance, Adds, AddsPut, AddsAccess, AddsTended, IsTraceOf};
-ghost use Rattle.replay_runs.specs.Writing.{IsOfCalls, IsOfPut, most_before, most_tending, tend_instructions};
+ghost use Rattle.bump_rules.specs.declared.places.Tail.TheVariants.{Cold};
+ghost use Rattle.replay_runs.specs.Writing.{IsPull, IsBalance, Adds, AddsOrNot, AddsEvict, AddsEvictOrNot, AddsRoom, AddsPut};
+ghost use Rattle.replay_runs.specs.Writing.{AddsAccess, AddsAccessAndTend, IsTraceOf, IsOfCalls, IsOfPut};
+ghost use Rattle.replay_runs.specs.Writing.{drain_instruction, most_tending, tend_instructions};
 ghost use Rattle.replay_runs.specs.Faults.{IsOfTraceWriting};
 
 use crate::asked::time_at;
@@ -18,7 +20,7 @@ use std::hash::RandomState;
 
 // Applies the bumps that wait, as a put does. No line of a trace applies some of them and leaves others.
 fn drain_for_put(scribe: &mut Scribe, plan: &Plan) -> Result<(), ReplayFault>
-    ensures text { OnOk result (Adds IsUpkeep 1 scribe.old.text.items scribe.new.text.items) }
+    ensures text { OnOk result (AddsOrNot drain_instruction scribe.old.text.items scribe.new.text.items) }
     ensures fault { IfErr result (IsOfPut plan.now) }
 {
     if !scribe.has_waiting(0) {
@@ -33,7 +35,7 @@ fn drain_for_put(scribe: &mut Scribe, plan: &Plan) -> Result<(), ReplayFault>
 
 // Moves the last items of COLD to WARM, as long as they are ACTIVE, but not more than an evict rescues.
 fn rescue(scribe: &mut Scribe) -> Result<(), ReplayFault>
-    ensures text { OnOk result (Adds IsUpkeep most_rescues scribe.old.text.items scribe.new.text.items) }
+    ensures text { OnOk result (Adds (IsPull Cold) most_rescues scribe.old.text.items scribe.new.text.items) }
     ensures fault { IfErr result IsOfCalls }
 {
     for _ in 0..RESCUES {
@@ -46,7 +48,7 @@ fn rescue(scribe: &mut Scribe) -> Result<(), ReplayFault>
 
 // Evicts an item: behind the rescues the last of COLD ends, or of WARM where COLD is empty, or of HOT.
 fn evict(scribe: &mut Scribe) -> Result<(), ReplayFault>
-    ensures text { OnOk result (Adds IsUpkeep (most_rescues + 5) scribe.old.text.items scribe.new.text.items) }
+    ensures text { OnOk result (AddsEvict scribe.old.text.items scribe.new.text.items) }
     ensures fault { IfErr result IsOfCalls }
 {
     rescue(scribe)?;
@@ -62,7 +64,7 @@ fn evict(scribe: &mut Scribe) -> Result<(), ReplayFault>
 
 // Evicts an item where there are as many as there may be.
 fn evict_where_full(scribe: &mut Scribe, plan: &Plan) -> Result<(), ReplayFault>
-    ensures text { OnOk result (Adds IsUpkeep (most_rescues + 5) scribe.old.text.items scribe.new.text.items) }
+    ensures text { OnOk result (AddsEvictOrNot scribe.old.text.items scribe.new.text.items) }
     ensures fault { IfErr result IsOfCalls }
 {
     if scribe.linked() < u64::from(plan.config.items) {
@@ -76,7 +78,7 @@ fn evict_where_full(scribe: &mut Scribe, plan: &Plan) -> Result<(), ReplayFault>
 // free where none is. A put frees at most 64 of them, and a line of a trace all; but where one thread has a cache, none
 // of an ended item waits for a sweep that no bump holds.
 fn make_room(scribe: &mut Scribe, plan: &Plan) -> Result<(), ReplayFault>
-    ensures text { OnOk result (Adds IsUpkeep most_before scribe.old.text.items scribe.new.text.items) }
+    ensures text { OnOk result (AddsRoom scribe.old.text.items scribe.new.text.items) }
     ensures fault { IfErr result (IsOfPut plan.now) }
 {
     drain_for_put(scribe, plan)?;
@@ -163,15 +165,15 @@ fn write_access(
     plan: &Plan,
     place: usize,
     key: u32,
-    is_time: bool,
+    is_due: bool,
 ) -> Result<(), ReplayFault>
     requires part { 0 < plan.now.config.parts }
-    ensures text { OnOk result (AddsTended (place % max plan.now.config.readers 1) key is_time
+    ensures text { OnOk result (AddsAccessAndTend (place % max plan.now.config.readers 1) key is_due
         scribe.old.text.items scribe.new.text.items) }
     ensures fault { IfErr result (IsOfPut plan.now) }
 {
     get_or_put(scribe, plan, plan.reader_at(place), key)?;
-    if !is_time {
+    if !is_due {
         return Ok(());
     }
     tend(scribe, plan)?;
@@ -197,11 +199,11 @@ pub(crate) fn write_trace(
     let mut tended = 0;
     for place in 0..accesses.len() {
         let time = time_at(times, place);
-        let is_time = plan.is_time(place, time, tended);
+        let is_due = plan.is_due(place, time, tended);
         scribe.set_time(time);
         let key = accesses[place];
-        write_access(&mut scribe, plan, place, key, is_time)?;
-        if is_time {
+        write_access(&mut scribe, plan, place, key, is_due)?;
+        if is_due {
             tended = time;
         }
         if scribe.is_long() {

@@ -30,7 +30,7 @@ pub struct Plan {
 impl Plan {
     // Whether the cache is tended behind the access with this place, from 0, and this time. The last tend's time was
     // `tended`, which counts only if there was one.
-    pub(crate) fn is_time(&self, place: usize, now: u64, tended: u64) -> bool
+    pub(crate) fn is_due(&self, place: usize, now: u64, tended: u64) -> bool
         ensures { result ≡ is_due self.now.tending place now tended }
     {
         match self.tending {

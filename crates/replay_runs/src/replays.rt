@@ -159,7 +159,7 @@ fn run_all<N: Name + LogName, R: Wait>(
             expires: asked.expires(place),
         };
         count = follow(rt, opened, waits, asked.operation(place), turn, count);
-        if plan.is_time(place, now, tended) {
+        if plan.is_due(place, now, tended) {
             opened.cache.tend(rt, &mut opened.caller, now);
             waits.apply_all();
             tended = now;

@@ -1,8 +1,9 @@
 //! A trace that is written line by line, each of which is made on a World at once.
 ghost use Rattle.std.specs.Prelude.{◌≡◌, ◌<◌, ◌∷◌, ◌++◌, [], true, false, length, codes, IfOk, IfErr, IfSome, OnOk};
 ghost use Rattle.bump_trace.specs.Runs.{most_bytes};
-ghost use Rattle.replay_runs.specs.Writing.{with_end, get_instruction, set_instruction, pull_instruction, header};
-ghost use Rattle.replay_runs.specs.Writing.{IsUpkeep, IsPull, Adds, IsOfCalls};
+ghost use Rattle.bump_rules.specs.declared.places.Tail.TheVariants.{Cold, Evict};
+ghost use Rattle.replay_runs.specs.Writing.{with_end, get_instruction, set_instruction, pull_instruction};
+ghost use Rattle.replay_runs.specs.Writing.{drain_instruction, sweep_instruction, header, IsPull, Adds, AddsEnd, IsOfCalls};
 
 use crate::faults::ReplayFault;
 use crate::plans::Plan;
@@ -237,7 +238,7 @@ impl Scribe {
 
     /// Frees the chunks of ended items that nobody holds.
     pub(crate) fn sweep(&mut self) -> Result<(), ReplayFault>
-        ensures text { OnOk result (self.new.text.items ≡ self.old.text.items ++ with_end (codes "sweep 0")) }
+        ensures text { OnOk result (self.new.text.items ≡ self.old.text.items ++ with_end sweep_instruction) }
         ensures fault { IfErr result IsOfCalls }
     {
         self.write("sweep 0")?;
@@ -259,7 +260,7 @@ impl Scribe {
 
     /// Looks at the last item of COLD, which goes to WARM where it is ACTIVE; whether it went.
     pub(crate) fn rescue_last(&mut self) -> Result<bool, ReplayFault>
-        ensures text { OnOk result (Adds IsUpkeep 1 self.old.text.items self.new.text.items) }
+        ensures text { OnOk result (self.new.text.items ≡ self.old.text.items ++ with_end (pull_instruction Cold)) }
         ensures fault { IfErr result IsOfCalls }
     {
         let pulled = self.pull(Tail::Cold)?;
@@ -268,7 +269,7 @@ impl Scribe {
 
     /// Ends the last item of COLD; whether there was one.
     pub(crate) fn end_last_of_cold(&mut self) -> Result<bool, ReplayFault>
-        ensures text { OnOk result (Adds IsUpkeep 1 self.old.text.items self.new.text.items) }
+        ensures text { OnOk result (self.new.text.items ≡ self.old.text.items ++ with_end (pull_instruction Evict)) }
         ensures fault { IfErr result IsOfCalls }
     {
         let pulled = self.pull(Tail::Evict)?;
@@ -283,7 +284,9 @@ impl Scribe {
 
     /// Looks at the last item of HOT or WARM, and ends it; whether there was one.
     pub(crate) fn end_last_of(&mut self, tail: Tail) -> Result<bool, ReplayFault>
-        ensures text { OnOk result (Adds IsUpkeep 2 self.old.text.items self.new.text.items) }
+        ensures ended { IfOk result (λ ended. ended ≡ true → AddsEnd tail self.old.text.items self.new.text.items) }
+        ensures none { IfOk result (λ ended. ended ≡ false
+            → self.new.text.items ≡ self.old.text.items ++ with_end (pull_instruction tail)) }
         ensures fault { IfErr result IsOfCalls }
     {
         let pulled = self.pull(tail)?;
@@ -363,7 +366,7 @@ impl Scribe {
 
     /// Applies the bumps that wait, at most a ring's room of each worker.
     pub(crate) fn drain(&mut self) -> Result<(), ReplayFault>
-        ensures text { OnOk result (self.new.text.items ≡ self.old.text.items ++ with_end (codes "drain")) }
+        ensures text { OnOk result (self.new.text.items ≡ self.old.text.items ++ with_end drain_instruction) }
         ensures fault { IfErr result IsOfCalls }
     {
         self.write("drain")?;

@@ -1,8 +1,8 @@
-use Rattle.std.proofs.Common.{◌+◌, refl}
-use Rattle.cache_lists.specs.Rescues.{most_rescues}
-use Rattle.replay_runs.specs.Writing.{IsUpkeep}
-use Rattle.replay_runs.proofs.WritingLemmas.{adds_none}
+use Rattle.std.proofs.Common.{inl, inr, refl}
 use Rattle.replay_runs.proofs.accesses.evict_where_full.Goals as goal
 
 pub returns-then-linked-from-clause-text : goal.returns-then-linked-from-clause-text
-returns-then-linked-from-clause-text c = adds_none IsUpkeep (most_rescues + 5) _ _ refl
+returns-then-linked-from-clause-text c = inl refl
+
+pub returns-clause-text : goal.returns-clause-text
+returns-clause-text c = inr c.in_ok-evict.ensures.text

@@ -1,6 +1,7 @@
-use Rattle.replay_runs.specs.Writing.{IsUpkeep, Adds}
+use Rattle.bump_rules.specs.declared.places.Tail.TheVariants.{Cold}
+use Rattle.replay_runs.specs.Writing.{IsPull, Adds}
 use Rattle.replay_runs.proofs.accesses.rescue.Given as goal
 
 -- each rescue so far wrote a line
 abbrev pub invariant-loop : goal.invariant-loop
-invariant-loop l = Adds IsUpkeep l.counter l.fn.scribe.text.items l.scribe.text.items
+invariant-loop l = Adds (IsPull Cold) l.counter l.fn.scribe.text.items l.scribe.text.items

@@ -1,9 +1,9 @@
-use Rattle.std.proofs.Common.{◌≡◌, ◌+◌, ◌%◌, ◌∙◌, Bool, List, ℕ, max, take, length, get_or, ap, subst, sym, arith, vec_items}
+use Rattle.std.proofs.Common.{◌≡◌, ◌+◌, ◌∙◌, ℕ, take, length, get_or, ap, subst, sym, arith, vec_items}
 use Rattle.replay_runs.specs.Tends.{is_tended}
-use Rattle.replay_runs.specs.Writing.{header, AddsRun, AddsTended}
-use Rattle.replay_runs.proofs.WritingLemmas.{run_and_next, too_long, due_is_tended, last_if_tended, last_if_not_tended}
+use Rattle.replay_runs.specs.Writing.{header, AddsRun}
+use Rattle.replay_runs.proofs.WritingLemmas.{place_is_told, run_and_next, too_long, due_is_tended, last_if_tended, last_if_not_tended}
 use Rattle.replay_runs.proofs.accesses.write_trace.Goals as goal
-use Rattle.replay_runs.proofs.accesses.write_trace.Goals.{then-is_time, else-is_time}
+use Rattle.replay_runs.proofs.accesses.write_trace.Goals.{then-is_due, else-is_due}
 
 pub loop-place-preserved : goal.loop-place-preserved
 loop-place-preserved c =
@@ -11,17 +11,13 @@ loop-place-preserved c =
     let times = c.args.times.now in
     let place = c.loop-place.place in
     let key = get_or c.args.accesses.now place 0 in
-    let old = c.loop-place.scribe.text.items in
-    let new = c.write_access.new.scribe.text.items in
-    let due : c.is_time-is_time.result ≡ is_tended plan.tending times place =
-    c.is_time-is_time.ensures ∙ due_is_tended plan.tending times place _ _ c.time_at-time.ensures c.loop-place.invariant.1 in
-    let here = subst (λ (t : List ℕ). AddsTended (place % max plan.config.readers 1) key c.is_time-is_time.result t new)
-    (ap vec_items c.set_time.ensures) c.in_ok-write_access.ensures.text in
-    let access = subst (λ (b : Bool). AddsTended (place % max plan.config.readers 1) key b old new) due here in (
-      run_and_next plan times place c.args.accesses.now (header plan) old new (omega arith) c.loop-place.invariant.0 access,
-      elim c.if-is_time.branch [
-        | then-is_time w ↦ w.tended-is ∙ c.time_at-time.ensures ∙ sym (last_if_tended plan.tending times place (sym due ∙ w.if-is_time.true))
-        | else-is_time w ↦ w.tended-is ∙ c.loop-place.invariant.1 ∙ sym (last_if_not_tended plan.tending times place (sym due ∙ w.if-is_time.false))
+    let due : c.is_due-is_due.result ≡ is_tended plan.tending times place =
+    c.is_due-is_due.ensures ∙ due_is_tended plan.tending times place _ _ c.time_at-time.ensures c.loop-place.invariant.1 in
+    let access = place_is_told plan times place key _ _ _ _ due (ap vec_items c.set_time.ensures) c.in_ok-write_access.ensures.text in (
+      run_and_next plan times place c.args.accesses.now (header plan) _ _ (omega arith) c.loop-place.invariant.0 access,
+      elim c.if-is_due.branch [
+        | then-is_due w ↦ w.tended-is ∙ c.time_at-time.ensures ∙ sym (last_if_tended plan.tending times place (sym due ∙ w.if-is_due.true))
+        | else-is_due w ↦ w.tended-is ∙ c.loop-place.invariant.1 ∙ sym (last_if_not_tended plan.tending times place (sym due ∙ w.if-is_due.false))
       ],
     )
 
@@ -31,15 +27,10 @@ returns-then-is_long-clause-fault c =
     let times = c.args.times.now in
     let place = c.loop-place.place in
     let key = get_or c.args.accesses.now place 0 in
-    let old = c.loop-place.scribe.text.items in
-    let new = c.write_access.new.scribe.text.items in
-    let due : c.is_time-is_time.result ≡ is_tended plan.tending times place =
-    c.is_time-is_time.ensures ∙ due_is_tended plan.tending times place _ _ c.time_at-time.ensures c.loop-place.invariant.1 in
-    let here = subst (λ (t : List ℕ). AddsTended (place % max plan.config.readers 1) key c.is_time-is_time.result t new)
-    (ap vec_items c.set_time.ensures) c.in_ok-write_access.ensures.text in
-    let access = subst (λ (b : Bool). AddsTended (place % max plan.config.readers 1) key b old new) due here in
-    let run = run_and_next plan times place c.args.accesses.now (header plan) old new (omega arith) c.loop-place.invariant.0 access in
-    too_long plan (place + 1) c.args.accesses.now times new run (c.is_long.ensures c.if-is_long.true)
+    let due = c.is_due-is_due.ensures ∙ due_is_tended plan.tending times place _ _ c.time_at-time.ensures c.loop-place.invariant.1 in
+    let access = place_is_told plan times place key _ _ _ _ due (ap vec_items c.set_time.ensures) c.in_ok-write_access.ensures.text in
+    let run = run_and_next plan times place c.args.accesses.now (header plan) _ _ (omega arith) c.loop-place.invariant.0 access in
+    too_long plan (place + 1) c.args.accesses.now times _ run (c.is_long.ensures c.if-is_long.true)
 
 pub returns-clause-text : goal.returns-clause-text
 returns-clause-text c =
