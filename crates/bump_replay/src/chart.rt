@@ -226,27 +226,33 @@ impl<'a> Chart<'a> {
         )
     }
 
-    // A point for each size, and a line through them where there are several sizes.
-    fn put_line(&self, text: &mut String, subject: Subject) -> Result<(), AllocError> {
+    // Where a line's point of a row stands, where it was run.
+    fn point_of(&self, subject: Subject, row: &Row) -> Option<(Tenths, Tenths)> {
+        let share = subject.share_in(row)?;
+        let x = self.sizes.x_of(row.items);
+        Some((Tenths(x), Tenths(self.shares.y_of(share))))
+    }
+
+    // A line through the points.
+    fn put_path(&self, text: &mut String, subject: Subject) -> Result<(), AllocError> {
         let (color, width) = (subject.color(), subject.width());
-        if !self.sizes.is_point() {
-            write!(
-                text,
-                "<polyline fill=\"none\" stroke-width=\"{width}\" stroke=\"{color}\" points=\""
-            )?;
-            for row in self.rows {
-                if let Some(share) = subject.share_in(row) {
-                    let x = Tenths(self.sizes.x_of(row.items));
-                    let y = Tenths(self.shares.y_of(share));
-                    write!(text, "{x},{y} ")?;
-                }
-            }
-            writeln!(text, "\"/>")?;
-        }
+        write!(
+            text,
+            "<polyline fill=\"none\" stroke-width=\"{width}\" stroke=\"{color}\" points=\""
+        )?;
         for row in self.rows {
-            if let Some(share) = subject.share_in(row) {
-                let x = Tenths(self.sizes.x_of(row.items));
-                let y = Tenths(self.shares.y_of(share));
+            if let Some((x, y)) = self.point_of(subject, row) {
+                write!(text, "{x},{y} ")?;
+            }
+        }
+        writeln!(text, "\"/>")
+    }
+
+    // The points.
+    fn put_points(&self, text: &mut String, subject: Subject) -> Result<(), AllocError> {
+        let (color, width) = (subject.color(), subject.width());
+        for row in self.rows {
+            if let Some((x, y)) = self.point_of(subject, row) {
                 writeln!(
                     text,
                     "<circle cx=\"{x}\" cy=\"{y}\" r=\"{width}\" fill=\"{color}\"/>"
@@ -254,6 +260,14 @@ impl<'a> Chart<'a> {
             }
         }
         Ok(())
+    }
+
+    // A point for each size, and a line through them where there are several sizes.
+    fn put_line(&self, text: &mut String, subject: Subject) -> Result<(), AllocError> {
+        if !self.sizes.is_point() {
+            self.put_path(text, subject)?;
+        }
+        self.put_points(text, subject)
     }
 
     // Where the names of the lines stand: at their ends, but so far apart that none lies over another.

@@ -105,20 +105,31 @@ fn file_arg<'a>(alloc: Global, name: &'a str, help: &'a str) -> Arg<'a> {
         .help(help)
 }
 
-// What says how a log is read.
-fn with_reading<'a>(alloc: Global, command: Command<'a>) -> Result<Command<'a>, AllocError> {
-    let file = Arg::new(alloc, "FILE")
+// The logs.
+fn files_arg<'a>(alloc: Global) -> Arg<'a> {
+    Arg::new(alloc, "FILE")
         .required(true)
         .num_args(1..)
-        .help("Access logs, or - for standard input");
-    let format = Arg::new(alloc, "format")
+        .help("Access logs, or - for standard input")
+}
+
+// What they look like.
+fn format_arg<'a>(alloc: Global) -> Arg<'a> {
+    Arg::new(alloc, "format")
         .long("format")
         .value_name("FORMAT")
         .value_parser(["lines", "csv", "twitter", "libcachesim"].as_slice())
         .default_value("lines")
-        .help("A key in each line, or CSV, or such CSV as Twitter's logs or libCacheSim's example");
+        .help("A key in each line, or CSV, or such CSV as Twitter's logs or libCacheSim's example")
+}
+
+// What says how a log is read.
+fn with_reading<'a>(alloc: Global, command: Command<'a>) -> Result<Command<'a>, AllocError> {
     let strict = flag_arg(alloc, "strict", "Ends at the first line that can't be read");
-    command.arg(file)?.arg(format)?.arg(strict)
+    command
+        .arg(files_arg(alloc))?
+        .arg(format_arg(alloc))?
+        .arg(strict)
 }
 
 // What says what the columns of CSV are.
