@@ -70,9 +70,9 @@ typedef struct bump_cache_config {
   uint32_t key_bytes;   /* the longest key: 0 to 1,024 */
   uint32_t value_bytes; /* the longest value: 0 to 1,048,576 */
   uint32_t items;       /* the most items: 1 to 1,000,000 */
-  uint32_t spare;       /* chunks beside theirs, at most 1,000,000 with them: for ended items that somebody holds */
-  uint32_t hot;         /* at most so many percent of the items are in HOT: with `warm` at most 100 */
-  uint32_t warm;        /* the same in WARM */
+  uint32_t spare;       /* chunks of each part beside those of its items, 1 or more: see below */
+  uint32_t hot;         /* HOT's share of the items in percent: past it balances move its last ones on, a few at a time, */
+  uint32_t warm;        /* so it may have more. The same of WARM, into which bumps move items; with `hot` at most 100 */
   uint32_t hot_age;     /* HOT's last item goes to COLD where it is older than so many percent of the age of COLD's */
   uint32_t warm_age;    /* the same of WARM's; BUMP_NONE for one of them: ages don't count there */
   uint32_t parts;       /* 1 to 16, and no more than items */
@@ -88,7 +88,7 @@ enum bump_cache_open_answer {
   BUMP_CACHE_OPEN_KEY_BYTES,   /* more than 1,024 */
   BUMP_CACHE_OPEN_VALUE_BYTES, /* more than 1,048,576 */
   BUMP_CACHE_OPEN_ITEMS,       /* not 1 to 1,000,000 */
-  BUMP_CACHE_OPEN_SPARE,       /* more than 1,000,000 with the items */
+  BUMP_CACHE_OPEN_SPARE,       /* 0, or multiplied by parts more than 1,000,000 with the items */
   BUMP_CACHE_OPEN_SHARES,      /* hot and warm are more than 100 percent */
   BUMP_CACHE_OPEN_PARTS,       /* not 1 to 16, or more than items */
   BUMP_CACHE_OPEN_READERS,     /* not 1 to 64, or more than 64 multiplied by parts */
@@ -97,7 +97,10 @@ enum bump_cache_open_answer {
 };
 
 /* The configuration as memcached has it: 20 and 40 percent, ages of 20 and 200, a ring of 8,192, nothing in TEMP; a
- * spare chunk for each 64 items and one for each reader, one part, 1,000 looks, no holds, and a seed of zeros. */
+ * part's spare chunk for each reader and one more, one part, 1,000 looks, no holds, and a seed of zeros.
+ * A put needs a free chunk, also where its key has an item; and an ended item keeps its chunk while a reader holds it. So
+ * with 1 + readers * (1 + holds) spare chunks BUMP_CACHE_PUT_NO_ROOM comes at most where a chunk has had its last of
+ * 4,294,967,295 items. With fewer it comes where readers hold as many ended items of a part. */
 bump_cache_config bump_cache_defaults(uint32_t items, uint32_t readers, uint32_t key_bytes, uint32_t value_bytes);
 
 /* Opens a cache, and puts it into `cache`, which is {0} before and stays so where it answers anything but
@@ -187,7 +190,7 @@ enum bump_cache_put_answer {
   BUMP_CACHE_PUT_DONE,
   BUMP_CACHE_PUT_HAS,         /* bump_cache_add: the key has something */
   BUMP_CACHE_PUT_NOTHING,     /* replace, update, touch: it has nothing, or what has expired */
-  BUMP_CACHE_PUT_NO_ROOM,     /* each chunk without an item is held by a reader, or by a bump that waits */
+  BUMP_CACHE_PUT_NO_ROOM,     /* each chunk without an item is held: readers hold more than `spare` is for */
   BUMP_CACHE_PUT_KEY_BYTES,   /* the key is longer than key_bytes */
   BUMP_CACHE_PUT_VALUE_BYTES, /* the value is longer than value_bytes */
   BUMP_CACHE_PUT_OTHER_PART   /* the key is of another part */

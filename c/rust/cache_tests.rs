@@ -22,6 +22,7 @@ fn faults_are_told() {
     assert_eq!(fault(Config { value_bytes: 1_048_577, ..sound }), Some(OpenFault::ValueBytes));
     assert_eq!(fault(Config { items: 0, ..sound }), Some(OpenFault::Items));
     assert_eq!(fault(Config { spare: 999_997, ..sound }), Some(OpenFault::Spare));
+    assert_eq!(fault(Config { spare: 0, ..sound }), Some(OpenFault::Spare));
     assert_eq!(fault(Config { hot: 61, ..sound }), Some(OpenFault::Shares));
     assert_eq!(fault(Config { parts: 5, ..sound }), Some(OpenFault::Parts));
     assert_eq!(fault(Config { readers: 65, ..sound }), Some(OpenFault::Readers));
@@ -32,14 +33,14 @@ fn faults_are_told() {
 #[test]
 fn the_configuration_is_memcacheds() {
     let c = Config::new(6401, 3, 10, 20);
-    assert_eq!((c.items, c.readers, c.key_bytes, c.value_bytes, c.spare), (6401, 3, 10, 20, 103));
+    assert_eq!((c.items, c.readers, c.key_bytes, c.value_bytes, c.spare), (6401, 3, 10, 20, 4));
     assert_eq!((c.hot, c.warm, c.hot_age, c.warm_age), (20, 40, Some(20), Some(200)));
     assert_eq!((c.seed, c.temporary, c.parts, c.ring, c.looks), ((0, 0), 0, 1, 8192, 1000));
 }
 
 #[test]
 fn all_parts_and_readers_are_there() {
-    let Opened { cache, readers } = open(&Config { parts: 3, ..config(9, 3) }).unwrap();
+    let Opened { cache, readers } = open(&Config { parts: 3, ..config(9, 1) }).unwrap();
     assert_eq!((cache.parts().map(|mut part| part.chunks()).collect::<Vec<_>>(), readers.len()), (vec![4; 3], 2));
     assert_eq!(cache.into_parts().len(), 3);
 }

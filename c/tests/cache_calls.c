@@ -57,8 +57,14 @@ static void faults(void) {
   FAULT(value_bytes, 16, BUMP_CACHE_OPEN_ITEMS);
   FAULT(items, 1000001, BUMP_CACHE_OPEN_ITEMS);
   FAULT(items, UINT32_MAX, BUMP_CACHE_OPEN_ITEMS);
+  c.parts = 1; /* all spare chunks together are too many where there is a part */
   FAULT(items, 3, BUMP_CACHE_OPEN_SPARE);
   FAULT(spare, 999998, BUMP_CACHE_OPEN_SPARE);
+  FAULT(spare, 0, BUMP_CACHE_OPEN_SPARE);
+  c.parts = 4;
+  FAULT(spare, 250000, BUMP_CACHE_OPEN_SPARE);
+  FAULT(spare, 1073741824, BUMP_CACHE_OPEN_SPARE); /* multiplied by 4 it is 2^32 */
+  c.parts = 0;
   FAULT(spare, 2, BUMP_CACHE_OPEN_SHARES);
   FAULT(warm, 1, BUMP_CACHE_OPEN_SHARES);
   FAULT(hot, 100, BUMP_CACHE_OPEN_SHARES);
@@ -83,11 +89,13 @@ static void faults(void) {
 static void configurations(void) {
   bump_cache_config d = bump_cache_defaults(6401, 3, 10, 20);
   HOLDS_THAT(bump_cache_defaults, d.items == 6401 && d.readers == 3 && d.key_bytes == 10 && d.value_bytes == 20);
-  HOLDS_THAT(bump_cache_defaults, d.seed_first == 0 && d.seed_second == 0 && d.temporary == 0 && d.spare == 103);
+  HOLDS_THAT(bump_cache_defaults, d.seed_first == 0 && d.seed_second == 0 && d.temporary == 0 && d.spare == 4);
   HOLDS_THAT(bump_cache_defaults, d.hot == 20 && d.warm == 40 && d.hot_age == 20 && d.warm_age == 200);
   HOLDS_THAT(bump_cache_defaults, d.parts == 1 && d.ring == 8192 && d.looks == 1000 && d.holds == 0);
   ANSWERS(bump_cache_open, open_with(&d), BUMP_CACHE_OPEN_DONE);
   d = bump_cache_defaults(1000000, 1, 0, 0);
+  ANSWERS(bump_cache_open, open_with(&d), BUMP_CACHE_OPEN_SPARE);
+  d.items = 999998;
   ANSWERS(bump_cache_open, open_with(&d), BUMP_CACHE_OPEN_DONE);
   d = bump_cache_defaults(16, 4, 1, 1);
   d.parts = 16;
@@ -397,7 +405,7 @@ static bool refuses_other(bump_cache_part *p, const char *key, size_t n) {
 /* Keys of four parts: each is of the one that bump_cache_part_of tells, by the seed. */
 static void parts(void) {
   enum { KEYS = 100 };
-  struct all a = open_all(config_of(4 * KEYS + 2, 7, 4));
+  struct all a = open_all(config_of(4 * KEYS + 2, 2, 4));
   bump_cache_config first = a.config, second = a.config;
   uint32_t others = 0, seconds = 0, of_part[4] = { 0 }, chunks = 0, found = 0;
   bool right = true;
@@ -424,13 +432,13 @@ static void parts(void) {
   ANSWERS(bump_cache_look, looked.answer, BUMP_CACHE_GET_NOTHING);
   looked = bump_cache_look(&a.part[part], "key 7", 5, read, VALUE, 1);
   ANSWERS(bump_cache_look, looked.answer, BUMP_CACHE_GET_FOUND);
-  /* each part has its share of items and of spare chunks: the first ones one more where they aren't even */
+  /* each part has its share of items, the first ones one more where they aren't even, and as many spare chunks */
   for (uint32_t k = 0; k < 4; k++) {
-    ANSWERS(bump_cache_chunks, bump_cache_chunks(&a.part[k]), KEYS + 1u + (k < 2 ? 1u : 0u) + (k < 3 ? 1u : 0u));
+    ANSWERS(bump_cache_chunks, bump_cache_chunks(&a.part[k]), KEYS + (k < 2 ? 1u : 0u) + 2u);
     chunks += bump_cache_chunks(&a.part[k]);
     for (uint32_t i = 0; i < chunks + 9; i++) found += bump_cache_each(&a.part[k], i, read, 0, read, 0, 1).found;
   }
-  HOLDS_THAT(bump_cache_chunks, chunks == 4 * KEYS + 2 + 7 && found == KEYS);
+  HOLDS_THAT(bump_cache_chunks, chunks == 4 * KEYS + 2 + 8 && found == KEYS);
   free_all(&a);
 }
 
@@ -685,10 +693,12 @@ static void hold_of_gets(uint32_t holds_of_program) {
 
 /* A put finds no room where each chunk without an item is held. */
 static void no_room(void) {
-  struct all a = open_all(config_of(1, 0, 1));
+  struct all a = open_all(config_of(1, 1, 1));
   bump_cache_part *p = &a.part[0];
   bump_cache_reader *r = &a.reader[0];
-  PUTS(BUMP_CACHE_PUT_DONE, bump_cache_put, "v", 1, FLAGS, 0, 1);
+  PUTS(BUMP_CACHE_PUT_DONE, bump_cache_put, "u", 1, FLAGS, 0, 1);
+  ANSWERS(bump_cache_hold, bump_cache_hold(r, 1, "k", 1, 1).answer, BUMP_CACHE_GET_FOUND);
+  PUTS(BUMP_CACHE_PUT_DONE, bump_cache_put, "v", 1, FLAGS, 0, 1); /* at the spare chunk */
   PUTS(BUMP_CACHE_PUT_NO_ROOM, bump_cache_put, "w", 1, 1, 0, 1);
   PUTS(BUMP_CACHE_PUT_NO_ROOM, bump_cache_replace, "w", 1, 1, 0, 1);
   PUTS(BUMP_CACHE_PUT_NO_ROOM, bump_cache_update, "w", 1, 1);
@@ -699,15 +709,15 @@ static void no_room(void) {
   bump_cache_put_told told = put(p, "l", "x", 0, 1);
   ANSWERS(bump_cache_put, told.answer, BUMP_CACHE_PUT_DONE);
   HOLDS_THAT(bump_cache_put, told.evicted && has(p, "k", NULL, 1) && has(p, "l", "x", 1));
-  ANSWERS(bump_cache_hold, bump_cache_hold(r, 1, "l", 1, 1).answer, BUMP_CACHE_GET_FOUND);
+  ANSWERS(bump_cache_hold, bump_cache_hold(r, 2, "l", 1, 1).answer, BUMP_CACHE_GET_FOUND);
   told = put(p, "k", "y", 0, 1);
   ANSWERS(bump_cache_put, told.answer, BUMP_CACHE_PUT_NO_ROOM);
-  HOLDS_THAT(bump_cache_put, told.evicted && has(p, "l", NULL, 1) && holds(r, 1, "x"));
+  HOLDS_THAT(bump_cache_put, told.evicted && has(p, "l", NULL, 1) && holds(r, 1, "u") && holds(r, 2, "x"));
   PUTS(BUMP_CACHE_PUT_NOTHING, bump_cache_replace, "y", 1, FLAGS, 0, 1); /* and this */
   PUTS(BUMP_CACHE_PUT_NOTHING, bump_cache_update, "y", 1, 1);
   PUTS(BUMP_CACHE_PUT_NOTHING, bump_cache_touch, 9, 1);
   PUTS(BUMP_CACHE_PUT_NO_ROOM, bump_cache_add, "y", 1, FLAGS, 0, 1);
-  ANSWERS(bump_cache_release, bump_cache_release(r, 1), true);
+  ANSWERS(bump_cache_release, bump_cache_release(r, 2), true);
   PUTS(BUMP_CACHE_PUT_DONE, bump_cache_add, "y", 1, FLAGS, 0, 1);
   /* a reader that is freed gives back what it holds */
   ANSWERS(bump_cache_hold, bump_cache_hold(r, 2, "k", 1, 1).answer, BUMP_CACHE_GET_FOUND);

@@ -106,12 +106,16 @@ static void check_puts(void) {
   check(put("a key of 17 bytes", "value", 5, 0, 1).answer == BUMP_CACHE_PUT_KEY_BYTES, "a key is too long");
   check(!get("a key of 17 bytes", read, VALUE, 1), "nothing is found under it");
   close_all();
-  open_all(1, 0, 1);
+  open_all(1, 1, 1);
   check(put("key", "one", 3, 0, 1).answer == BUMP_CACHE_PUT_DONE && get("key", read, VALUE, 1), "the first is put");
-  check(put("key", "two", 3, 0, 1).answer == BUMP_CACHE_PUT_NO_ROOM, "there is no room beside it");
+  check(put("key", "two", 3, 0, 1).answer == BUMP_CACHE_PUT_DONE, "there is room beside it");
+  check(bump_cache_hold(&reader, 1, "key", 3, 1).answer == BUMP_CACHE_GET_FOUND, "the second is put, and held");
+  check(put("key", "three", 5, 0, 1).answer == BUMP_CACHE_PUT_DONE, "there is room beside it");
+  check(put("key", "four", 4, 0, 1).answer == BUMP_CACHE_PUT_NO_ROOM, "one more is more than spare says");
   check(!get("key", read, VALUE, 1), "what is out of date is gone");
-  check(put("key", "two", 3, 0, 1).answer == BUMP_CACHE_PUT_DONE, "there is room then");
-  check(get("key", read, VALUE, 1) && memcmp(read, "two", 3) == 0, "the second is put");
+  check(bump_cache_release(&reader, 1), "what was held is given back");
+  check(put("key", "five", 4, 0, 1).answer == BUMP_CACHE_PUT_DONE, "there is room then");
+  check(get("key", read, VALUE, 1) && memcmp(read, "five", 4) == 0, "the last is put");
   close_all();
 }
 

@@ -179,7 +179,7 @@ static void change(uint32_t k, uint64_t *version, uint64_t turn, uint64_t time) 
     want(bump_cache_locks_look(&locks, key[k].text, key[k].length, &byte, 1, 0).answer == BUMP_CACHE_GET_NOTHING);
   } else if (turn % 4 == 1) {
     bump_cache_put_told told = bump_cache_locks_touch(&locks, key[k].text, key[k].length, time + 9, time);
-    want(!told.evicted && told.answer <= BUMP_CACHE_PUT_NO_ROOM);
+    want(!told.evicted && told.answer < BUMP_CACHE_PUT_NO_ROOM);
   } else {
     put(turn % 4 == 2 ? bump_cache_locks_put : bump_cache_locks_add, k, version, turn % 3 ? 0 : time + 1 + turn % 8);
   }
@@ -241,7 +241,7 @@ static bool open_all(void) {
   bump_cache_config config = bump_cache_defaults(ITEMS, READERS, KEY, VALUE);
   bump_cache cache = { 0 };
   config.parts = PARTS;
-  config.spare = 400;
+  config.spare = 1 + READERS * (1 + HOLDS); /* as many as readers can hold in a part, and one: each put finds room */
   config.ring = 64;
   config.looks = 40;
   config.temporary = 4;
@@ -298,7 +298,7 @@ int main(int count, char **words) {
   right &= sum.hits + sum.misses == gets / READERS * READERS;
   bump_cache_stats_of s = bump_cache_locks_stats(&locks);
   bump_cache_locks_free(&locks);
-  right &= atomic_load(&wrong) == 0;
+  right &= atomic_load(&wrong) == 0 && atomic_load(&refused) == 0;
   printf("%" PRIu64 " gets, %" PRIu64 " hits", sum.hits + sum.misses, sum.hits);
   printf(", %" PRIu64 " evicted, %" PRIu64 " expired", s.evicted, s.reclaimed + s.crawler_reclaimed);
   printf(", %" PRIu64 " puts without room, %" PRIu64 " wrong: ", atomic_load(&refused), atomic_load(&wrong));

@@ -9,8 +9,10 @@ import random
 import subprocess
 import sys
 import tempfile
-from collections import OrderedDict
 from pathlib import Path
+
+sys.dont_write_bytecode = True
+from policies import POLICIES
 
 MODEL = Path(__file__).resolve().parent / "aged_lists.py"
 ITEMS, TICKS = 100, 30
@@ -29,51 +31,36 @@ def made(seed, count, keys):
     return accesses
 
 
-class Plain:
-    """LRU or FIFO. What was removed or has expired isn't found; its place is taken until it is evicted."""
-
-    def __init__(self, moves):
-        self.moves, self.queue, self.lives, self.expires, self.last = moves, OrderedDict(), {}, {}, 0
-
-    def is_live(self, key, now):
-        return key in self.lives and (self.expires[key] == 0 or now < self.expires[key])
-
-    def use(self, life):
-        if life in self.queue:
-            if self.moves:
-                self.queue.move_to_end(life)
-            return True
-        if len(self.queue) == ITEMS:
-            self.queue.popitem(last=False)
-        self.queue[life] = None
-        return False
-
-    def put(self, key, now, ttl):
-        if not self.is_live(key, now):
-            self.last += 1
-            self.lives[key] = self.last
-        self.expires[key] = now + ttl if ttl else 0
-        self.use(self.lives[key])
-
-    def get(self, key, now, ttl):
-        if self.is_live(key, now):
-            if self.use(self.lives[key]):
-                return True
-            self.expires[key] = now + ttl if ttl else 0
-            return False
-        self.put(key, now, ttl)
-        return False
-
-
-def plain_hits(accesses, moves):
-    cache, hits = Plain(moves), 0
+def plain_hits(accesses, policy, items=ITEMS):
+    """The hits of a plain policy, from which a key is removed that is deleted, or has expired when it is asked for or put again."""
+    cache, ends, hits = POLICIES[policy](items), {}, 0
     for now, key, word, ttl in accesses:
+        if word == "delete":
+            cache.remove(key)
+        if word not in (*GETS, *SETS):
+            continue
+        if 0 < ends.get(key, 0) <= now:
+            cache.remove(key)
+        was_there = cache.access(key)
+        hits += word in GETS and was_there
+        if word in SETS or not was_there:
+            ends[key] = now + ttl if ttl else 0
+    return hits
+
+
+def real_lru_hits(accesses, items):
+    """The hits of an LRU, said once more in its own words: a dict in the order of uses, and what has expired is looked for each time."""
+    cache, hits = {}, 0
+    for now, key, word, ttl in accesses:
+        found = cache.pop(key, None) if word == "delete" or word in (*GETS, *SETS) else None
+        live = found is not None and (found == 0 or now < found)
         if word in GETS:
-            hits += cache.get(key, now, ttl)
+            hits += live
+            cache[key] = found if live else now + ttl if ttl else 0
         elif word in SETS:
-            cache.put(key, now, ttl)
-        elif word == "delete":
-            cache.lives.pop(key, None)
+            cache[key] = now + ttl if ttl else 0
+        while len(cache) > items:
+            del cache[next(iter(cache))]
     return hits
 
 
@@ -96,19 +83,21 @@ class Tries:
             self.failed += 1
             print(f"checks/lib/replay_operations.py: {what}: {told}, not {wanted}", file=sys.stderr)
 
-    def run(self, lines, *words):
+    def run(self, lines, *words, items=ITEMS):
         log = self.folder / "asked.csv"
         log.write_text("".join(f"{','.join(map(str, line))}\n" for line in lines))
         # each bump that waits may hold a chunk: with so many spare ones each put finds room
-        words = [self.program, log, "--items", ITEMS, "--spare", 2000, "--tend-every", TICKS, "--compare", "lru,fifo", "--json", *words]
+        words = [self.program, log, "--items", items, "--spare", 2000, "--tend-every", TICKS, "--compare", ",".join(POLICIES), "--json", *words]
         done = subprocess.run([str(word) for word in words], capture_output=True, check=True, text=True)
         return json.loads(done.stdout)
 
     def follow(self, accesses):
         told = self.run(accesses, *COLUMNS)
         row, gets = told["sizes"][0], sum(word in GETS for _, _, word, _ in accesses)
-        for name, hits in (("bump", model_hits(accesses)), ("lru", plain_hits(accesses, True)), ("fifo", plain_hits(accesses, False))):
+        wanted = {"bump": model_hits(accesses), **{policy: plain_hits(accesses, policy) for policy in POLICIES}}
+        for name, hits in wanted.items():
             self.wants(f"{name}'s hits", row[name], {"hits": hits, "misses": gets - hits})
+        self.wants("a real LRU's hits", row["lru"]["hits"], real_lru_hits(accesses, ITEMS))
         self.wants("what is passed over", told["passed_over"], sum(word not in (*GETS, *SETS, "delete") for _, _, word, _ in accesses))
         twitter = self.run([(now, key, len(key), 7, "c", word, ttl) for now, key, word, ttl in accesses], "--format", "twitter")
         self.wants("Twitter's layout", twitter["sizes"], told["sizes"])
@@ -119,11 +108,24 @@ class Tries:
         self.wants("libCacheSim's layout", example["sizes"], by_name["sizes"])
 
 
+# A key that was deleted, or expired, and is put again takes one place: with two places the other key is still there. So many gets hit.
+SMALL = (
+    ([(1, "a", "set", 0), (2, "b", "set", 0), (3, "b", "delete", 0), (4, "b", "set", 0), (5, "a", "get", 0)], 1),
+    ([(1, "a", "set", 0), (2, "b", "set", 2), (4, "b", "get", 0), (5, "a", "get", 0), (6, "b", "get", 0)], 2),
+    ([(1, "a", "get", 0), (2, "b", "get", 5), (6, "b", "get", 0), (7, "b", "get", 0), (8, "a", "get", 0)], 2),
+    ([(1, "a", "set", 0), (2, "c", "delete", 0), (3, "a", "get", 0), (4, "a", "delete", 0), (5, "a", "get", 0)], 1),
+)
+
+
 def main():
     with tempfile.TemporaryDirectory() as folder:
         tries = Tries(sys.argv[1], Path(folder))
         for seed, count, keys in ((1, 20000, 400), (2, 20000, 150), (3, 5000, 3000)):
             tries.follow(made(seed, count, keys))
+        for accesses, hits in SMALL:
+            row = tries.run(accesses, *COLUMNS, items=2)["sizes"][0]
+            for policy in POLICIES:
+                tries.wants(f"{policy}'s hits of a small log", row[policy]["hits"], hits)
     print(f"operations: {tries.tried} checked, {tries.failed} failed")
     sys.exit(tries.failed != 0)
 

@@ -60,10 +60,11 @@ def text_faults(root):
 
 
 def shares_of(run, name):
-    """The percents of misses by size, of a policy in the JSON."""
+    """The percents of misses by size, of a policy in the JSON, to the nearest hundredth, a half upwards."""
     for size in sorted(run["sizes"], key=lambda size: size["items"]):
         hits, misses = size[name]["hits"], size[name]["misses"]
-        yield size["items"], 100 * misses / max(1, hits + misses)
+        gets = max(1, hits + misses)
+        yield size["items"], (20_000 * misses + gets) // (2 * gets) / 100
 
 
 def places_of(root, shares, axis):
@@ -114,9 +115,7 @@ def line_faults(root, run, is_full):
         wanted = list(places_of(root, list(shares_of(run, name)), axis))
         drawn = [(float(dot.get("cx")), float(dot.get("cy"))) for dot in root.findall(f"{SVG}circle")
                  if dot.get("fill") == colors[name]]
-        # a share is rounded down to hundredths of a percent
-        slack = NEAR + 0.01 * (axis[0][1] - axis[-1][1]) / (axis[-1][0] - axis[0][0])
-        if len(drawn) != len(wanted) or any(abs(x - u) > NEAR or abs(y - v) > slack
+        if len(drawn) != len(wanted) or any(abs(x - u) > NEAR or abs(y - v) > NEAR
                                             for (x, y), (u, v) in zip(drawn, wanted)):
             yield f"{name}: points at {drawn}, not {wanted}"
         lines = [line.get("points").split() for line in root.findall(f"{SVG}polyline") if line.get("stroke") == colors[name]]
@@ -162,7 +161,7 @@ def tries(policies):
                       ["--items", "300", "--full"], ["--items", "100,300,100"], ["--items", "100,999"],
                       ["--items", "100,300,1000"], ["--items", "1"]):
             yield log, [*words, "--compare", policies]
-    for sizes in (far, near, "1,2,3,1000000", "999999,1000000"):
+    for sizes in (far, near, "1,2,3,999998", "999997,999998"):
         yield "zipf", ["--items", sizes, "--compare", policies]
     yield "zipf", ["--items", "30,100"]
 

@@ -26,8 +26,9 @@ def run(program, *words):
 
 
 def lean(accesses, all_accesses, keys, all_keys):
-    """By how many hundredths of a percent a sample has more or fewer accesses than its share."""
-    return abs(accesses * all_keys - all_accesses * keys) * 10_000 // (all_accesses * keys)
+    """By how many hundredths of a percent, to the nearest one, a sample has more or fewer accesses than its share."""
+    share = all_accesses * keys
+    return (abs(accesses * all_keys - share) * 20_000 + share) // (2 * share)
 
 
 def faults_of(program, log, every, folder):

@@ -1,5 +1,5 @@
 #!/usr/bin/env python3
-"""Compares the sentences at the end of bump_replay's tables with those that the tables' own misses make.
+"""Compares the sentences at the end of bump_replay's tables, and the percents in them, with those that the tables' own misses make.
 
     checks/lib/replay_sentences.py PROGRAM          status 1 where one is otherwise; what is so is told
 """
@@ -14,12 +14,25 @@ LOGS = Path(__file__).resolve().parent.parent.parent / "examples/logs"
 NAMES = {"lru": "LRU", "fifo": "FIFO", "clock": "CLOCK", "sieve": "SIEVE", "s3fifo": "S3-FIFO"}
 
 
+def percent(count, others):
+    """So many of others in percent, to the nearest hundredth, a half upwards."""
+    hundredths = (Fraction(10000 * count, max(1, others)) + Fraction(1, 2)).__floor__()
+    return f"{hundredths // 100}.{hundredths % 100:02}"
+
+
 def beside(misses, others):
-    """By how many percent of others' misses there are more or less, to the nearest hundredth, a half upwards."""
+    """By how many percent of others' misses there are more or less."""
     if misses == others:
         return "as often"
-    hundredths = (abs(Fraction(10000 * (misses - others), others)) + Fraction(1, 2)).__floor__()
-    return f"{hundredths // 100}.{hundredths % 100:02} % {'less' if misses < others else 'more'}"
+    return f"{percent(abs(misses - others), others)} % {'less' if misses < others else 'more'}"
+
+
+def other_percents(table):
+    """The lines whose percents aren't those of their misses."""
+    for line in table.split("\n\n")[0].splitlines()[1:]:
+        *_, accesses, _, misses, told = line.split()
+        if told != percent(int(misses), int(accesses)):
+            yield line
 
 
 def sentences_of(table, ages):
@@ -52,7 +65,7 @@ def tries(policies, folder):
     yield [LOGS / "shift.log", "--items", "300,30", "--compare", ",".join(reversed(policies)), "--no-ages"], "without ages"
     yield [LOGS / "shift.log", "--items", "300,300", "--compare", "fifo", "--ages", "30,100"], "with ages of 30 % and 100 %"
     yield [LOGS / "zipf.log", "--items", "1", "--compare", "lru"], memcached
-    yield [LOGS / "zipf.log", "--items", "1000000", "--compare", "fifo,lru"], memcached
+    yield [LOGS / "zipf.log", "--items", "999998", "--compare", "fifo,lru"], memcached
     yield [LOGS / "zipf.log", "--items", "300"], memcached
     empty, sized = Path(folder) / "empty.log", Path(folder) / "sized.log"
     empty.write_text("")
@@ -71,6 +84,10 @@ def main():
             table = subprocess.run([program, *words], capture_output=True, text=True, check=True).stdout
             wanted = list(sentences_of(table, ages))
             printed = [line for line in table.splitlines() if line.startswith("bump, ")]
+            faults = list(other_percents(table))
+            if faults:
+                failed += 1
+                print(f"checks/lib/replay_sentences.py: {words}: other percents: {faults}", file=sys.stderr)
             if printed != wanted or (wanted and not table.endswith("\n\n" + "\n".join(wanted) + "\n")):
                 failed += 1
                 print(f"checks/lib/replay_sentences.py: {words}: {printed}, not {wanted}", file=sys.stderr)

@@ -31,6 +31,8 @@ class Item:
     value: str = ""
     requires: list = field(default_factory=list)
     ensures: list = field(default_factory=list)
+    # the texts of the clauses of `ensures`, in their order
+    promised: list = field(default_factory=list)
 
 
 @dataclass
@@ -98,6 +100,8 @@ def read_call(text, at, item):
     while match := CLAUSE.match(text, at):
         getattr(item, match.group(1)).append(match.group(2) or "")
         at = closed(text, match.end() - 1)
+        if match.group(1) == "ensures":
+            item.promised.append(text[match.end():at - 1])
     if not re.match(r"(?:\s|//.*\n)*[{;]", text[at:]):
         raise ValueError(f"{item.file}: the clauses of {item.name} end at: {text[at:at + 60]!r}")
 

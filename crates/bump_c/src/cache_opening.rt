@@ -47,13 +47,16 @@ pub struct CacheNumbers {
     /// The most items: 1 to 1,000,000.
     pub items: u32,
 
-    /// Chunks beside theirs, at most 1,000,000 together with them.
+    /// Chunks of each part beside those of its items: 1 or more, and multiplied by the parts at most 1,000,000 together with
+    /// the items. Where there are 1 + readers * (1 + holds) each put finds one, as long as no chunk has had its last
+    /// generation.
     pub spare: u32,
 
-    /// At most so many percent of the items are in HOT: together with those in WARM at most 100.
+    /// HOT's share of the items in percent, with WARM's at most 100. Where HOT has more, balances move its last items on, a
+    /// few at a time: so it may have more.
     pub hot: u32,
 
-    /// At most so many percent of the items are in WARM.
+    /// WARM's share, in the same sense. Bumps move items into WARM, also past it.
     pub warm: u32,
 
     /// HOT's last item goes to COLD where it is older than so many percent of the age of COLD's last one;

@@ -40,13 +40,13 @@ none_put key value expires now has_evicted before after puts had = sym puts.told
 pub none_refused : (key : List ℕ) (now : ℕ) (has_evicted : Bool) (before after : ShelfView)
     → RefusesRow key now has_evicted before after → HadSome key now before.part → has_evicted ≡ false
 none_refused key now has_evicted before after row had = sym row.told_evicted
-    ∙ none_full _ now refused.old row.evicted _ _ refused.room.evicts
+    ∙ none_full _ now refused.old row.evicted _ _ refused.none.room.evicts
     (has_item key now turn.drained refused.old refused.item (had.0, (had.1.0, had.1.1, kept)))
   where
     turn : PutsInTurn (FindsNoRoom key row.evicted now) now before after
     turn = row.refuses
 
-    refused : FindsNoRoom key row.evicted now turn.drained turn.did
+    refused : FindsNoRoom key row.evicted now before.limits.most turn.drained turn.between turn.did after.lanes
     refused = turn.does
 
     kept : Keeps key had.0 had.1.0 turn.drained

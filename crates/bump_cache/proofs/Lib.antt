@@ -3,6 +3,7 @@ pub mod Telling
 pub mod HeldLemmas
 pub mod Noting
 pub mod ManyLemmas
+pub mod ManyTaken
 pub mod Choices
 pub mod Rounds
 pub mod Beginning

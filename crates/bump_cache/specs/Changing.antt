@@ -49,6 +49,11 @@ HadUntil fits as_words key (Some it) now part =
 abbrev pub HadSome : List ℕ → ℕ → PartView → Type 0
 HadSome key now part = (value : List ℕ) × HadValue key (Some value) now part
 
+-- a closure was called once, with what the key had that hadn't expired: `Answers` is its call
+abbrev pub CallsOnHad : {V : Type 0} → (V → List ℕ) → (V → V → Type 0) → List ℕ → ℕ → PartView → Type 0
+CallsOnHad {V} as_words Answers key now part =
+    (had value : V) × HadValue key (Some (as_words had)) now part × Answers had value
+
 -- The shelf was looked at, which changes nothing but what the class's seat notes of its loads; and then it did this.
 pub record BehindLook (Does : ShelfView → ShelfView → Type 0) (before after : ShelfView) : Type 0 where
   pub between : ShelfView

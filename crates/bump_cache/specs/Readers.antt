@@ -41,11 +41,13 @@ KeepsRings before after = rings_of after ≡ rings_of before
 
 -- a get found this value
 abbrev pub FindsValue : RowPredicate → List ℕ → List ℕ → ℕ → ReaderView → ReaderView → Type 0
-FindsValue law key value now before after = Finds law before.config key value now before.worker after.worker
+FindsValue law key value now before after =
+    Finds law before.config key value now before.anew after.anew before.worker after.worker
 
 -- a get took this hold of an item with the key, and touched it
 abbrev pub HitsItem : RowPredicate → List ℕ → ℕ → HoldPart → ReaderView → ReaderView → Type 0
-HitsItem law key now hold before after = Hits law before.config key now before.worker after.worker hold
+HitsItem law key now hold before after =
+    Hits law before.config key now before.anew after.anew before.worker after.worker hold
 
 -- the words of some value stand in the row of the hold, from this number of its further words on
 abbrev pub HoldsValue : {V : Type 0} → (V → Type 0) → (V → List ℕ) → ℕ → HoldPart → Type 0
@@ -53,8 +55,10 @@ HoldsValue {V} fits as_words from hold = (value : V) × fits value × HasWords (
 
 -- a peek found this value
 abbrev pub PeeksValue : RowPredicate → List ℕ → List ℕ → ℕ → ReaderView → ReaderView → Type 0
-PeeksValue law key value now before after = Peeks law before.config key value now before.worker after.worker
+PeeksValue law key value now before after =
+    Peeks law before.config key value now before.anew after.anew before.worker after.worker
 
 -- an item with the key that hadn't expired was held, and nothing else was done
 abbrev pub SeesItem : RowPredicate → List ℕ → ℕ → ReaderView → ReaderView → Type 0
-SeesItem law key now before after = Sees law before.config key now before.worker after.worker
+SeesItem law key now before after =
+    Sees law before.config key now before.anew after.anew before.worker after.worker

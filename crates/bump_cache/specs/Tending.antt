@@ -1,5 +1,5 @@
 -- Calls that go through the parts of a cache, one after the other.
-use Rattle.std.specs.Prelude.{◌≡◌, ℕ, zero, suc, List}
+use Rattle.std.specs.Prelude.{◌≡◌, ℕ, zero, suc, List, Option, None, Some}
 use Rattle.bump_steps.specs.Views.{last_word}
 use Rattle.call_log.specs.Calls.{CallerView, MakesOne, OnlyLooks}
 use Rattle.cache_part.specs.Expiring.{KeepsUnexpired, LooksInTurn}
@@ -33,15 +33,22 @@ TendsParts zero now me me' = me' ≡ me
 TendsParts (suc part) now me me' =
     (between : CallerView PartState) × TendsParts part now me between × TendsPart part now between me'
 
--- all of so many parts were tended, at some time
-abbrev pub TendsOnce : ℕ → CallerView PartState → CallerView PartState → Type 0
-TendsOnce parts me me' = (now : ℕ) × TendsParts parts now me me'
+-- All of so many parts were tended, so many times, each time at what a clock told then. It was asked once for each,
+-- in order: `Tells` is one answer of it, and what it is behind that.
+abbrev pub TendsAsTold : {C : Type 0} → (C → Option ℕ → C → Type 0) → ℕ → ℕ → C → CallerView PartState → C
+    → CallerView PartState → Type 0
+TendsAsTold Tells parts zero clock me clock' me' = (clock' ≡ clock) × (me' ≡ me)
+TendsAsTold {C} Tells parts (suc count) clock me clock' me' = (told : C) × (between : CallerView PartState) × (now : ℕ)
+    × TendsAsTold Tells parts count clock me told between × Tells told (Some now) clock'
+    × TendsParts parts now between me'
 
--- so they were, so many times
-abbrev pub TendsTimes : ℕ → ℕ → CallerView PartState → CallerView PartState → Type 0
-TendsTimes parts zero me me' = me' ≡ me
-TendsTimes parts (suc count) me me' =
-    (between : CallerView PartState) × TendsTimes parts count me between × TendsOnce parts between me'
+-- So they were until the clock, asked once more, told no time: it is over.
+pub record TendsUntilOver {C : Type 0} (Tells : C → Option ℕ → C → Type 0) (parts : ℕ) (clock : C)
+    (me : CallerView PartState) (clock' : C) (me' : CallerView PartState) : Type 0 where
+  pub count : ℕ
+  pub told : C
+  pub tends : TendsAsTold Tells parts count clock me told me'
+  pub over : Tells told None clock'
 
 -- What a clear does to the shelf of a part: no key has an item, and all words are as they were.
 pub record ClearsShelf (before after : ShelfView) : Type 0 where

@@ -158,10 +158,11 @@ impl<N: Name + LogName, K: Packed, V: Packed> Cache<N, K, V> {
     /// they came there, at most 8, until one has expired; and then COLD's last one ends, or WARM's where COLD is empty,
     /// or HOT's, or TEMP's. It is told, with its cause: whether it had expired at `now`. What the key had before ends
     /// behind the new item's beginning, so a reader finds the one or the other; it is told where it hadn't expired. The
-    /// new item begins in TEMP where it expires within as many ticks as the configuration says, and else in HOT. It is
-    /// refused, as `NoRoom`, exactly where no chunk is free then, as where each without an item is held by a reader or a
-    /// bump that waits; the key keeps what it had. Each eighth put balances HOT and WARM as a tend does, in eight rounds
-    /// at most.
+    /// new item begins in TEMP where it expires within as many ticks as the configuration says, and else in HOT. Where no
+    /// chunk is free for it, also of ended items that nobody holds any more, all bumps that wait are applied, at most a
+    /// ring's room of each reader, as a tend does. It is refused, as `NoRoom`, exactly where no chunk is free then: behind
+    /// that each without an item was found held, or has had its last generation; the key keeps what it had. Each eighth
+    /// put balances HOT and WARM as a tend does, in eight rounds at most.
     pub fn put_until<W: Wait>(
         &self,
         rt: &W,

@@ -1,11 +1,11 @@
 //! Calls that look first, and put where it is due: under one lock, as one call.
 ghost use Rattle.std.specs.Prelude.{◌≡◌, ◌<◌, IfSome, IfNone, IfOk, IfErr, None, Some, IsSome, false, is_some};
-ghost use Rattle.std.specs.Fn.{FnOnceReturnsAt};
+ghost use Rattle.std.specs.Fn.{CalledAt};
 ghost use Rattle.cache_shelf.specs.Entries.{AllKept, Keeps, OthersKept, ReadsShelf};
 ghost use Rattle.cache_shelf.specs.Shelves.{with_put};
 ghost use Rattle.call_log.specs.Calls.{MakesOne};
 ghost use Rattle.bump_cache.specs.Caches.{part_in};
-ghost use Rattle.bump_cache.specs.Changing.{Adds, BehindLook, Changes, ChangesWhereSome, GetsOrPuts, HadSome, IfAdded, IfGot, IfHas, IfMade, RefusesAnew, RefusesNew, ReplacesWhereSome, TouchesWhereSome};
+ghost use Rattle.bump_cache.specs.Changing.{Adds, BehindLook, CallsOnHad, Changes, ChangesWhereSome, GetsOrPuts, HadSome, IfAdded, IfGot, IfHas, IfMade, RefusesAnew, RefusesNew, ReplacesWhereSome, TouchesWhereSome};
 ghost use Rattle.bump_cache.specs.Putting.{HadValue, PutsRow, RefusesRow, WasEvicted, evicted_key};
 ghost use Rattle.bump_cache.specs.States.{from_of, part_called, to_of};
 
@@ -19,9 +19,9 @@ use packed_words::Packed;
 use std::sync::Wait;
 
 // What a closure makes of a value.
-fn changed_by<V: Packed, F: FnOnce(&V) -> V>(had: V, change: F) -> V
-    requires callable { F.IsAlwaysCallable change }
-    ensures { FnOnceReturnsAt F.FnOnce change had result }
+fn changed_by<V: Packed, F: FnMut(&V) -> V>(had: V, change: &mut F) -> V
+    requires callable { F.IsAlwaysCallable change.old }
+    ensures { CalledAt F.FnMut change.old had result change.new }
 {
     change(&had)
 }
@@ -97,15 +97,19 @@ impl<N: Name, K: Packed, V: Packed> Pairs<N, K, V> {
     }
 
     /// Puts what a closure makes of what a key has that hasn't expired in its place.
-    pub(crate) fn update<F: FnOnce(&V) -> V>(
+    pub(crate) fn update<F: FnMut(&V) -> V>(
         &mut self,
         key: &K,
         now: u64,
-        change: F,
+        change: &mut F,
     ) -> Result<Option<V>, NoRoom<K, V>>
-        requires callable { F.IsAlwaysCallable change }
-        ensures changes { IfOk result (λ told. ChangesWhereSome V.fits V.as_words (FnOnceReturnsAt F.FnOnce change)
-            (K.as_words key.now) now told self.old self.new) }
+        requires callable { F.IsAlwaysCallable change.old }
+        ensures uncalled { IfOk result (λ told. IfNone told (change.new ≡ change.old)) }
+        ensures changes { IfOk result (λ told. ChangesWhereSome V.fits V.as_words
+            (λ had value. CalledAt F.FnMut change.old had value change.new) (K.as_words key.now) now told self.old
+            self.new) }
+        ensures called { IfErr result (λ why. CallsOnHad V.as_words
+            (λ had value. CalledAt F.FnMut change.old had value change.new) (K.as_words key.now) now self.old.part) }
         ensures refuses { IfErr result (λ why. RefusesAnew (K.as_words key.now) now why self.old self.new) }
         ensures same { self.new ≡ with_put self.new self.old }
     {
@@ -120,16 +124,18 @@ impl<N: Name, K: Packed, V: Packed> Pairs<N, K, V> {
     }
 
     /// What a key has; or else what a closure makes, which is put under it.
-    pub(crate) fn get_or_put<F: FnOnce() -> V>(
+    pub(crate) fn get_or_put<F: FnMut() -> V>(
         &mut self,
         key: &K,
         expires: u64,
         now: u64,
-        make: F,
+        make: &mut F,
     ) -> Result<GotOrPut<K, V>, NoRoom<K, V>>
-        requires callable { F.IsAlwaysCallable make }
-        ensures puts { IfOk result (λ did. GetsOrPuts K.as_words V.as_words (F.post make) (K.as_words key.now) expires
-            now did self.old self.new) }
+        requires callable { F.IsAlwaysCallable make.old }
+        ensures uncalled { IfOk result (λ did. IfGot did (λ value. make.new ≡ make.old)) }
+        ensures puts { IfOk result (λ did. GetsOrPuts K.as_words V.as_words (λ value. F.step make.old value make.new)
+            (K.as_words key.now) expires now did self.old self.new) }
+        ensures called { IfErr result (λ why. (value : V) × F.step make.old value make.new) }
         ensures refuses { IfErr result (λ why. RefusesNew K.as_words V.as_words (K.as_words key.now) now why self.old
             self.new) }
         ensures same { self.new ≡ with_put self.new self.old }
@@ -288,33 +294,38 @@ impl<N: Name + LogName, K: Packed, V: Packed> Cache<N, K, V> {
     }
 
     /// Changes what a key has that hasn't expired at `now`, in the caller's ticks, and answers the new value, as
-    /// memcached's `incr`, `append` and the like; where the key has nothing, or what has expired, it answers None,
-    /// changes nothing and doesn't call `change`. No other thread changes the key's part in between, so no change is lost;
-    /// it waits until none does, and the others wait until `change` is done. `change` mustn't change this cache: it
-    /// would wait for itself.
+    /// memcached's `incr`, `append` and the like, by one call of `change`, as `&mut |old: &u64| old.wrapping_add(1)`;
+    /// where the key has nothing, or what has expired, it answers None, changes nothing and doesn't call `change`, so
+    /// that is as it was. No other thread changes the key's part in between, so no change is lost; it waits until none
+    /// does, and the others wait until `change` is done. `change` mustn't change this cache: it would wait for itself.
     ///
     /// What `change` answers is put as `put_until` does it, and expires when the old value did: it goes to the front of
     /// HOT or TEMP, and needs a chunk, as a put does. It is refused, as `NoRoom`, exactly where that is, behind the
     /// call of `change`; the key keeps what it had. Nothing is evicted, since the key has an item.
-    pub fn update<W: Wait, F: FnOnce(&V) -> V>(
+    pub fn update<W: Wait, F: FnMut(&V) -> V>(
         &self,
         rt: &W,
         me: &mut Caller<N, CacheState>,
         key: &K,
         now: u64,
-        change: F,
+        change: &mut F,
     ) -> Result<Option<V>, NoRoom<K, V>>
         requires part { 0 < me.old.parts }
-        requires callable { F.IsAlwaysCallable change }
+        requires callable { F.IsAlwaysCallable change.old }
         ensures call { MakesOne me.old me.new }
         ensures part { part_called me.new ≡ part_in self.now (K.as_words key.now) }
         ensures absent { IfOk result (λ told. IfNone told (HadValue (K.as_words key.now) None now
             (from_of me.new).part)) }
         ensures unchanged { IfOk result (λ told. IfNone told (ReadsShelf (from_of me.new) (to_of me.new))) }
+        ensures uncalled { IfOk result (λ told. IfNone told (change.new ≡ change.old)) }
         ensures changes { IfOk result (λ told. IfSome told (λ value. Changes V.fits V.as_words
-            (FnOnceReturnsAt F.FnOnce change) (K.as_words key.now) now value (from_of me.new) (to_of me.new))) }
+            (λ had value. CalledAt F.FnMut change.old had value change.new) (K.as_words key.now) now value
+            (from_of me.new) (to_of me.new))) }
         ensures others { IfOk result (λ told. IfSome told (λ value. OthersKept (K.as_words key.now) None
             (from_of me.new).part (to_of me.new).part)) }
+        ensures called_refused { IfErr result (λ why. CallsOnHad V.as_words
+            (λ had value. CalledAt F.FnMut change.old had value change.new) (K.as_words key.now) now
+            (from_of me.new).part) }
         ensures had_refused { IfErr result (λ why. HadSome (K.as_words key.now) now (from_of me.new).part) }
         ensures none_refused { IfErr result (λ why. why.evicted ≡ None) }
         ensures stay { IfErr result (λ why. AllKept None (from_of me.new).part (to_of me.new).part) }
@@ -331,30 +342,31 @@ impl<N: Name + LogName, K: Packed, V: Packed> Cache<N, K, V> {
 
     /// What a key has that hasn't expired at `now`; where it has nothing, or what has expired, what `make` answers is
     /// put under it. So of many threads that miss one key one alone makes its value, where each of them calls this
-    /// behind its miss. Where something is there `make` isn't called, and nothing is touched: a get does that. The
-    /// value expires at `expires`, and 0 is never; times are in the caller's ticks. It waits until no other thread
-    /// changes the key's part, and the others wait until `make` is done. `make` mustn't change this cache: it would wait for
-    /// itself.
+    /// behind its miss. Where something is there `make` isn't called, so it is as it was, and nothing is touched: a get
+    /// does that. Else it is called once, as `&mut || value`. The value expires at `expires`, and 0 is never; times are
+    /// in the caller's ticks. It waits until no other thread changes the key's part, and the others wait until `make`
+    /// is done. `make` mustn't change this cache: it would wait for itself.
     ///
     /// Where it puts it does what `put_until` does, and is refused, as `NoRoom`, exactly where that is, behind the call
     /// of `make`; the key has nothing then.
-    pub fn get_or_put<W: Wait, F: FnOnce() -> V>(
+    pub fn get_or_put<W: Wait, F: FnMut() -> V>(
         &self,
         rt: &W,
         me: &mut Caller<N, CacheState>,
         key: &K,
         expires: u64,
         now: u64,
-        make: F,
+        make: &mut F,
     ) -> Result<GotOrPut<K, V>, NoRoom<K, V>>
         requires part { 0 < me.old.parts }
-        requires callable { F.IsAlwaysCallable make }
+        requires callable { F.IsAlwaysCallable make.old }
         ensures call { MakesOne me.old me.new }
         ensures part { part_called me.new ≡ part_in self.now (K.as_words key.now) }
         ensures got { IfOk result (λ did. IfGot did (λ value. HadValue (K.as_words key.now) (Some (V.as_words value))
             now (from_of me.new).part)) }
         ensures unchanged { IfOk result (λ did. IfGot did (λ value. ReadsShelf (from_of me.new) (to_of me.new))) }
-        ensures made { IfOk result (λ did. IfMade did (λ value evicted. F.post make value)) }
+        ensures uncalled { IfOk result (λ did. IfGot did (λ value. make.new ≡ make.old)) }
+        ensures made { IfOk result (λ did. IfMade did (λ value evicted. F.step make.old value make.new)) }
         ensures free { IfOk result (λ did. IfMade did (λ value evicted. HadValue (K.as_words key.now) None now
             (from_of me.new).part)) }
         ensures kept { IfOk result (λ did. IfMade did (λ value evicted. Keeps (K.as_words key.now) (V.as_words value)
@@ -365,6 +377,7 @@ impl<N: Name + LogName, K: Packed, V: Packed> Cache<N, K, V> {
             (evicted_key K.as_words evicted) (from_of me.new).part (to_of me.new).part)) }
         ensures puts { IfOk result (λ did. IfMade did (λ value evicted. BehindLook (PutsRow (K.as_words key.now)
             (V.as_words value) expires now (is_some evicted)) (from_of me.new) (to_of me.new))) }
+        ensures called_refused { IfErr result (λ why. (value : V) × F.step make.old value make.new) }
         ensures free_refused { IfErr result (λ why. HadValue (K.as_words key.now) None now (from_of me.new).part) }
         ensures evicted_refused { IfErr result (λ why. IfSome why.evicted (λ it. WasEvicted K.as_words V.as_words it now
             (from_of me.new).part (to_of me.new).part)) }

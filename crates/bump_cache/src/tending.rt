@@ -1,6 +1,6 @@
 //! Calls that go through the parts of a cache, one after the other.
-ghost use Rattle.std.specs.Prelude.{◌≡◌, ◌+◌, ℕ, ◌<◌};
-ghost use Rattle.bump_cache.specs.Tending.{ClearsPart, ClearsParts, TendsPart, TendsParts, TendsTimes};
+ghost use Rattle.std.specs.Prelude.{◌≡◌, ◌+◌, ◌<◌};
+ghost use Rattle.bump_cache.specs.Tending.{ClearsPart, ClearsParts, TendsPart, TendsParts, TendsUntilOver};
 
 use crate::caches::Cache;
 use crate::states::CacheState;
@@ -8,7 +8,6 @@ use bump_heads::Name;
 use call_log::{Caller, LogName};
 use packed_words::Packed;
 use std::sync::Wait;
-use std::sync::atomic::{AtomicBool, AtomicU64, Ordering};
 use std::thread;
 use std::time::{Clock, Duration};
 
@@ -46,51 +45,56 @@ impl<N: Name + LogName, K: Packed, V: Packed> Cache<N, K, V> {
         }
     }
 
-    /// Tends the cache as `tend` does, again and again until `stop` is set, each time at what `clock` has then: the
-    /// loop of a thread of its own. It never sleeps, so it takes a whole processor, and the locks again and again: take
-    /// it where a processor has nothing else to do, and else `tend_each`.
-    pub fn tend_until<W: Wait>(
+    /// Tends the cache as `tend` does, again and again, each time at what `clock` tells then, until it tells None: the
+    /// loop of a thread of its own. `clock` is asked once for each tend, and is given back. It tells the time in the
+    /// caller's ticks, as `|| if stop.load(Ordering::SeqCst) { None } else { Some(ticks.load(Ordering::SeqCst)) }`. The
+    /// loop never sleeps, so it takes a whole processor, and the locks again and again: take it where a processor has
+    /// nothing else to do, and else `tend_each`.
+    pub fn tend_until<W: Wait, F: FnMut() -> Option<u64>>(
         &self,
         rt: &W,
         me: &mut Caller<N, CacheState>,
-        clock: &AtomicU64,
-        stop: &AtomicBool,
-    )
+        mut clock: F,
+    ) -> F
         requires part { 0 < me.old.parts }
-        ensures tends { (count : ℕ) × TendsTimes self.now.parts count me.old me.new }
+        requires callable { F.IsAlwaysCallable clock }
+        ensures tends { TendsUntilOver (λ c told c'. F.step c told c') self.now.parts clock me.old result me.new }
         ensures parts { me.new.parts ≡ me.old.parts }
     {
         for _ in rt.forever() {
-            if stop.load(Ordering::SeqCst) {
-                return;
-            }
-            self.tend(rt, me, clock.load(Ordering::SeqCst));
+            let Some(now) = clock() else {
+                return clock;
+            };
+            self.tend(rt, me, now);
         }
+        unreachable!()
     }
 
-    /// The same, but behind each tend it sleeps for `pause`, by `sleeper`, and looks at `stop` again then: the loop of a
-    /// thread of its own that takes little of a processor. Once `stop` is set it returns behind a pause at most. Which
-    /// `pause` pays depends on how many gets come by meanwhile: their bumps wait in rings that have room for so many.
-    pub fn tend_each<C: Clock, W: Wait>(
+    /// The same, but behind each tend it sleeps for `pause`, by `sleeper`, before it asks `clock` again: the loop of a
+    /// thread of its own that takes little of a processor. It returns behind a pause at most once `clock` tells None.
+    /// Which `pause` pays depends on how many gets come by meanwhile: their bumps wait in rings that have room for so
+    /// many.
+    pub fn tend_each<C: Clock, W: Wait, F: FnMut() -> Option<u64>>(
         &self,
         rt: &W,
         me: &mut Caller<N, CacheState>,
         sleeper: &C,
         pause: Duration,
-        clock: &AtomicU64,
-        stop: &AtomicBool,
-    )
+        mut clock: F,
+    ) -> F
         requires part { 0 < me.old.parts }
-        ensures tends { (count : ℕ) × TendsTimes self.now.parts count me.old me.new }
+        requires callable { F.IsAlwaysCallable clock }
+        ensures tends { TendsUntilOver (λ c told c'. F.step c told c') self.now.parts clock me.old result me.new }
         ensures parts { me.new.parts ≡ me.old.parts }
     {
         for _ in rt.forever() {
-            if stop.load(Ordering::SeqCst) {
-                return;
-            }
-            self.tend(rt, me, clock.load(Ordering::SeqCst));
+            let Some(time) = clock() else {
+                return clock;
+            };
+            self.tend(rt, me, time);
             thread::sleep(sleeper, pause);
         }
+        unreachable!()
     }
 
     // Ends each item of a part that there is.

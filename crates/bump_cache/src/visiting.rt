@@ -75,32 +75,10 @@ impl<N: Name + LogName, K: Packed, V: Packed> Cache<N, K, V> {
         visit
     }
 
-    // Visits all parts, and gives the closure back.
-    fn visit_parts<W: Wait, F: FnMut(K, V, u64)>(
-        &self,
-        rt: &W,
-        me: &mut Caller<N, CacheState>,
-        now: u64,
-        mut visit: F,
-    ) -> F
-        requires caller { 0 < me.old.parts }
-        requires callable { F.IsAlwaysCallable visit }
-        ensures visits { VisitsParts K.fits K.as_words V.fits V.as_words
-            (λ from key value expires to. F.step from key value expires tt to) self.now.parts now visit result me.old
-            me.new }
-        ensures calls { me.new.calls ≡ me.old.calls + self.now.parts }
-        ensures parts { me.new.parts ≡ me.old.parts }
-    {
-        for part in 0..self.parts.len() {
-            visit = self.for_each_part(rt, me, part, now, visit);
-        }
-        visit
-    }
-
     /// Calls `visit` with each key that has something that hasn't expired at `now`, with its value, and with when that
     /// expires, which is 0 where it never does; once for each, and with nothing else. Times are in the caller's ticks.
     /// What it is called with are copies. Nothing is touched, no item ends, and all stays as it was: a get that is to
-    /// count has to be made as one.
+    /// count has to be made as one. It gives `visit` back.
     ///
     /// It goes through the parts in the order of their numbers, and has one lock at a time: it is one call for each
     /// part. What others put or end meanwhile in a part that it comes to later is seen as it is then, so there may have
@@ -116,16 +94,19 @@ impl<N: Name + LogName, K: Packed, V: Packed> Cache<N, K, V> {
         rt: &W,
         me: &mut Caller<N, CacheState>,
         now: u64,
-        visit: F,
-    )
+        mut visit: F,
+    ) -> F
         requires part { 0 < me.old.parts }
         requires callable { F.IsAlwaysCallable visit }
-        ensures visits { (last : F) × VisitsParts K.fits K.as_words V.fits V.as_words
-            (λ from key value expires to. F.step from key value expires tt to) self.now.parts now visit last me.old
+        ensures visits { VisitsParts K.fits K.as_words V.fits V.as_words
+            (λ from key value expires to. F.step from key value expires tt to) self.now.parts now visit result me.old
             me.new }
         ensures calls { me.new.calls ≡ me.old.calls + self.now.parts }
         ensures parts { me.new.parts ≡ me.old.parts }
     {
-        let _last = self.visit_parts(rt, me, now, visit);
+        for part in 0..self.parts.len() {
+            visit = self.for_each_part(rt, me, part, now, visit);
+        }
+        visit
     }
 }

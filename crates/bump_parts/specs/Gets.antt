@@ -11,7 +11,7 @@ use Rattle.bump_steps.specs.declared.refusals.TakeRefusal.TheVariants as take
 use Rattle.bump_steps.specs.declared.views.HoldPart.{HoldPart}
 use Rattle.bump_steps.specs.References.{new_hold}
 use Rattle.bump_steps.specs.Rule.{chunks as all_chunks}
-use Rattle.bump_steps.specs.Tries.{AskedFound, TakeFound, of_any, last_found, asked_refusal, refusal_of, asked_steps, steps_of, asked_life, with_more, any_refusal}
+use Rattle.bump_steps.specs.Tries.{AskedFound, TakeFound, of_any, of_life, last_found, asked_refusal, refusal_of, asked_life, worker_after_asked, any_refusal}
 use Rattle.bump_parts.specs.declared.refusals.GetAnyRefusal.{GetAnyRefusal}
 use Rattle.bump_parts.specs.declared.refusals.GetAnyRefusal.TheVariants as get_any
 use Rattle.bump_parts.specs.declared.refusals.GetRefusal.{GetRefusal}
@@ -33,10 +33,12 @@ get_result (Some refusal) item row = Err (get_refusal refusal)
 pub record Got (limit : ℕ) (item : ItemId) (before after : WorkerState) (answered : Result HoldPart GetRefusal)
     (first : Head) (more : List Head) : Type 0 where
   pub found : TakeFound limit item first more
-  -- nothing but the steps is new to the worker: where the get is refused none of them changed a word
-  pub steps : after ≡ record before { part = with_more (steps_of limit item first more) before.part }
   -- the words of the item, which the hold has
   pub row : List ℕ
+  -- Nothing is new to the worker but the steps, and the hold with these words, if it took one, which is the first of
+  -- those that the worker took: where the get is refused none of the steps changed a word.
+  pub steps : after ≡ record before
+      { part = worker_after_asked limit (of_life item) item.chunk first more row before.part }
   pub answer : answered ≡ get_result (refusal_of limit item first more) item row
 
 -- a worker's get of an item, by the clauses `missing` and `got` of `Worker::get`
@@ -62,9 +64,10 @@ get_any_answer (Some refusal) item row found = Err (get_any_refusal (any_refusal
 pub record GotAny (limit chunk : ℕ) (before after : WorkerState) (answered : Result (HoldPart × Head) GetAnyRefusal)
     (first : Head) (more : List Head) : Type 0 where
   pub found : AskedFound limit of_any first more
-  -- nothing but the steps is new to the worker: where the get is refused none of them changed a word
-  pub steps : after ≡ record before { part = with_more (asked_steps limit of_any chunk first more) before.part }
   -- the words of the item, which the hold has
   pub row : List ℕ
+  -- Nothing is new to the worker but the steps, and the hold with these words, if it took one, which is the first of
+  -- those that the worker took: where the get is refused none of the steps changed a word.
+  pub steps : after ≡ record before { part = worker_after_asked limit of_any chunk first more row before.part }
   pub answer : answered ≡ get_any_answer (asked_refusal limit of_any first more) (asked_life of_any chunk first more)
       row (last_found first more)

@@ -1,6 +1,7 @@
 pub mod Holds
 pub mod Workers
 pub mod Gets
+pub mod Glances
 pub mod Touches
 pub mod Counts
 pub mod StepCounts
@@ -12,6 +13,7 @@ pub use Rattle.bump_class.specs.Lanes
 pub use Rattle.bump_heads.specs.Linking
 pub use Rattle.bump_links.specs.Lists
 pub use Rattle.bump_readers.specs.Attempts as ReadersAttempts
+pub use Rattle.bump_readers.specs.Glances as ReadersGlances
 pub use Rattle.bump_readers.specs.Seats
 pub use Rattle.bump_readers.specs.Taking
 pub use Rattle.bump_readers.specs.Workers as ReadersWorkers
@@ -22,6 +24,7 @@ pub use Rattle.bump_rules.specs.Lives
 pub use Rattle.bump_rules.specs.Rings
 pub use Rattle.bump_rules.specs.Tables
 pub use Rattle.bump_rules.specs.Totals
+pub use Rattle.bump_steps.specs.Glances as StepsGlances
 pub use Rattle.bump_steps.specs.Plays
 pub use Rattle.bump_steps.specs.References
 pub use Rattle.bump_steps.specs.Rule

@@ -7,6 +7,7 @@
 
 mod closing;
 mod counting;
+mod glances;
 mod holds;
 mod making;
 mod meeting;
@@ -17,6 +18,7 @@ mod workers;
 
 pub use bump_class::{Book, RawLane};
 pub use bump_heads::{Blank, Heads, Name, ReaderHeads, WorkerSeat};
+pub use bump_readers::Glance;
 pub use bump_ring::Sender;
 pub use bump_rules::{
     Accounts, ClassConfig, Classes, Config, Dropped, Head, ItemId, Segment, Touch,

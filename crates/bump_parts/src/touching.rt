@@ -253,6 +253,7 @@ impl<N: Name> Worker<N> {
         ensures touched { self.old.part.accounts.attempted < most_attempts → (found : TheFindings)
             × Touched heads.now.refs_limit hold.old.life now self.old self.new result found }
         ensures few { MakesAtMost 1 8 4 self.old.part.steps self.new.part.steps }
+        ensures taken { self.new.part.taken ≡ self.old.part.taken }
         ensures hold { hold.new ≡ hold.old }
         ensures ring { self.new.sender.ring ≡ self.old.sender.ring }
     {

@@ -34,7 +34,7 @@ use Rattle.bump_steps.specs.Plays.{step_of}
 use Rattle.bump_steps.specs.Riders.{ride_me}
 use Rattle.bump_steps.specs.Rides.{judged, return_both, returned, sent, without_ride, worker_after_release}
 use Rattle.bump_steps.specs.Rule.{blank}
-use Rattle.bump_steps.specs.Tries.{drop_of, held_by, last_found, failures, load_and_failures, asked_refusal, asked_steps, asked_life, reserved_or_dropped, takes, view_after_attempt, with_more, worker_after_attempt}
+use Rattle.bump_steps.specs.Tries.{drop_of, held_by, last_found, failures, load_and_failures, asked_refusal, asked_steps, asked_life, reserved_or_dropped, takes, view_after_attempt, with_more, worker_after_asked, worker_after_attempt}
 use Rattle.bump_readers.specs.declared.views.WorkerView.{WorkerView}
 use Rattle.bump_readers.specs.Attempts.{is_attempt, attempts_in}
 use Rattle.bump_readers.specs.Riding.{sent_unless}
@@ -48,7 +48,7 @@ attempts_append : (xs ys : List OwnStep) → attempts_in (xs ++ ys) ≡ attempts
 attempts_append xs ys = total_append (λ x. cond (is_attempt x) 1 0) xs ys
 
 -- one more step
-attempts_push : (xs : List OwnStep) (x : OwnStep) → attempts_in (xs ++ x ∷ []) ≡ attempts_in xs + cond (is_attempt x)
+pub attempts_push : (xs : List OwnStep) (x : OwnStep) → attempts_in (xs ++ x ∷ []) ≡ attempts_in xs + cond (is_attempt x)
     1 0
 attempts_push xs x = how_many_push is_attempt xs x
 
@@ -94,15 +94,17 @@ more_kept p xs none is =
     record { accounts = is.accounts; attempts = omega (arith, is.attempts, none, attempts_append p.steps xs) }
 
 -- the steps by which a reference is taken for a hold, or isn't
-pub take_kept : (limit : ℕ) (asked : Head → ℕ) (c : ℕ) (first : Head) (more : List Head) (p : WorkerPart)
-    → IsWorkerPart p → IsWorkerPart (with_more (asked_steps limit asked c first more) p)
-take_kept limit asked c first more p is = more_kept p (asked_steps limit asked c first more) (omega (
-  arith,
-  attempts_append (load_and_failures c first more)
-      (takes c (asked_refusal limit asked first more) (last_found first more)),
-  no_look c first more,
-  no_take c (asked_refusal limit asked first more) (last_found first more),
-)) is
+pub take_kept : (limit : ℕ) (asked : Head → ℕ) (c : ℕ) (first : Head) (more : List Head) (row : List ℕ)
+    (p : WorkerPart) → IsWorkerPart p → IsWorkerPart (worker_after_asked limit asked c first more row p)
+take_kept limit asked c first more row p is =
+    let kept = more_kept p (asked_steps limit asked c first more) (omega (
+      arith,
+      attempts_append (load_and_failures c first more)
+          (takes c (asked_refusal limit asked first more) (last_found first more)),
+      no_look c first more,
+      no_take c (asked_refusal limit asked first more) (last_found first more),
+    )) is in
+    record { accounts = kept.accounts; attempts = kept.attempts }
 
 -- FETCHED was set
 pub fetch_kept : (l : ItemId) (h : Head) (p : WorkerPart) → IsWorkerPart p → IsWorkerPart (worker_after_fetch l h p)
@@ -337,43 +339,43 @@ module _ (table : TableId) (number : ℕ) (id id₁ : TableId) (m m₁ : Me Empt
         → answered ≡ asked_refusal limit asked first more
         → answered ≡ Some r → IsWhole table number id₁ m₁
     refused_seat answered r alone view answer is = changed_seat table number id id₁ m m₁ w
-        (record { part = with_more (asked_steps limit asked c first more) w.part; hold = None }) whole same other
+        (record { part = worker_after_asked limit asked c first more row w.part; hold = None }) whole same other
         (view ∙ ap (λ (x : Me Empty View). (view_after_attempt limit asked c first more row x.0, x.1)) before_is
         ∙ ap₂ (λ (h : Option HoldPart) (q : Option TakeRefusal). with_holds
-        (with_more (asked_steps limit asked c first more) w.part)
+        (worker_after_asked limit asked c first more row w.part)
         (held_by q (asked_life asked c first more) row (listed h))) alone (sym answer ∙ is))
-        refl (λ was. tt) (take_kept limit asked c first more w.part)
+        refl (λ was. tt) (take_kept limit asked c first more row w.part)
 
     pub held_seat : (p : Me Empty View)
         → p ≡ (view_after_attempt limit asked c first more row m.0, m.1) → m₁ ≡ (without_holds p.0, p.1)
         → IsWhole table number id₁ m₁
     held_seat p view told = changed_seat table number id id₁ m m₁ w
-        (record { part = with_more (asked_steps limit asked c first more) w.part; hold = None }) whole same other
+        (record { part = worker_after_asked limit asked c first more row w.part; hold = None }) whole same other
         (told ∙ ap (λ (x : Me Empty View). (without_holds x.0, x.1)) (view
         ∙ ap (λ (x : Me Empty View). (view_after_attempt limit asked c first more row x.0, x.1)) before_is)) refl
-        (λ was. tt) (take_kept limit asked c first more w.part)
+        (λ was. tt) (take_kept limit asked c first more row w.part)
 
     -- what contracts see of the worker then
     pub refused_view : (r : TakeRefusal) → w.hold ≡ None
         → m₁ ≡ (view_after_attempt limit asked c first more row m.0, m.1)
         → asked_refusal limit asked first more ≡ Some r
-        → worker_in m₁.0 ≡ record w { part = with_more (asked_steps limit asked c first more) w.part }
+        → worker_in m₁.0 ≡ record w { part = worker_after_asked limit asked c first more row w.part }
     refused_view r alone view is = ap (λ (x : Me Empty View). worker_in x.0)
         (view ∙ ap (λ (x : Me Empty View). (view_after_attempt limit asked c first more row x.0, x.1)) before_is
         ∙ ap₂ (λ (h : Option HoldPart) (q : Option TakeRefusal). with_holds
-        (with_more (asked_steps limit asked c first more) w.part)
+        (worker_after_asked limit asked c first more row w.part)
         (held_by q (asked_life asked c first more) row (listed h))) alone is)
         ∙ ap (λ (h : Option HoldPart). with_hold
-        (with_more (asked_steps limit asked c first more) w.part) h) (sym alone)
+        (worker_after_asked limit asked c first more row w.part) h) (sym alone)
 
     pub held_view : (p : Me Empty View) → w.hold ≡ None
         → p ≡ (view_after_attempt limit asked c first more row m.0, m.1) → m₁ ≡ (without_holds p.0, p.1)
-        → worker_in m₁.0 ≡ record w { part = with_more (asked_steps limit asked c first more) w.part }
+        → worker_in m₁.0 ≡ record w { part = worker_after_asked limit asked c first more row w.part }
     held_view p alone view told = ap (λ (x : Me Empty View). worker_in x.0)
         (told ∙ ap (λ (x : Me Empty View). (without_holds x.0, x.1)) (view
         ∙ ap (λ (x : Me Empty View). (view_after_attempt limit asked c first more row x.0, x.1)) before_is))
         ∙ ap (λ (h : Option HoldPart). with_hold
-        (with_more (asked_steps limit asked c first more) w.part) h) (sym alone)
+        (worker_after_asked limit asked c first more row w.part) h) (sym alone)
 
     -- and of the new hold
     pub new_views : (p : Me Empty View) (views : List View) → w.hold ≡ None

@@ -1,3 +1,4 @@
+pub mod Glancing
 pub mod WorkerTurns
 pub mod HeldHeads
 pub mod Touches

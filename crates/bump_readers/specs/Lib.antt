@@ -3,6 +3,7 @@ pub mod Attempts
 pub mod Seats
 pub mod Workers
 pub mod Taking
+pub mod Glances
 pub mod Riding
 pub mod Touching
 pub use Rattle.atomic_table.specs.Seated
@@ -12,6 +13,7 @@ pub use Rattle.bump_rules.specs.Lives
 pub use Rattle.bump_rules.specs.Rings
 pub use Rattle.bump_rules.specs.Tables
 pub use Rattle.bump_rules.specs.Totals
+pub use Rattle.bump_steps.specs.Glances as StepsGlances
 pub use Rattle.bump_steps.specs.Marks
 pub use Rattle.bump_steps.specs.Places
 pub use Rattle.bump_steps.specs.References

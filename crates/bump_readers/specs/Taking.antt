@@ -9,7 +9,7 @@ use Rattle.bump_steps.specs.declared.refusals.TakeRefusal.{TakeRefusal}
 use Rattle.bump_readers.specs.declared.views.HoldView.{HoldView}
 use Rattle.bump_readers.specs.declared.views.WorkerView.{WorkerView}
 use Rattle.bump_steps.specs.References.{new_hold}
-use Rattle.bump_steps.specs.Tries.{AskedFound, TakeFound, of_any, last_found, asked_refusal, refusal_of, asked_steps, steps_of, asked_life, with_more, any_refusal}
+use Rattle.bump_steps.specs.Tries.{AskedFound, TakeFound, of_any, of_life, last_found, asked_refusal, refusal_of, asked_life, worker_after_asked, any_refusal}
 
 -- a whole hold of a life that has these words, and which looked at no head
 abbrev pub whole_hold : ItemId → List ℕ → HoldView
@@ -25,10 +25,12 @@ pub record Took (limit : ℕ) (item : ItemId) (before after : WorkerView) (answe
     (first : Head)
     (more : List Head) : Type 0 where
   pub found : TakeFound limit item first more
-  -- nothing but the steps is new to the worker: where the call is refused none of them changed the word
-  pub steps : after ≡ record before { part = with_more (steps_of limit item first more) before.part }
   -- the row of the life, which the hold has
   pub row : List ℕ
+  -- nothing is new to the worker but the steps, and the hold with this row, if it took one: where the call is refused
+  -- none of them changed the word
+  pub steps : after ≡ record before
+      { part = worker_after_asked limit (of_life item) item.chunk first more row before.part }
   pub answer : answered ≡ take_answer (refusal_of limit item first more) item row
 
 -- ---- of whatever life is linked
@@ -44,10 +46,11 @@ pub record TookAny (limit chunk : ℕ) (before after : WorkerView)
     (first : Head)
     (more : List Head) : Type 0 where
   pub found : AskedFound limit of_any first more
-  -- nothing but the steps is new to the worker: where the call is refused none of them changed the word
-  pub steps : after ≡ record before { part = with_more (asked_steps limit of_any chunk first more) before.part }
   -- the row of the life, which the hold has
   pub row : List ℕ
+  -- nothing is new to the worker but the steps, and the hold with this row, if it took one: where the call is refused
+  -- none of them changed the word
+  pub steps : after ≡ record before { part = worker_after_asked limit of_any chunk first more row before.part }
   pub answer : answered ≡ take_any_answer (asked_refusal limit of_any first more) (asked_life of_any chunk first more)
       row (last_found first more)
 

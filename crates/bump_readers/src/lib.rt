@@ -5,6 +5,7 @@
 //! a hold's item, and `see` the head and the time of any chunk.
 #![tactic(auto)]
 
+mod glances;
 mod heads;
 mod holds;
 mod names;
@@ -20,9 +21,10 @@ pub use bump_rules::{
     LabelStep, LaneStage, Outcome, Segment,
 };
 pub use bump_steps::{
-    AnyRefusal, AnyRow, ClassPart, Empty, HoldPart, Kind, LanePart, OwnStep, Ride, RideRefusal,
-    RowLaw, Rule, Seat, TakeRefusal, View, WordStep, Words, WorkerPart,
+    AnyRefusal, AnyRow, ClassPart, Empty, GlancePart, HoldPart, Kind, LanePart, OwnStep, Ride,
+    RideRefusal, RowLaw, Rule, Seat, TakeRefusal, View, WordStep, Words, WorkerPart,
 };
+pub use glances::Glance;
 pub use heads::ReaderHeads;
 pub use holds::Hold;
 pub use names::Name;

@@ -174,7 +174,9 @@ fn with_sizes<'a>(alloc: Global, command: Command<'a>) -> Result<Command<'a>, Al
         .conflicts_with("bytes")?
         .value_parser(value_parser!(u32))
         .value_delimiter(',')
-        .help("How many items a cache has, 1 to 1000000; several with commas");
+        .help(
+            "How many items a cache has, 1 or more, 1000000 at most with all spare chunks; several with commas",
+        );
     let bytes = Arg::new(alloc, "bytes")
         .long("bytes")
         .value_name("N")
@@ -195,7 +197,7 @@ fn with_sizes<'a>(alloc: Global, command: Command<'a>) -> Result<Command<'a>, Al
         alloc,
         "spare",
         "CHUNKS",
-        "Chunks beside those of the items [default: one for each 64 items and each reader]",
+        "Chunks of a part beside those of its items, 1 or more [default: one for each reader and one more]",
     );
     let sample = number_arg(
         alloc,
@@ -213,8 +215,18 @@ fn with_sizes<'a>(alloc: Global, command: Command<'a>) -> Result<Command<'a>, Al
 
 // What says how HOT and WARM are kept short.
 fn with_shares<'a>(alloc: Global, command: Command<'a>) -> Result<Command<'a>, AllocError> {
-    let hot = number_arg(alloc, "hot", "PERCENT", "The share of HOT [default: 20]");
-    let warm = number_arg(alloc, "warm", "PERCENT", "The share of WARM [default: 40]");
+    let hot = number_arg(
+        alloc,
+        "hot",
+        "PERCENT",
+        "HOT's share of the items: a balance moves its last one on if it has more [default: 20]",
+    );
+    let warm = number_arg(
+        alloc,
+        "warm",
+        "PERCENT",
+        "WARM's share, in the same sense: bumps move items in past it [default: 40]",
+    );
     let ages = Arg::new(alloc, "ages")
         .long("ages")
         .value_name("HOT,WARM")

@@ -1,69 +1,40 @@
-//! The run of a plain policy, which has neither removals nor ends of its own: where a key is removed or expires it has
-//! another number from then on. So what it had isn't asked for any more, and stays until it is evicted.
+//! The run of a plain policy. A key that is deleted is removed from it, and so is one that has expired, once it is asked for
+//! or put again: its place is free then, as in a cache by that policy.
 use access_logs::Operation;
-use replay_policies::{MAX_ITEMS, Policy, PolicyFault, Replay, Tally};
+use replay_policies::{Policy, PolicyFault, Replay, Tally};
 use replay_runs::{Asked, ReplayFault};
 use std::alloc::{AllocError, Global};
 
-// A key's number, and when what it has expires: 0 where it never does.
-#[derive(Clone, Copy)]
-struct Life {
-    number: u32,
-    expires: u64,
-}
-
-// The lives of keys, by their numbers in the log.
+// When what keys have expires, by their numbers in the log: 0 where it never does.
 #[derive(Drop)]
-struct Lives {
-    of_key: Vec<Option<Life>>,
-    next: u32,
+struct Ends {
+    of_key: Vec<u64>,
 }
 
-impl Lives {
-    fn new(alloc: Global) -> Lives {
-        Lives {
+impl Ends {
+    fn new(alloc: Global) -> Ends {
+        Ends {
             of_key: Vec::new(alloc),
-            next: 0,
         }
     }
 
-    // The life of a key, where it has one that hasn't expired.
-    fn at(&mut self, key: u32, now: u64) -> Option<Life> {
+    // Whether what a key has has expired.
+    fn has_passed(&self, key: u32, now: u64) -> bool {
         match self.of_key.get(key as usize) {
-            Some(Some(life)) if life.expires == 0 || now < life.expires => Some(*life),
-            _ => None,
+            Some(end) => *end != 0 && *end <= now,
+            None => false,
         }
     }
 
-    // The next number.
-    fn next(&mut self) -> Result<u32, AllocError> {
-        let number = self.next;
-        match number.checked_add(1) {
-            Some(next) => self.next = next,
-            None => return Err(AllocError),
-        }
-        Ok(number)
-    }
-
-    // What a key has from now on. It is refused only for want of memory.
-    fn set(&mut self, key: u32, life: Option<Life>) -> Result<(), AllocError> {
+    // When what a key has now expires. It is refused only for want of memory.
+    fn set(&mut self, key: u32, end: u64) -> Result<(), AllocError> {
         for _ in self.of_key.len()..(key as usize).saturating_add(1) {
-            self.of_key.push(None)?;
+            self.of_key.push(0)?;
         }
         if let Some(place) = self.of_key.get_mut(key as usize) {
-            *place = life;
+            *place = end;
         }
         Ok(())
-    }
-
-    // A put: the number of its key's life, which is the one that it has, if it has one.
-    fn put(&mut self, key: u32, now: u64, expires: u64) -> Result<u32, AllocError> {
-        let number = match self.at(key, now) {
-            Some(life) => life.number,
-            None => self.next()?,
-        };
-        self.set(key, Some(Life { number, expires }))?;
-        Ok(number)
     }
 }
 
@@ -71,41 +42,38 @@ impl Lives {
 #[derive(Drop)]
 struct PlainRun {
     replay: Replay,
-    lives: Lives,
+    ends: Ends,
     tally: Tally,
 }
 
 impl PlainRun {
-    // A get, and a put where that finds nothing.
-    fn get(&mut self, asked: &Asked<'_>, place: usize, key: u32) -> Result<(), AllocError> {
-        let now = asked.time(place);
-        let life = self.lives.at(key, now);
-        let is_hit = match life {
-            Some(life) => self.replay.access(life.number)?,
-            None => false,
-        };
-        self.tally.accesses = self.tally.accesses.saturating_add(1);
-        if is_hit {
-            self.tally.hits = self.tally.hits.saturating_add(1);
-            return Ok(());
-        }
-        self.tally.misses = self.tally.misses.saturating_add(1);
-        self.put(asked, place, key, life.is_some())
-    }
-
-    // A put: whether the policy has the key already.
-    fn put(
+    // An access: whether the policy had the key, and it hadn't expired. What comes in for it where it hadn't, or is put, has
+    // its own end.
+    fn access(
         &mut self,
         asked: &Asked<'_>,
         place: usize,
         key: u32,
-        is_there: bool,
-    ) -> Result<(), AllocError> {
-        let number = self
-            .lives
-            .put(key, asked.time(place), asked.expires(place))?;
-        if !is_there {
-            self.replay.access(number)?;
+        is_put: bool,
+    ) -> Result<bool, AllocError> {
+        if self.ends.has_passed(key, asked.time(place)) {
+            self.replay.remove(key);
+        }
+        let is_hit = self.replay.access(key)?;
+        if is_put || !is_hit {
+            self.ends.set(key, asked.expires(place))?;
+        }
+        Ok(is_hit)
+    }
+
+    // A get, and a put where that finds nothing.
+    fn get(&mut self, asked: &Asked<'_>, place: usize, key: u32) -> Result<(), AllocError> {
+        let is_hit = self.access(asked, place, key, false)?;
+        self.tally.accesses = self.tally.accesses.saturating_add(1);
+        if is_hit {
+            self.tally.hits = self.tally.hits.saturating_add(1);
+        } else {
+            self.tally.misses = self.tally.misses.saturating_add(1);
         }
         Ok(())
     }
@@ -113,16 +81,21 @@ impl PlainRun {
     // Follows what is asked for at a place.
     fn follow(&mut self, asked: &Asked<'_>, place: usize, key: u32) -> Result<(), AllocError> {
         match asked.operation(place) {
-            Operation::Get => self.get(asked, place, key),
-            Operation::Set => self.put(asked, place, key, false),
-            Operation::Delete => self.lives.set(key, None),
-            Operation::Other => Ok(()),
+            Operation::Get => self.get(asked, place, key)?,
+            Operation::Set => {
+                self.access(asked, place, key, true)?;
+            }
+            Operation::Delete => {
+                self.replay.remove(key);
+            }
+            Operation::Other => {}
         }
+        Ok(())
     }
 }
 
-// Runs a policy where keys are put alone, removed or expire.
-fn run_by_lives(
+// Runs a policy where keys are put alone, deleted or expire.
+fn run_by_ends(
     alloc: Global,
     policy: Policy,
     items: u32,
@@ -130,7 +103,7 @@ fn run_by_lives(
 ) -> Result<Tally, PolicyFault> {
     let mut run = PlainRun {
         replay: Replay::new(alloc, policy, items)?,
-        lives: Lives::new(alloc),
+        ends: Ends::new(alloc),
         tally: Tally {
             accesses: 0,
             hits: 0,
@@ -153,7 +126,7 @@ pub fn run(
     let run = if asked.operations.is_empty() && asked.ttls.is_empty() {
         replay_policies::replay(alloc, policy, items, asked.keys)
     } else {
-        run_by_lives(alloc, policy, items, asked)
+        run_by_ends(alloc, policy, items, asked)
     };
     match run {
         Ok(tally) => Ok(tally),

@@ -79,11 +79,17 @@ pub fn tally_of(outcome: &RunOutcome) -> Tally
     }
 }
 
-/// How many of 10,000 accesses missed, rounded down; 0 of none.
+/// How many hundredths of a percent so many are of others, to the nearest one, a half upwards; 0 of none. Each percent that
+/// is told is so rounded: 2 of 3 are 66.67.
+pub fn hundredths(count: u64, others: u64) -> u64 {
+    let of = u128::from(others.max(1));
+    let rounded = (u128::from(count) * 10_000 + of / 2) / of;
+    u64::try_from(rounded).unwrap_or(u64::MAX)
+}
+
+/// How many hundredths of a percent of the accesses missed.
 pub fn missed(tally: &Tally) -> u64 {
-    let of = u128::from(tally.accesses.max(1));
-    let missed = u128::from(tally.misses) * 10_000 / of;
-    u64::try_from(missed).unwrap_or(10_000)
+    hundredths(tally.misses, tally.accesses)
 }
 
 /// The rows by the sizes of their caches, the smallest first.

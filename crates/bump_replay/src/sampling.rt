@@ -77,14 +77,14 @@ pub fn scaled(count: u64, every: u32) -> u64 {
     share.max(count.min(1))
 }
 
-/// By how many hundredths of a percent the sample has more accesses than its share of the keys would have, or fewer: the
-/// keys that are asked for most often are in it or not by chance. So far its shares of misses may be off.
+/// By how many hundredths of a percent, to the nearest one, the sample has more accesses than its share of the keys would
+/// have, or fewer: the keys that are asked for most often are in it or not by chance. So far its shares of misses may be off.
 pub fn lean(log: &Log, sampled: Sampled) -> u64 {
     let due = u128::from(log.keys.max(1));
     let have = (log.accesses.len() as u128).saturating_mul(due);
     let share = (sampled.accesses as u128)
         .saturating_mul(u128::from(sampled.keys))
         .max(1);
-    let apart = have.abs_diff(share).saturating_mul(10_000) / share;
-    u64::try_from(apart).unwrap_or(u64::MAX)
+    let apart = have.abs_diff(share).saturating_mul(10_000);
+    u64::try_from(apart.saturating_add(share / 2) / share).unwrap_or(u64::MAX)
 }

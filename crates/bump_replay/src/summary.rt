@@ -1,6 +1,6 @@
 //! What the runs say, in a sentence for each size.
 use crate::options::Options;
-use crate::rows::{PolicyRun, Row, tally_of};
+use crate::rows::{PolicyRun, Row, hundredths, tally_of};
 use replay_policies::Policy;
 use std::{fmt, io};
 
@@ -27,10 +27,7 @@ impl fmt::Display for Beside {
         if self.misses == self.others {
             return write!(f, "as often");
         }
-        let apart = u128::from(self.misses.abs_diff(self.others));
-        let of = u128::from(self.others.max(1));
-        // rounded to the nearest hundredth of a percent
-        let share = (apart * 20_000 + of) / (2 * of);
+        let share = hundredths(self.misses.abs_diff(self.others), self.others);
         let percent = share / 100;
         let hundredths = share % 100;
         let word = if self.misses < self.others {

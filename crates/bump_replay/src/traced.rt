@@ -30,8 +30,8 @@ fn agrees(row: &Row, hits: &HitCounts) -> bool
         && bumps.busy == hits.busy
 }
 
-/// The run of a row as a trace: each access of the log is there, in order, and the cache is tended where it is due. It is refused where the
-/// trace's hits aren't those of the run.
+/// The run of a row as a trace: each access of the log is there, in order, and the cache is tended where it is due. It is
+/// refused where the trace's hits aren't those of the run.
 pub fn trace_of_row<R: AllocGlobal + RandomSource>(
     rt: &R,
     options: &Options<'_>,

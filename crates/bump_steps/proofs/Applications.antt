@@ -29,7 +29,7 @@ use Rattle.bump_steps.specs.declared.views.ClassPart.{ClassPart}
 use Rattle.bump_steps.specs.declared.views.LanePart.{LanePart}
 use Rattle.bump_steps.specs.declared.views.Ride.{Ride}
 use Rattle.bump_steps.specs.declared.views.View.{View}
-use Rattle.bump_steps.specs.Views.{refers, bump_aboard, Measure, held, named, saw, owners, strays, mislabels, misreads, owns, standing, last_word, weight, evidence, shown_by, claims, claimed_in, settled_in, names_move, underway_in, names_outside, is_entry, outcome_number, Query, in_order, untidy_in, shows_time_only, of_owner, foreign_in, foreign, active_clear, IsBacked}
+use Rattle.bump_steps.specs.Views.{refers, bump_aboard, Measure, held, named, saw, owners, strays, mislabels, misreads, glanced, misglanced, owns, standing, last_word, weight, evidence, shown_by, claims, claimed_in, settled_in, names_move, underway_in, names_outside, is_entry, outcome_number, Query, in_order, untidy_in, shows_time_only, of_owner, foreign_in, foreign, active_clear, IsBacked}
 use Rattle.bump_steps.specs.Rule.{RowPredicate, Sound, chunks, Kept, HasFittingLimit, blank}
 use Rattle.bump_steps.specs.Places.{head_place}
 use Rattle.bump_steps.specs.Plays.{Sat, Tells, on_chunk, on_time, step_of, Stands}
@@ -80,6 +80,8 @@ try_same c n v b owners = refl
 try_same c n v b (strays s) = refl
 try_same c n v b (mislabels i x) = refl
 try_same c n v b (misreads i j x) = refl
+try_same c n v b (glanced j) = refl
+try_same c n v b (misglanced i j x) = refl
 
 cond_is : (b : Bool) (p q : ℕ) → p ≡ q → cond b p 0 ≡ cond b q 0
 cond_is b p q e = ap (λ (n : ℕ). cond b n 0) e
@@ -151,6 +153,8 @@ module _ (c n : ℕ) (v : View) where
   clear_active_same b (mislabels i x) = on_first_total (λ k. cond (owns b k && not (eqb (last_word i k b) x)) 1 0)
       (noted_class kind.ClearActive c n v.lanes) (λ k. refl) v.classes
   clear_active_same b (misreads i j x) = refl
+  clear_active_same b (glanced j) = refl
+  clear_active_same b (misglanced i j x) = refl
 
   clear_active_backed : IsBacked v (view_after_clear_active c n v)
   clear_active_backed = record {
@@ -216,6 +220,8 @@ module _ (c n : ℕ) (v : View) where
   put_time_same b (mislabels i x) = on_first_total (λ k. cond (owns b k && not (eqb (last_word i k b) x)) 1 0)
       (noted_class kind.PutTime c n v.lanes) (λ k. refl) v.classes
   put_time_same b (misreads i j x) = refl
+  put_time_same b (glanced j) = refl
+  put_time_same b (misglanced i j x) = refl
 
   put_time_backed : IsBacked v (view_after_put_time c n v)
   put_time_backed = record {
@@ -279,6 +285,8 @@ module _ {law : RowPredicate} (key : Config) (slots id : ℕ) (m : Sat) (c : ℕ
               agreed = o.agreed;
               labelled = o.labelled;
               read = o.read;
+              ahead = o.ahead;
+              faithful = o.faithful;
               obeys = o.obeys;
               hit = o.hit;
             })),
@@ -363,6 +371,8 @@ module _ (c : ℕ) (k : ClassPart) (own : owns c k ≡ true) (l : ItemId) (of : 
         (move_stands d ne)
     move_apart d ne (mislabels i z) = refl
     move_apart d ne (misreads i j z) = refl
+    move_apart d ne (glanced j) = refl
+    move_apart d ne (misglanced i j z) = refl
 
     no_stray : weight c (strays to_be) went ≡ 0
     no_stray = ap₂ (λ (o same : Bool). bit (o && not same) + 0) own (standing_same _ _ move_stands_here)
@@ -387,6 +397,8 @@ module _ (c : ℕ) (k : ClassPart) (own : owns c k ≡ true) (l : ItemId) (of : 
           (omega (arith, adds (strays to_be), no_stray, a.others to_be, a.mine owners, o.owned, ap bit own));
       labelled = λ i. omega (arith, adds (mislabels i (label i)), o.labelled i);
       read = λ i. omega (arith, adds (misreads i o.head.generation (label i)), o.read i);
+      ahead = λ g far. omega (arith, adds (glanced g), o.ahead g far);
+      faithful = λ lit i. omega (arith, adds (misglanced i o.head.generation (label i)), o.faithful lit i);
       obeys = o.obeys;
       hit = λ j some. omega (arith, adds (named j), o.hit j (omega (arith, some, adds (saw j))));
     }
@@ -690,6 +702,8 @@ module _ (key : Config) (slots id : ℕ) (k : ClassPart) (l : LanePart) (b : Bum
     alight_apart d ne (strays s) = refl
     alight_apart d ne (mislabels i y) = refl
     alight_apart d ne (misreads i j y) = refl
+    alight_apart d ne (glanced j) = refl
+    alight_apart d ne (misglanced i j y) = refl
 
     more_evidence : (wk : ℕ) (e : AppliedBump) (o : Outcome) → shown_by o wk e (applying k l) ≤ shown_by o wk e
         (view_after_alight out b.life.chunk n (applying k l))
@@ -778,6 +792,8 @@ module _ (key : Config) (slots id : ℕ) (k : ClassPart) (l : LanePart) (b : Bum
           agreed = omega (arith, moves (strays (o.at, o.head.generation)), o.agreed);
           labelled = λ i. omega (arith, moves (mislabels i (label i)), o.labelled i);
           read = λ i. omega (arith, moves (misreads i o.head.generation (label i)), o.read i);
+          ahead = λ j far. omega (arith, moves (glanced j), o.ahead j far);
+          faithful = λ lit i. omega (arith, moves (misglanced i o.head.generation (label i)), o.faithful lit i);
           obeys = o.obeys;
           hit = λ j some. omega (arith, moves (named j), o.hit j (omega (arith, some, moves (saw j))));
         }),

@@ -11,7 +11,7 @@ use Rattle.bump_steps.specs.declared.views.Ride.{Ride}
 use Rattle.bump_rules.specs.declared.bumps.AppliedBump.{AppliedBump}
 use Rattle.bump_steps.specs.declared.views.LanePart.{LanePart}
 use Rattle.bump_steps.specs.declared.views.View.{View}
-use Rattle.bump_steps.specs.Views.{Measure, held, named, owners, saw, strays, mislabels, misreads, weight, shown_by, in_order}
+use Rattle.bump_steps.specs.Views.{Measure, held, named, owners, saw, strays, mislabels, misreads, glanced, misglanced, weight, shown_by, in_order}
 use Rattle.bump_steps.specs.Rule.{RowPredicate, blank, Kept}
 use Rattle.bump_steps.specs.Riders.{board_both}
 use Rattle.bump_steps.proofs.Frame.{joins}
@@ -38,6 +38,8 @@ module _ (l : LanePart) (r : Ride) where
   even c (strays s) = refl
   even c (mislabels i x) = refl
   even c (misreads i g x) = refl
+  even c (glanced g) = refl
+  even c (misglanced i g x) = refl
 
   same_evidence : (n : ℕ) (a : AppliedBump) (o : Outcome) → shown_by o n a (board_both waiting riding) + shown_by o n
       a blank ≡ shown_by o n a waiting + shown_by o n a riding

@@ -46,7 +46,7 @@ use Rattle.bump_steps.specs.declared.views.WordStep.{WordStep}
 use Rattle.bump_steps.specs.declared.views.WordStep.TheVariants.{Begun}
 use Rattle.bump_steps.specs.declared.views.ClassPart.{ClassPart}
 use Rattle.bump_steps.specs.declared.views.View.{View}
-use Rattle.bump_steps.specs.Views.{Measure, held, named, saw, owners, strays, mislabels, misreads, owns, standing, labels_of, last_word, weight, shown_by, shows_time_only, HasLabels, IsBacked}
+use Rattle.bump_steps.specs.Views.{Measure, held, named, saw, owners, strays, mislabels, misreads, glanced, misglanced, owns, standing, labels_of, last_word, weight, shown_by, shows_time_only, HasLabels, IsBacked}
 use Rattle.bump_steps.specs.Rule.{RowPredicate, Sound, chunks, Kept}
 use Rattle.bump_steps.specs.Places.{head_place}
 use Rattle.bump_steps.specs.Plays.{Sat, on_chunk, step_of, Stands}
@@ -85,6 +85,8 @@ module _ (c : ℕ) (k : ClassPart) (own : owns c k ≡ true) (e : Change) (ls : 
       (ne_eqb (subject e).chunk b (λ q. ne (sym q ∙ of))))
   enter_apart b ne (mislabels i z) = ap (λ (l : ℕ). bit (owns b k && not (eqb l z)) + 0) (same_labels i b)
   enter_apart b ne (misreads i j z) = refl
+  enter_apart b ne (glanced j) = refl
+  enter_apart b ne (misglanced i j z) = refl
 
   -- this one stands where the entry says
   no_stray : weight c (strays to_be) entering ≡ 0
@@ -139,10 +141,12 @@ module _ (c : ℕ) (k : ClassPart) (own : owns c k ≡ true) (e : Change) (ls : 
   pub enter_sound : {law : RowPredicate} (limit n p : ℕ) (label : ℕ → ℕ) (t u : Measure → ℕ) → Amid c (alone k) t
       → ((y : Measure) → u y + weight c y (alone k) ≡ t y + weight c y entering) → (o : Sound law limit n label t)
       (to : Head) → Spells p to → to.generation ≡ (subject e).generation
-      → ((i : ℕ) → t (misreads i to.generation (label i)) ≡ 0) → (to.linked ≡ true → law label)
+      → ((i : ℕ) → t (misreads i to.generation (label i)) ≡ 0)
+      → ((g : ℕ) → to.generation < g → t (glanced g) ≡ 0)
+      → (to.linked ≡ true → (i : ℕ) → t (misglanced i to.generation (label i)) ≡ 0) → (to.linked ≡ true → law label)
       → Lawful limit to (target e) (λ g. t (held g)) (λ g. t (named g))
       → Sound law limit p label u
-  enter_sound limit n p label t u a moves o to spells gen read obeys lawful = record {
+  enter_sound limit n p label t u a moves o to spells gen read ahead faithful obeys lawful = record {
     head = to;
     at = target e;
     spells = spells;
@@ -159,6 +163,8 @@ module _ (c : ℕ) (k : ClassPart) (own : owns c k ≡ true) (e : Change) (ls : 
       o.labelled i,
     );
     read = λ i. omega (arith, moves (misreads i to.generation (label i)), read i);
+    ahead = λ g far. omega (arith, moves (glanced g), ahead g far);
+    faithful = λ lit i. omega (arith, moves (misglanced i to.generation (label i)), faithful lit i);
     obeys = obeys;
     hit = λ j some. omega (arith, moves (named j), o.hit j (omega (arith, some, moves (saw j))));
   }
@@ -271,6 +277,8 @@ module _ (key : Config) (slots id c : ℕ) (near : c < chunks key) (sl : List (�
             (λ i. a.readers i (o.head.generation + 1) (label i)
             (none_where_free key.refs_limit o.head o.at (λ g. t (held g)) (λ g. t (named g)) o.lawful
             (ap IsUsed place) (o.head.generation + 1)))
+            (λ g far. o.ahead g (omega (arith, far)))
+            (λ lit i. a.glancers i (o.head.generation + 1) (label i) (o.ahead (o.head.generation + 1) (omega arith)))
             (λ lit. subst law (λ z i. stored_last c i key.refs_limit n label (alone k) t o a k refl own z) obeys)
             (subst (λ (p : Place). Lawful key.refs_limit h p (λ g. t (held g)) (λ g. t (named g))) (sym in_place)
             (born key.refs_limit o.head o.at (λ g. t (held g)) (λ g. t (named g)) o.lawful b place limits.0))),
@@ -297,7 +305,8 @@ module _ (key : Config) (slots id c : ℕ) (near : c < chunks key) (sl : List (�
         on_class (lives.class_after_unlink c n) (alone k),
         (λ u moves. enter_sound c k own e k.labels k.words x refl refl (λ i b. refl) key.refs_limit n
             ((n + (2 ^ 64 - (2 ^ linked_first + 1))) % 2 ^ 64) label t u a moves o (unlinked_head o.head)
-            (unlink n o.head o.spells (on, omega (arith, many, ap bit on))) gen o.read
+            (unlink n o.head o.spells (on, omega (arith, many, ap bit on))) gen o.read o.ahead
+            (λ lit. absurd (false≢true lit))
             (λ lit. absurd (false≢true lit))
             (unlinked key.refs_limit o.head o.at (λ g. t (held g)) (λ g. t (named g)) o.lawful on)),
         enter_apart c k own e k.labels k.words x refl refl (λ i b. refl),
@@ -343,7 +352,8 @@ module _ (key : Config) (slots id c : ℕ) (near : c < chunks key) (sl : List (�
           let x : OwnStep = step_of kind.Sweep c n None in (
             on_class (class_after_sweep c n) (alone k),
             (λ u moves. enter_sound c k own e k.labels k.words x of (freed_quiet l) (λ i b. refl) key.refs_limit n n label t u a
-                moves o o.head o.spells (gen ∙ sym (ap (λ (j : ItemId). j.generation) (freed_subject l))) o.read o.obeys
+                moves o o.head o.spells (gen ∙ sym (ap (λ (j : ItemId). j.generation) (freed_subject l))) o.read o.ahead
+                o.faithful o.obeys
                 (ended key.refs_limit o.head o.at (λ g. t (held g)) (λ g. t (named g)) o.lawful (target e) place
                 zero_refs (freed_shows o.head l (subst (Shows o.head) place o.lawful.shown) o.lawful.generation
                 gen))),

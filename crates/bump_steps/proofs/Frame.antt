@@ -14,7 +14,7 @@ use Rattle.bump_rules.specs.declared.bumps.AppliedBump.{AppliedBump}
 use Rattle.bump_rules.specs.Lives.{life, one_if}
 use Rattle.bump_rules.proofs.Updates.{total_append, total_below}
 use Rattle.bump_steps.specs.declared.views.View.{View}
-use Rattle.bump_steps.specs.Views.{Measure, held, owners, strays, mislabels, misreads, misread, owns, standing, last_word, weight, tally, claims, evidence, Query, moves, settled, in_progress, underway, foreign, HaveLabels, workers_of, lane_count_of, untidy, IsBacked}
+use Rattle.bump_steps.specs.Views.{Measure, held, owners, strays, mislabels, misreads, glanced, misglanced, misread, misglance, glances_at, misglances_at, owns, standing, last_word, weight, tally, claims, evidence, Query, moves, settled, in_progress, underway, foreign, HaveLabels, workers_of, lane_count_of, untidy, IsBacked}
 use Rattle.bump_steps.specs.Places.{head_place, row_at, words_at}
 use Rattle.bump_steps.specs.References.{IsRow}
 use Rattle.bump_steps.proofs.Places.{place_apart, place_near, place_behind, row_long, words_beside, words_written, word_found, with_word, with_same}
@@ -48,6 +48,8 @@ pub record Amid (c : ℕ) (v : View) (t : Measure → ℕ) : Type 0 where
   pub told : (q : Query) → IsOwn q.test v → 0 < lane_count_of q.worker v → moves q v ≡ settled q v
   -- only a reference reads
   pub readers : (i g x : ℕ) → t (held g) ≡ 0 → t (misreads i g x) ≡ 0
+  -- and only a glance finds another word
+  pub glancers : (i g x : ℕ) → t (glanced g) ≡ 0 → t (misglanced i g x) ≡ 0
 
 -- the seat can go on to some view w, so that the chunk stays sound at the head word n, and the label and words x
 abbrev pub Reaches : RowPredicate → Config → ℕ → Sat → (Sat → Type 0) → ℕ → (ℕ → ℕ) → (Measure → ℕ) → Type 0
@@ -85,6 +87,13 @@ reader_holds c i g x v e = none_where_none (λ h. one_if (life c g) h.life) (mis
     ∙ zero-mul (cond (eqb (get_or h.row i 0) x) 0 1)) v.holds
     (omega arith)
 
+glance_finds : (c i g x : ℕ) (v : View) → weight c (glanced g) v ≡ 0 → weight c (misglanced i g x) v ≡ 0
+glance_finds c i g x v e = none_where_none (glances_at c g) (misglances_at i c g x)
+    (λ w none. none_where_none (λ y. one_if (life c g) y.life) (misglance i c g x)
+    (λ y clear. ap (λ (k : ℕ). k * cond (eqb (get_or y.row i 0) x && y.agrees) 0 1) clear
+    ∙ zero-mul (cond (eqb (get_or y.row i 0) x && y.agrees) 0 1)) w.glances none) v.workers
+    (omega (arith, e))
+
 -- what the rule says of one of the views
 pub amid : {law : RowPredicate} (key : Config) (s : State Empty View) → Kept law key s → (c i : ℕ) (v : View) → get_elem? s.views i ≡ some v
     → Amid c v (tally s.views c)
@@ -107,6 +116,8 @@ amid key s o c i v me = record {
   others = λ at. others_le (weight c (strays at)) (weight c owners) (stray_owns c at) s.views i v me;
   other_labels = λ j x. others_le (weight c (mislabels j x)) (weight c owners) (mislabel_owns c j x) s.views i v me;
   readers = λ j g x. none_where_none (weight c (held g)) (weight c (misreads j g x)) (reader_holds c j g x) s.views;
+  glancers = λ j g x. none_where_none (weight c (glanced g)) (weight c (misglanced j g x)) (glance_finds c j g x)
+      s.views;
 }
 
 -- what one view adds to the entries is backed

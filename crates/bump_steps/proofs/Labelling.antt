@@ -23,7 +23,7 @@ use Rattle.bump_steps.specs.declared.views.WordStep.{WordStep}
 use Rattle.bump_steps.specs.declared.views.OwnStep.{OwnStep}
 use Rattle.bump_steps.specs.declared.views.ClassPart.{ClassPart}
 use Rattle.bump_steps.specs.declared.views.View.{View}
-use Rattle.bump_steps.specs.Views.{held, named, saw, owners, strays, mislabels, misreads, owns, standing, labels_of, last_word, weight, shown_by, shows_time_only, HasLabels, IsBacked}
+use Rattle.bump_steps.specs.Views.{held, named, saw, owners, strays, mislabels, misreads, glanced, misglanced, owns, standing, labels_of, last_word, weight, shown_by, shows_time_only, HasLabels, IsBacked}
 use Rattle.bump_steps.specs.Rule.{RowPredicate, chunks, Kept}
 use Rattle.bump_steps.specs.Places.{head_place}
 use Rattle.bump_steps.specs.Plays.{Sat, on_label, on_word, step_of, Stands}
@@ -65,6 +65,8 @@ module _ (c i y : ℕ) (k : ClassPart) (own : owns c k ≡ true) (ls : List Labe
   label_apart b ne (strays s) = refl
   label_apart b ne (mislabels j z) = ap (λ (l : ℕ). bit (owns b k && not (eqb l z)) + 0) (last_apart j b ne)
   label_apart b ne (misreads n j z) = refl
+  label_apart b ne (glanced j) = refl
+  label_apart b ne (misglanced n j z) = refl
 
   -- this one has the word
   no_mislabel : weight c (mislabels i y) (alone stored) ≡ 0
@@ -142,6 +144,8 @@ module _ (c i y : ℕ) (k : ClassPart) (own : owns c k ≡ true) (ls : List Labe
             moves (misreads j o.head.generation (with_word label i y j)),
             a.readers j o.head.generation (with_word label i y j) unheld,
           );
+          ahead = λ g far. omega (arith, moves (glanced g), o.ahead g far);
+          faithful = λ lit. absurd (false≢true (sym (subst (Shows o.head) place o.lawful.shown).0 ∙ lit));
           obeys = λ lit. absurd (false≢true (sym (subst (Shows o.head) place o.lawful.shown).0 ∙ lit));
           hit = λ j some. omega (arith, moves (named j), o.hit j (omega (arith, some, moves (saw j))));
         }),

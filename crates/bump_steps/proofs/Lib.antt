@@ -16,6 +16,7 @@ pub mod Entering
 pub mod Labelling
 pub mod Meetings
 pub mod Referring
+pub mod Glances
 pub mod Tries
 pub mod Marking
 pub mod Applications

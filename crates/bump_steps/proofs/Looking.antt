@@ -15,7 +15,7 @@ use Rattle.bump_steps.specs.declared.views.Kind.{Kind}
 use Rattle.bump_steps.specs.declared.views.Kind.TheVariants as kind
 use Rattle.bump_steps.specs.declared.views.ClassPart.{ClassPart}
 use Rattle.bump_steps.specs.declared.views.View.{View}
-use Rattle.bump_steps.specs.Views.{Measure, held, named, saw, owners, strays, mislabels, misreads, owns, standing, last_word, shown_by, shows_time_only, of_owner, names_move, foreign_in, IsBacked}
+use Rattle.bump_steps.specs.Views.{Measure, held, named, saw, owners, strays, mislabels, misreads, glanced, misglanced, owns, standing, last_word, shown_by, shows_time_only, of_owner, names_move, foreign_in, IsBacked}
 use Rattle.bump_steps.specs.Rule.{RowPredicate, Sound, chunks, Kept}
 use Rattle.bump_steps.specs.Places.{head_place}
 use Rattle.bump_steps.specs.Plays.{Sat, on_chunk, on_time, step_of}
@@ -41,6 +41,8 @@ module _ (kind : Kind) (c n : ℕ) (v : View) where
   look_same b (mislabels i x) = on_first_total (λ k. cond (owns b k && not (eqb (last_word i k b) x)) 1 0)
       (noted_by kind c n) (λ k. refl) v.classes
   look_same b (misreads i j x) = refl
+  look_same b (glanced j) = refl
+  look_same b (misglanced i j x) = refl
 
   -- and shows what was shown, and no move
   pub look_backed : IsBacked v (on_class (noted_by kind c n) v)

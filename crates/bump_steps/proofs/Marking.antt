@@ -27,7 +27,7 @@ use Rattle.bump_steps.specs.declared.views.Kind.{Kind}
 use Rattle.bump_steps.specs.declared.views.Kind.TheVariants as kind
 use Rattle.bump_steps.specs.declared.views.WorkerPart.{WorkerPart}
 use Rattle.bump_steps.specs.declared.views.View.{View}
-use Rattle.bump_steps.specs.Views.{Measure, held, named, saw, owners, strays, mislabels, misreads, in_hand, is_fetch, is_fetch_of, weight, shown_by, IsBacked}
+use Rattle.bump_steps.specs.Views.{Measure, held, named, saw, owners, strays, mislabels, misreads, glanced, misglanced, glances_at, misglances_at, in_hand, is_fetch, is_fetch_of, weight, shown_by, IsBacked}
 use Rattle.bump_steps.specs.Rule.{RowPredicate, Sound, chunks, Kept}
 use Rattle.bump_steps.specs.Places.{head_place}
 use Rattle.bump_steps.specs.Plays.{Sat, on_chunk, on_time, on_first, step_of}
@@ -62,24 +62,32 @@ worker_backed f same v = record {
     by wk e outcome.Gone = omega arith
     by wk e outcome.TimeOnly = omega arith
 
--- a change of a worker's part that counts the same for the chunk
-pub record Quiet (b : ℕ) (f : WorkerPart → WorkerPart) : Type 0 where
+-- a change of a worker's part that counts the same for the chunk, leaving its glances aside
+pub record Steady (b : ℕ) (f : WorkerPart → WorkerPart) : Type 0 where
   pub hand : (j : ℕ) (p : WorkerPart) → in_hand b j (f p).hand ≡ in_hand b j p.hand
   pub hits : (j : ℕ) (p : WorkerPart) → count_of (life b j) (f p).hits ≡ count_of (life b j) p.hits
   pub steps : (j : ℕ) (p : WorkerPart) → how_many (is_fetch_of b j) (f p).steps ≡ how_many (is_fetch_of b j) p.steps
 
+-- and of its glances
+pub record Quiet (b : ℕ) (f : WorkerPart → WorkerPart) : Type 0 where
+  pub steady : Steady b f
+  pub glances : (j : ℕ) (p : WorkerPart) → glances_at b j (f p) ≡ glances_at b j p
+  pub glimpses : (i j x : ℕ) (p : WorkerPart) → misglances_at i b j x (f p) ≡ misglances_at i b j x p
+
 -- leaves what the view counts
 pub quiet_same : (b : ℕ) (f : WorkerPart → WorkerPart) (v : View) → Quiet b f → Same b v (on_worker f v)
-quiet_same b f v q (held j) = omega (arith, on_first_total (λ w. in_hand b j w.hand) f (q.hand j) v.workers)
-quiet_same b f v q (named j) = on_first_total (λ w. count_of (life b j) w.hits) f (q.hits j) v.workers
-quiet_same b f v q (saw j) = on_first_total (λ w. how_many (is_fetch_of b j) w.steps) f (q.steps j) v.workers
+quiet_same b f v q (held j) = omega (arith, on_first_total (λ w. in_hand b j w.hand) f (q.steady.hand j) v.workers)
+quiet_same b f v q (named j) = on_first_total (λ w. count_of (life b j) w.hits) f (q.steady.hits j) v.workers
+quiet_same b f v q (saw j) = on_first_total (λ w. how_many (is_fetch_of b j) w.steps) f (q.steady.steps j) v.workers
 quiet_same b f v q owners = refl
 quiet_same b f v q (strays s) = refl
 quiet_same b f v q (mislabels i x) = refl
 quiet_same b f v q (misreads i j x) = refl
+quiet_same b f v q (glanced j) = on_first_total (glances_at b j) f (q.glances j) v.workers
+quiet_same b f v q (misglanced i j x) = on_first_total (misglances_at i b j x) f (q.glimpses i j x) v.workers
 
 -- a step that isn't a fetch is none of the fetches
-other_steps : (k : Kind) → is_fetch k ≡ false → (b j c n : ℕ) (p : WorkerPart) → how_many (is_fetch_of b j)
+pub other_steps : (k : Kind) → is_fetch k ≡ false → (b j c n : ℕ) (p : WorkerPart) → how_many (is_fetch_of b j)
     (noted k c n p).steps ≡ how_many (is_fetch_of b j) p.steps
 other_steps k other b j c n p =
     omega (
@@ -105,19 +113,25 @@ done_none b j (hand.Clearing m) = refl
 -- a time changes nothing that is counted
 store_time_quiet : (b : ℕ) (l : ItemId) (n : ℕ) → Quiet b (worker_after_store_time l n)
 store_time_quiet b l n = record {
-  hand = λ j p. refl;
-  hits = λ j p. refl;
-  steps =
-      λ j p. other_steps kind.StoreTime refl b j l.chunk n p;
+  steady = record {
+    hand = λ j p. refl;
+    hits = λ j p. refl;
+    steps = λ j p. other_steps kind.StoreTime refl b j l.chunk n p;
+  };
+  glances = λ j p. refl;
+  glimpses = λ i j x p. refl;
 }
 
 -- nor does a mark that is cleared
 unmark_quiet : (b : ℕ) (l : ItemId) (h : Head) → Quiet b (worker_after_unmark l h)
 unmark_quiet b l h = record {
-  hand = λ j p. done_none b j p.hand;
-  hits = λ j p. refl;
-  steps =
-      λ j p. other_steps kind.Unmark refl b j l.chunk (word_of h) p;
+  steady = record {
+    hand = λ j p. done_none b j p.hand;
+    hits = λ j p. refl;
+    steps = λ j p. other_steps kind.Unmark refl b j l.chunk (word_of h) p;
+  };
+  glances = λ j p. refl;
+  glimpses = λ i j x p. refl;
 }
 
 -- whether or not a bump is attempted
@@ -129,13 +143,19 @@ either_way f false l p a stays attempts = stays
 -- nor one that is set
 mark_quiet : (b : ℕ) (l : ItemId) (h : Head) → Quiet b (worker_after_mark l h)
 mark_quiet b l h = record {
-  hand = λ j p. either_way (λ w. in_hand b j w.hand) (not h.active && is_cold h.segment) l
-      (noted kind.Mark l.chunk (word_of h) p) (in_hand b j p.hand) refl (tries_none b j l p.hand);
-  hits = λ j p. either_way (λ w. count_of (life b j) w.hits) (not h.active && is_cold h.segment) l
-      (noted kind.Mark l.chunk (word_of h) p) (count_of (life b j) p.hits) refl refl;
-  steps = λ j p. either_way (λ w. how_many (is_fetch_of b j) w.steps) (not h.active && is_cold h.segment) l
-      (noted kind.Mark l.chunk (word_of h) p) (how_many (is_fetch_of b j) p.steps)
-      (other_steps kind.Mark refl b j l.chunk (word_of h) p) (other_steps kind.Mark refl b j l.chunk (word_of h) p);
+  steady = record {
+    hand = λ j p. either_way (λ w. in_hand b j w.hand) (not h.active && is_cold h.segment) l
+        (noted kind.Mark l.chunk (word_of h) p) (in_hand b j p.hand) refl (tries_none b j l p.hand);
+    hits = λ j p. either_way (λ w. count_of (life b j) w.hits) (not h.active && is_cold h.segment) l
+        (noted kind.Mark l.chunk (word_of h) p) (count_of (life b j) p.hits) refl refl;
+    steps = λ j p. either_way (λ w. how_many (is_fetch_of b j) w.steps) (not h.active && is_cold h.segment) l
+        (noted kind.Mark l.chunk (word_of h) p) (how_many (is_fetch_of b j) p.steps)
+        (other_steps kind.Mark refl b j l.chunk (word_of h) p) (other_steps kind.Mark refl b j l.chunk (word_of h) p);
+  };
+  glances = λ j p. either_way (glances_at b j) (not h.active && is_cold h.segment) l
+      (noted kind.Mark l.chunk (word_of h) p) (glances_at b j p) refl refl;
+  glimpses = λ i j x p. either_way (misglances_at i b j x) (not h.active && is_cold h.segment) l
+      (noted kind.Mark l.chunk (word_of h) p) (misglances_at i b j x p) refl refl;
 }
 
 -- ---- fetches
@@ -185,6 +205,13 @@ module _ {law : RowPredicate} (key : Config) (slots id : ℕ) (m : Sat) (c : ℕ
         (λ p. total_push (λ x. cond (is_fetch_of b j x) 1 0) p.steps (step_of kind.Fetch c (word_of o.head) None))
         m.0.workers has
 
+    -- glances are as they were
+    glanced_as : (b j : ℕ) → weight b (glanced j) after ≡ weight b (glanced j) m.0
+    glanced_as b j = on_first_total (glances_at b j) (worker_after_fetch of found) (λ p. refl) m.0.workers
+
+    misglanced_as : (i b j y : ℕ) → weight b (misglanced i j y) after ≡ weight b (misglanced i j y) m.0
+    misglanced_as i b j y = on_first_total (misglances_at i b j y) (worker_after_fetch of found) (λ p. refl) m.0.workers
+
     -- references are as they were
     held_as : (b j : ℕ) → weight b (held j) after ≡ weight b (held j) m.0
     held_as b j = omega (
@@ -213,6 +240,8 @@ module _ {law : RowPredicate} (key : Config) (slots id : ℕ) (m : Sat) (c : ℕ
     fetch_apart b ne (strays s) = refl
     fetch_apart b ne (mislabels i y) = refl
     fetch_apart b ne (misreads i j y) = refl
+    fetch_apart b ne (glanced j) = glanced_as b j
+    fetch_apart b ne (misglanced i j y) = misglanced_as i b j y
 
     module _ (u : Measure → ℕ) (moves : (y : Measure) → u y + weight c y m.0 ≡ t y + weight c y after) where
       -- the same of all views together
@@ -257,6 +286,13 @@ module _ {law : RowPredicate} (key : Config) (slots id : ℕ) (m : Sat) (c : ℕ
         agreed = omega (arith, moves (strays (o.at, o.head.generation)), o.agreed);
         labelled = λ i. omega (arith, moves (mislabels i (x i)), o.labelled i);
         read = λ i. omega (arith, moves (misreads i o.head.generation (x i)), o.read i);
+        ahead = λ g far. omega (arith, moves (glanced g), glanced_as c g, o.ahead g far);
+        faithful = λ lit i. omega (
+          arith,
+          moves (misglanced i o.head.generation (x i)),
+          misglanced_as i c o.head.generation (x i),
+          o.faithful lit i,
+        );
         obeys = o.obeys;
         hit = λ g some. dite (ℕ_discrete g o.head.generation)
             (λ e. omega (arith, lawful.fetched, ap (λ (k : ℕ). u (named k)) e))
@@ -297,6 +333,8 @@ module _ {law : RowPredicate} (key : Config) (slots id : ℕ) (m : Sat) (c : ℕ
               agreed = o.agreed;
               labelled = o.labelled;
               read = o.read;
+              ahead = o.ahead;
+              faithful = o.faithful;
               obeys = o.obeys;
               hit = o.hit;
             })),
@@ -326,6 +364,8 @@ module _ {law : RowPredicate} (key : Config) (slots id : ℕ) (m : Sat) (c : ℕ
               agreed = o.agreed;
               labelled = o.labelled;
               read = o.read;
+              ahead = o.ahead;
+              faithful = o.faithful;
               obeys = o.obeys;
               hit = o.hit;
             })),

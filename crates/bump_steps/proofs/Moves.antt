@@ -11,7 +11,7 @@ use Rattle.bump_rules.specs.History.{is_standing}
 use Rattle.bump_rules.specs.Entries.{is_move_for, is_unlink_of}
 use Rattle.bump_rules.proofs.Updates.{total_append}
 use Rattle.bump_steps.specs.declared.views.View.{View}
-use Rattle.bump_steps.specs.Views.{Measure, held, named, saw, owners, strays, mislabels, misreads, misread, refers, in_hand, is_fetch_of, bump_aboard, owns, standing, last_word, weight, shown_by, claimed_in, settled_in, names_move, underway_in, untidy_in, shows_time_only, of_owner, foreign_in, HaveLabels}
+use Rattle.bump_steps.specs.Views.{Measure, held, named, saw, owners, strays, mislabels, misreads, glanced, misglanced, misread, glances_at, misglances_at, refers, in_hand, is_fetch_of, bump_aboard, owns, standing, last_word, weight, shown_by, claimed_in, settled_in, names_move, underway_in, untidy_in, shows_time_only, of_owner, foreign_in, HaveLabels}
 use Rattle.bump_steps.specs.Rule.{RowPredicate, blank, Kept}
 use Rattle.bump_steps.specs.Cuts.{joined, without_lanes, lanes_only, without_holds, holds_only, without_class, class_only, without_worker, worker_only, without_lane, lane_only}
 use Rattle.bump_steps.specs.Plays.{behind, first_as_list}
@@ -48,6 +48,8 @@ module _ (v left right : View) (p : Parted v left right) where
   parted_counts c (strays s) = p.classes (λ k. cond (owns c k && not (is_standing (standing k c) s)) 1 0)
   parted_counts c (mislabels i x) = p.classes (λ k. cond (owns c k && not (eqb (last_word i k c) x)) 1 0)
   parted_counts c (misreads i g x) = p.holds (misread i c g x)
+  parted_counts c (glanced g) = p.workers (glances_at c g)
+  parted_counts c (misglanced i g x) = p.workers (misglances_at i c g x)
 
   -- they show the same of entries
   pub parted_evidence : (n : ℕ) (a : AppliedBump) (o : Outcome) → AddsUp (shown_by o n a) v left right
@@ -189,6 +191,8 @@ both_join key id v other w = joins key id v other w (joined v w) blank
     nothing c (strays s) = refl
     nothing c (mislabels i x) = refl
     nothing c (misreads i g x) = refl
+    nothing c (glanced g) = refl
+    nothing c (misglanced i g x) = refl
 
     shows_nothing : (n : ℕ) (a : AppliedBump) (o : Outcome) → shown_by o n a blank ≡ 0
     shows_nothing n a outcome.Moved = refl

@@ -33,9 +33,9 @@ use Rattle.bump_steps.specs.declared.views.WorkerPart.{WorkerPart}
 use Rattle.bump_steps.specs.Places.{head_place}
 use Rattle.bump_steps.specs.Plays.{Sat, Found, on_chunk, on_row, on_label, on_word, behind, on_first, step_of}
 use Rattle.bump_steps.specs.Marks.{noted, on_worker}
-use Rattle.bump_steps.specs.References.{load_to_take_tells, new_hold, view_after_take, take_tells, HasHold, view_after_release, release_of_hold_tells, hold_after_load, view_after_load_of_hold, load_of_hold_tells, IsRow, IsOfRow, label_load_tells, word_load_tells, IsAnyHead, load_without_seat_tells, seen_me}
+use Rattle.bump_steps.specs.References.{load_to_take_tells, new_hold, worker_after_take, view_after_take, take_tells, HasHold, view_after_release, release_of_hold_tells, hold_after_load, view_after_load_of_hold, load_of_hold_tells, IsRow, IsOfRow, label_load_tells, word_load_tells, IsAnyHead, load_without_seat_tells, seen_me}
 use Rattle.bump_steps.specs.Rule.{RowPredicate, Sound, chunks, Kept, HasFittingLimit}
-use Rattle.bump_steps.specs.Views.{Measure, held, named, saw, owners, strays, mislabels, misreads, is_fetch, is_fetch_of, in_hand, misread, weight, tally, claims, evidence, shown_by, moves, settled, in_progress, underway, foreign, workers_of, lane_count_of, untidy, IsBacked}
+use Rattle.bump_steps.specs.Views.{Measure, held, named, saw, owners, strays, mislabels, misreads, glanced, misglanced, glances_at, misglances_at, is_fetch, is_fetch_of, in_hand, misread, weight, tally, claims, evidence, shown_by, moves, settled, in_progress, underway, foreign, workers_of, lane_count_of, untidy, IsBacked}
 use Rattle.bump_steps.proofs.LifeLabels.{labelled_push}
 use Rattle.bump_steps.proofs.Frame.{Same, Amid, Reaches, on_words_load, same_sound}
 use Rattle.bump_steps.proofs.StepLemmas.{at_chunk, at_row, at_label, at_word, on_first_total, same_counts, level, one_life, other_life, other_chunk, chunk_is}
@@ -50,6 +50,8 @@ record Beside (c : ℕ) (x : ℕ → ℕ) (v w : View) : Type 0 where
   straying : (s : Standing) → weight c (strays s) w ≡ weight c (strays s) v
   labels : (i y : ℕ) → weight c (mislabels i y) w ≡ weight c (mislabels i y) v
   reads : (i g : ℕ) → weight c (misreads i g (x i)) w ≤ weight c (misreads i g (x i)) v
+  glances : (g : ℕ) → weight c (glanced g) w ≡ weight c (glanced g) v
+  glimpses : (i g y : ℕ) → weight c (misglanced i g y) w ≡ weight c (misglanced i g y) v
 
 -- what counts the same on both sides of a step is the same before and behind it
 same_where : (p q a b : ℕ) → q + a ≡ p + b → b ≡ a → p ≡ q
@@ -76,6 +78,13 @@ refs_sound limit n p x c r v w t u moved o spells lawful b = record {
     moved (misreads i o.head.generation (x i)),
     b.reads i o.head.generation,
     o.read i,
+  );
+  ahead = λ g far. omega (arith, moved (glanced g), b.glances g, o.ahead g far);
+  faithful = λ lit i. omega (
+    arith,
+    moved (misglanced i o.head.generation (x i)),
+    b.glimpses i o.head.generation (x i),
+    o.faithful lit i,
   );
   obeys = o.obeys;
   hit = λ g some. omega (
@@ -136,6 +145,33 @@ module _ (step_kind : Kind) (plain : is_fetch step_kind ≡ false) (c n : ℕ) w
   noted_same v hs b (strays s) = refl
   noted_same v hs b (mislabels i x) = refl
   noted_same v hs b (misreads i g x) = refl
+  noted_same v hs b (glanced g) = on_first_total (glances_at b g) (noted step_kind c n) (λ w. refl) v.workers
+  noted_same v hs b (misglanced i g x) = on_first_total (misglances_at i b g x) (noted step_kind c n) (λ w. refl)
+      v.workers
+
+-- and so does one whose worker noted a hold that it took
+took_same : (c n : ℕ) (row : List ℕ) (v : View) (hs : List HoldPart) (b : ℕ) (y : Measure)
+    → weight b y (record v { workers = on_first (worker_after_take c n row) v.workers; holds = hs }) ≡ weight b y
+    (record v { holds = hs })
+took_same c n row v hs b (held g) =
+    omega (arith, on_first_total (λ w. in_hand b g w.hand) (worker_after_take c n row) (λ w. refl) v.workers)
+took_same c n row v hs b (named g) =
+    on_first_total (λ w. count_of (life b g) w.hits) (worker_after_take c n row) (λ w. refl) v.workers
+took_same c n row v hs b (saw g) = on_first_total (λ w. how_many (is_fetch_of b g) w.steps) (worker_after_take c n row)
+    (λ w. no_fetch kind.Take refl c n b g w) v.workers
+took_same c n row v hs b owners = refl
+took_same c n row v hs b (strays s) = refl
+took_same c n row v hs b (mislabels i x) = refl
+took_same c n row v hs b (misreads i g x) = refl
+took_same c n row v hs b (glanced g) = on_first_total (glances_at b g) (worker_after_take c n row) (λ w. refl) v.workers
+took_same c n row v hs b (misglanced i g x) =
+    on_first_total (misglances_at i b g x) (worker_after_take c n row) (λ w. refl) v.workers
+
+-- it keeps its number too
+took_workers : (c n : ℕ) (row : List ℕ) (v : View) (w : ℕ) → total (λ p. cond (p.worker == w) 1 0)
+    (on_first (worker_after_take c n row) v.workers) ≡ workers_of w v
+took_workers c n row v w = on_first_total (λ p. cond (p.worker == w) 1 0) (worker_after_take c n row) (λ p. refl)
+    v.workers
 
 -- a view counts the same where its first hold noted a look
 looked_same : (n : ℕ) (v : View) (b : ℕ) → Same b v (view_after_load_of_hold n v)
@@ -148,6 +184,8 @@ looked_same n v b (strays s) = refl
 looked_same n v b (mislabels i x) = refl
 looked_same n v b (misreads i g x) =
     omega (arith, on_first_total (misread i b g x) (hold_after_load n) (λ p. refl) v.holds)
+looked_same n v b (glanced g) = refl
+looked_same n v b (misglanced i g x) = refl
 
 -- by the get table, a word by which a get is a hold is linked, of the generation, and has a count under the limit
 pub held_is : (limit g : ℕ) (h : Head) → get_of limit g h ≡ IsHeld → (h.linked ≡ true) × (h.generation ≡ g)
@@ -203,7 +241,7 @@ module _ {law : RowPredicate} (c limit n : ℕ) (x : ℕ → ℕ) (v : View) (t 
 
 module _ (key : Config) (slots id : ℕ) (m : Sat) (c : ℕ) (near : c < chunks key) where
   -- a load by a worker, or its exchange that failed, changes no word, and nothing that counts
-  reaches_by_look : {law : RowPredicate} (kind : Kind) → is_fetch kind ≡ false → (n : ℕ) (x : ℕ → ℕ) (t : Measure → ℕ) (tell : Sat → Type 0)
+  pub reaches_by_look : {law : RowPredicate} (kind : Kind) → is_fetch kind ≡ false → (n : ℕ) (x : ℕ → ℕ) (t : Measure → ℕ) (tell : Sat → Type 0)
       → Sound law key.refs_limit n x t
       → tell (on_worker (noted kind c n) m.0, m.1) → Reaches law key c m tell n x t
   reaches_by_look kind plain n x t tell o told = (
@@ -251,7 +289,7 @@ module _ (key : Config) (slots id : ℕ) (m : Sat) (c : ℕ) (near : c < chunks 
       (sym gen) ∙ one_life (life c k) in
       let hs : List HoldPart = new_hold (life c k) row ∷ m.0.holds in
       let same : (b : ℕ) (y : Measure) → weight b y (view_after_take c n row m.0) ≡ weight b y
-      (record m.0 { holds = hs }) = noted_same kind.Take refl c n m.0 hs in (
+      (record m.0 { holds = hs }) = took_same c n row m.0 hs in (
         view_after_take c n row m.0,
         (λ u moved. refs_sound key.refs_limit n (old + 1) x c (o.head.refs + 1) m.0 (view_after_take c n row m.0) t u
             moved o
@@ -269,9 +307,11 @@ module _ (key : Config) (slots id : ℕ) (m : Sat) (c : ℕ) (near : c < chunks 
               labels = λ i y. same c (mislabels i y);
               reads =
                   λ i j. omega (arith, same c (misreads i j (x i)), same_row i c j (life c k) row);
+              glances = λ j. same c (glanced j);
+              glimpses = λ i j y. same c (misglanced i j y);
             })),
         apart (view_after_take c n row m.0) k hs same,
-        quiet m.0 (on_first (noted kind.Take c n) m.0.workers) hs m.0.returned (same_workers kind.Take c n m.0),
+        quiet m.0 (on_first (worker_after_take c n row) m.0.workers) hs m.0.returned (took_workers c n row m.0),
         (
           (λ _. (row, long, o.obeys lit, refl)),
           (λ miss. absurd (miss hit)),
@@ -295,6 +335,8 @@ module _ (key : Config) (slots id : ℕ) (m : Sat) (c : ℕ) (near : c < chunks 
         ap (λ (z : ℕ). z * cond (eqb (get_or row i 0) y) 0 1) (other_chunk b j (life c k) ne),
         zero-mul (cond (eqb (get_or row i 0) y) 0 1),
       )
+      apart w k hs same b ne (glanced j) = same b (glanced j)
+      apart w k hs same b ne (misglanced i j y) = same b (misglanced i j y)
 
   -- the exchange that takes a hold
   pub may_take : {law : RowPredicate} (g old : ℕ) (h : Head) → Spells old h → get_of key.refs_limit g h ≡ IsHeld
@@ -342,6 +384,8 @@ module _ (key : Config) (slots id : ℕ) (m : Sat) (c : ℕ) (near : c < chunks 
           first_term (misread i b j y),
           unread_there b j (cond (eqb (get_or h.row i 0) y) 0 1) ne,
         )
+    fewer n b ne (glanced j) = refl
+    fewer n b ne (misglanced i j y) = refl
 
     -- a hold gives its reference back
     releases : {law : RowPredicate} → Allows (Kept law key) slots id m (head_place slots c) (λ n. (n + (2 ^ 64 - 1)) % 2 ^ 64)
@@ -373,6 +417,8 @@ module _ (key : Config) (slots id : ℕ) (m : Sat) (c : ℕ) (near : c < chunks 
                 labels =
                     λ i y. refl;
                 reads = λ i j. omega (arith, first_term (misread i c j (x i)));
+                glances = λ j. refl;
+                glimpses = λ i j y. refl;
               })),
           fewer n,
           quiet m.0 m.0.workers (behind m.0.holds) (view_after_release n m.0).returned (λ w. refl),
@@ -416,6 +462,8 @@ nothing b c n owners = refl
 nothing b c n (strays s) = refl
 nothing b c n (mislabels i x) = refl
 nothing b c n (misreads i g x) = refl
+nothing b c n (glanced g) = refl
+nothing b c n (misglanced i g x) = refl
 
 -- a load of a head word, without a seat
 pub may_load_without_seat : {law : RowPredicate} (key : Config) (slots c : ℕ) (first : View) → c < chunks key → Enters (Kept law key) slots

@@ -13,7 +13,7 @@ use Rattle.bump_steps.specs.declared.views.Ride.{Ride}
 use Rattle.bump_steps.specs.declared.views.WorkerPart.{WorkerPart}
 use Rattle.bump_steps.specs.declared.views.HoldPart.{HoldPart}
 use Rattle.bump_steps.specs.declared.views.View.{View}
-use Rattle.bump_steps.specs.Views.{Measure, held, named, saw, owners, strays, mislabels, misreads, weight, in_hand, is_fetch_of, shown_by}
+use Rattle.bump_steps.specs.Views.{Measure, held, named, saw, owners, strays, mislabels, misreads, glanced, misglanced, glances_at, misglances_at, weight, in_hand, is_fetch_of, shown_by}
 use Rattle.bump_steps.specs.Rule.{RowPredicate, Kept, blank}
 use Rattle.bump_steps.specs.Plays.{on_first}
 use Rattle.bump_steps.specs.Rides.{touching, rides_by, rides_in, sent, sent_hand, without_ride, ride_only, return_both}
@@ -45,6 +45,8 @@ parted v c owners = omega arith
 parted v c (strays s) = omega arith
 parted v c (mislabels i y) = omega arith
 parted v c (misreads i g y) = omega arith
+parted v c (glanced g) = omega (arith, on_first_total (glances_at c g) sent (λ w. refl) v.workers)
+parted v c (misglanced i g y) = omega (arith, on_first_total (misglances_at i c g y) sent (λ w. refl) v.workers)
 
 parted_evidence : (v : View) (n : ℕ) (a : AppliedBump) (o : Outcome) → AddsUp (shown_by o n a) v (without_ride v)
     (ride_only v)
@@ -78,6 +80,8 @@ module _ (p : WorkerPart) (h : HoldPart) (r : Ride) where
   even c (strays s) = refl
   even c (mislabels i y) = refl
   even c (misreads i g y) = omega arith
+  even c (glanced g) = omega arith
+  even c (misglanced i g y) = omega arith
 
   same_evidence : (n : ℕ) (a : AppliedBump) (o : Outcome) → shown_by o n a (return_both idle travels) + shown_by o n a
       blank ≡ shown_by o n a idle + shown_by o n a travels

@@ -29,7 +29,7 @@ use Rattle.bump_steps.specs.declared.views.OwnStep.{OwnStep}
 use Rattle.bump_steps.specs.declared.views.WorkerPart.{WorkerPart}
 use Rattle.bump_steps.specs.declared.views.HoldPart.{HoldPart}
 use Rattle.bump_steps.specs.declared.views.View.{View}
-use Rattle.bump_steps.specs.Views.{Measure, held, named, saw, owners, strays, mislabels, misreads, weight, in_hand, is_fetch, is_fetch_of, shown_by, IsBacked}
+use Rattle.bump_steps.specs.Views.{Measure, held, named, saw, owners, strays, mislabels, misreads, glanced, misglanced, weight, in_hand, is_fetch, is_fetch_of, shown_by, IsBacked}
 use Rattle.bump_steps.specs.Rule.{RowPredicate, Sound, chunks, Kept, HasFittingLimit}
 use Rattle.bump_steps.specs.Places.{head_place}
 use Rattle.bump_steps.specs.Plays.{Sat, step_of}
@@ -73,6 +73,8 @@ module _ (p : WorkerPart) (q : HoldPart) (l : ItemId) where
     elsewhere b same (strays w) = refl
     elsewhere b same (mislabels i y) = refl
     elsewhere b same (misreads i k y) = refl
+    elsewhere b same (glanced k) = refl
+    elsewhere b same (misglanced i k y) = refl
 
     -- a worker's step shows nothing of applied bumps
     quiet : IsBacked (with_hold s p.accounts p.steps) (with_hold z a (p.steps ++ x ∷ []))
@@ -111,6 +113,8 @@ module _ (p : WorkerPart) (q : HoldPart) (l : ItemId) where
       agreed = omega (arith, moves (strays (o.at, o.head.generation)), o.agreed);
       labelled = λ i. omega (arith, moves (mislabels i (y i)), o.labelled i);
       read = λ i. omega (arith, moves (misreads i o.head.generation (y i)), o.read i);
+      ahead = λ j far. omega (arith, moves (glanced j), o.ahead j far);
+      faithful = λ lit i. omega (arith, moves (misglanced i o.head.generation (y i)), o.faithful lit i);
       obeys = o.obeys;
       hit = λ j some. omega (
         arith,

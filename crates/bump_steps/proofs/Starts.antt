@@ -28,7 +28,7 @@ use Rattle.bump_rules.specs.History.{is_standing}
 use Rattle.bump_rules.specs.Entries.{is_move_for}
 use Rattle.bump_rules.proofs.Standings.{standing_same}
 use Rattle.bump_word.specs.Layout.{generation_width}
-use Rattle.bump_steps.specs.Views.{owns, standing, labels_of, last_word, held, named, saw, weight, refers, in_hand, is_fetch_of, bump_aboard, claimed_in, settled_in, names_move, underway_in, foreign_in, HaveLabels, untidy_in}
+use Rattle.bump_steps.specs.Views.{owns, standing, labels_of, last_word, held, named, saw, glanced, glances_at, weight, refers, in_hand, is_fetch_of, bump_aboard, claimed_in, settled_in, names_move, underway_in, foreign_in, HaveLabels, untidy_in}
 use Rattle.bump_steps.specs.Rule.{RowPredicate, chunks, Kept, class_parts, worker_part, worker_parts, lane_part, lane_parts, opened, AreFresh, HasFittingLimit}
 
 -- the part of a class to which nothing happened
@@ -179,6 +179,9 @@ no_named c g key = omega (arith, no_workers (λ w. count_of (life c g) w.hits) (
 no_saw : (c g : ℕ) (key : Config) → weight c (saw g) (opened key) + 0 ≡ 0
 no_saw c g key = omega (arith, no_workers (λ w. how_many (is_fetch_of c g) w.steps) (λ w. refl) 0 key.workers)
 
+no_glance : (c g : ℕ) (key : Config) → weight c (glanced g) (opened key) + 0 ≡ 0
+no_glance c g key = omega (arith, no_workers (glances_at c g) (λ w. refl) 0 key.workers)
+
 -- no chunk of a new class is in use, and no life has begun
 fresh_labels : (g i at : ℕ) (ks : List ClassConfig) → HaveLabels (class_parts g i at ks)
 fresh_labels g i at [] = tt
@@ -259,6 +262,8 @@ starts key words slots at_first limits generations = record {
         (class_parts (key.first_generation - 1) 0 0 key.classes) + 0 ≡ 0) (sym ((fresh.1 c near).1 i))
         (omega (arith, no_mislabel_yet i (key.first_generation - 1) 0 0 c key.classes));
     read = λ i. refl;
+    ahead = λ g far. no_glance c g key;
+    faithful = λ lit. absurd (false≢true lit);
     hit = λ g some. absurd (omega (arith, some, no_saw c g key));
   };
   one_class = λ c. omega (arith, few_owners (key.first_generation - 1) c key.classes);

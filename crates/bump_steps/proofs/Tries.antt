@@ -2,6 +2,7 @@
 use Rattle.std.proofs.Common.{◌≡◌, ◌≢◌, ℕ, zero, suc, ◌+◌, ◌/◌, ◌^◌, ◌<◌, ◌≤◌, Bool, List, [], ◌∷◌, ◌++◌, length, Option, Some, None, refl, sym, ap, ap₂, ◌∙◌, subst, arith, eq-eqb, ne_eqb, append_assoc, append-nil, length-append, option_map}
 use Rattle.std.specs.Prelude.{if◌then◌else◌}
 use Rattle.bump_rules.specs.declared.items.Head.{Head}
+use Rattle.bump_rules.specs.declared.items.ItemId.{ItemId}
 use Rattle.bump_rules.specs.Lives.{life}
 use Rattle.bump_rules.specs.Tables.{Get, IsHeld, IsStale, IsRefsFull, get_of}
 use Rattle.bump_word.specs.Layout.{generation_first}
@@ -17,7 +18,7 @@ use Rattle.bump_steps.specs.declared.views.WorkerPart.{WorkerPart}
 use Rattle.bump_steps.specs.Marks.{on_worker}
 use Rattle.bump_steps.specs.Rule.{RowPredicate}
 use Rattle.bump_steps.specs.Plays.{Sat, HasWorker, on_first, step_of}
-use Rattle.bump_steps.specs.References.{new_hold, view_after_load, view_after_failed, load_to_take_tells, view_after_take, IsRow, words_in, take_tells}
+use Rattle.bump_steps.specs.References.{new_hold, view_after_load, view_after_failed, load_to_take_tells, worker_after_take, view_after_take, IsRow, words_in, take_tells}
 use Rattle.bump_steps.specs.Tries.{last_found, AreAll, AreTries, AttemptFound, AskedFound, refused_by, take_refused, asked_refusal, failures, load_and_failures, takes, with_more, held_by, asked_life, view_after_attempt, any_refusal}
 use Rattle.bump_steps.proofs.Referring.{held_is}
 
@@ -69,6 +70,23 @@ more_again s t v = ap (λ (ws : List WorkerPart). record v { workers = ws })
     (first_again (with_more s) (with_more t) v.workers
     ∙ ap (λ (f : WorkerPart → WorkerPart). on_first f v.workers)
     (λ i w. record w { steps = append_assoc w.steps s t i }))
+
+-- behind these steps the worker took this hold, or was refused
+abbrev asked_part : List OwnStep → ℕ → Head → Option TakeRefusal → ItemId → List ℕ → WorkerPart → WorkerPart
+asked_part steps c k o l row w =
+    record w { steps = w.steps ++ (steps ++ takes c o k); taken = held_by o l row w.taken }
+
+-- a hold is taken behind these steps
+take_again : (s : List OwnStep) (c : ℕ) (k : Head) (row : List ℕ) (v : View)
+    → on_worker (worker_after_take c (word_of k) row) (on_worker (with_more s) v)
+    ≡ on_worker (asked_part s c k None (life c (word_of k / 2 ^ generation_first)) row) v
+take_again s c k row v = ap (λ (ws : List WorkerPart). record v { workers = ws })
+    (first_again (with_more s) (worker_after_take c (word_of k) row) v.workers
+    ∙ ap (λ (f : WorkerPart → WorkerPart). on_first f v.workers)
+    (λ i w. record w {
+      steps = append_assoc w.steps s (step_of kind.Take c (word_of k) None ∷ []) i;
+      taken = new_hold (life c (word_of k / 2 ^ generation_first)) row ∷ w.taken;
+    }))
 
 -- a change of the first element leaves as many
 some_first : {A : Type 0} (f : A → A) (l : List A) → 0 < length l → 0 < length (on_first f l)
@@ -253,7 +271,9 @@ module _ (law : RowPredicate) (limit slots : ℕ) (asked : Head → ℕ) (c : �
             (sym (append-nil (load_and_failures c first more)))
             ∙ ap (λ (o : Option TakeRefusal). (
               record before.0 {
-                workers = on_first (with_more (load_and_failures c first more ++ takes c o (last_found first more)))
+                workers = on_first
+                    (asked_part (load_and_failures c first more) c (last_found first more) o
+                    (asked_life asked c first more) (row_of_zeros (slots + 1)))
                     before.0.workers;
                 holds = held_by o (asked_life asked c first more) (row_of_zeros (slots + 1)) before.0.holds;
               },
@@ -300,11 +320,21 @@ module _ (law : RowPredicate) (limit slots : ℕ) (asked : Head → ℕ) (c : �
                   record v { holds = new_hold (life c g) took.0 ∷ before.0.holds },
                   before.1,
                 ))
-                (more_again (load_and_failures c first more) (step_of kind.Take c (word_of k) None ∷ [])
-                before.0) gen
+                (take_again (load_and_failures c first more) c k took.0 before.0) gen
+                ∙ ap (λ (g : ℕ). (
+                  record before.0 {
+                    workers = on_first
+                        (asked_part (load_and_failures c first more) c k None (life c g) took.0)
+                        before.0.workers;
+                    holds = new_hold (life c (asked k)) took.0 ∷ before.0.holds;
+                  },
+                  before.1,
+                )) gen
                 ∙ ap (λ (o : Option TakeRefusal). (
                   record before.0 {
-                    workers = on_first (with_more (load_and_failures c first more ++ takes c o k)) before.0.workers;
+                    workers = on_first
+                        (asked_part (load_and_failures c first more) c k o (life c (asked k)) took.0)
+                        before.0.workers;
                     holds = held_by o (life c (asked k)) took.0 before.0.holds;
                   },
                   before.1,

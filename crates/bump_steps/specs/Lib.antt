@@ -6,6 +6,7 @@ pub mod Words
 pub mod Plays
 pub mod Cuts
 pub mod References
+pub mod Glances
 pub mod Tries
 pub mod Marks
 pub mod Rides

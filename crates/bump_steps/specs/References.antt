@@ -12,6 +12,7 @@ use Rattle.bump_steps.specs.declared.views.GivenBack.{GivenBack}
 use Rattle.bump_steps.specs.declared.views.HoldPart.{HoldPart}
 use Rattle.bump_steps.specs.declared.views.Kind.TheVariants as kind
 use Rattle.bump_steps.specs.declared.views.View.{View}
+use Rattle.bump_steps.specs.declared.views.WorkerPart.{WorkerPart}
 use Rattle.bump_steps.specs.Plays.{Sat, Tells, Found, Told, behind, on_first, step_of}
 use Rattle.bump_steps.specs.Marks.{noted, on_worker}
 use Rattle.bump_steps.specs.Rule.{RowPredicate, blank}
@@ -32,10 +33,16 @@ load_to_take_tells chunk operand before word after = (after ≡ (view_after_load
 abbrev pub new_hold : ItemId → List ℕ → HoldPart
 new_hold item row = record { life = item; row = row; looks = [] }
 
--- the worker took a reference where it found n: the life is the one whose generation n has
+-- the worker notes the exchange and the hold that it took
+abbrev pub worker_after_take : ℕ → ℕ → List ℕ → WorkerPart → WorkerPart
+worker_after_take chunk word row worker = record (noted kind.Take chunk word worker)
+    { taken = new_hold (life chunk (word / 2 ^ generation_first)) row ∷ worker.taken }
+
+-- the worker took a reference where it found n: the life is the one whose generation n has, and the worker and the new
+-- hold have the same row
 abbrev pub view_after_take : ℕ → ℕ → List ℕ → View → View
 view_after_take chunk word row view = record view {
-  workers = on_first (noted kind.Take chunk word) view.workers;
+  workers = on_first (worker_after_take chunk word row) view.workers;
   holds =
       new_hold (life chunk (word / 2 ^ generation_first)) row ∷ view.holds;
 }

@@ -20,7 +20,7 @@ use Rattle.bump_steps.specs.declared.views.LanePart.{LanePart}
 use Rattle.bump_steps.specs.declared.views.WorkerPart.{WorkerPart}
 use Rattle.bump_steps.specs.declared.views.View.{View}
 use Rattle.bump_steps.specs.Places.{head_place, words_at}
-use Rattle.bump_steps.specs.Views.{Measure, held, named, saw, owners, strays, mislabels, misreads, weight, tally}
+use Rattle.bump_steps.specs.Views.{Measure, held, named, saw, owners, strays, mislabels, misreads, glanced, misglanced, weight, tally}
 use Rattle.bump_steps.specs.Views.{claims, evidence, Query, moves, settled, in_progress, underway, foreign, AreLabelled}
 use Rattle.bump_steps.specs.Views.{workers_of, lane_count_of, untidy}
 
@@ -43,6 +43,9 @@ pub record Sound (law : RowPredicate) (limit word : ℕ) (label : ℕ → ℕ) (
   -- its label and words are what this class stored last, and the row of each hold of the life
   pub labelled : (i : ℕ) → tally_of (mislabels i (label i)) ≡ 0
   pub read : (i : ℕ) → tally_of (misreads i head.generation (label i)) ≡ 0
+  -- no glance is at a life to come, and while the life lasts those at it have its words, and loaded no others
+  pub ahead : (g : ℕ) → head.generation < g → tally_of (glanced g) ≡ 0
+  pub faithful : head.linked ≡ true → (i : ℕ) → tally_of (misglanced i head.generation (label i)) ≡ 0
   -- and of a chunk that is linked the table's law holds
   pub obeys : head.linked ≡ true → law label
   -- a life of which some worker set FETCHED has its first hit
@@ -105,7 +108,15 @@ class_parts fresh class first (config ∷ ks) = record {
 } ∷ class_parts fresh (class + 1) (first + config.chunks) ks
 
 abbrev pub worker_part : ℕ → WorkerPart
-worker_part worker = record { worker = worker; hand = hand.Idle; accounts = no_accounts; hits = []; steps = [] }
+worker_part worker = record {
+  worker = worker;
+  hand = hand.Idle;
+  accounts = no_accounts;
+  hits = [];
+  steps = [];
+  taken = [];
+  glances = [];
+}
 
 -- n workers from w on
 abbrev pub worker_parts : ℕ → ℕ → List WorkerPart

@@ -113,7 +113,8 @@ asked_steps limit asked chunk first more = load_and_failures chunk first more ++
 abbrev pub steps_of : ℕ → ItemId → Head → List Head → List OwnStep
 steps_of limit item = asked_steps limit (of_life item) item.chunk
 
--- the new hold, if there is one, is the first, and has this row
+-- the new hold, if there is one, is the first, and has this row: among a seat's holds, and among those that a worker
+-- took
 abbrev pub held_by : Option TakeRefusal → ItemId → List ℕ → List HoldPart → List HoldPart
 held_by None item row holds = new_hold item row ∷ holds
 held_by (Some refusal) item row holds = holds
@@ -122,10 +123,17 @@ held_by (Some refusal) item row holds = holds
 abbrev pub asked_life : (Head → ℕ) → ℕ → Head → List Head → ItemId
 asked_life asked chunk first more = life chunk (asked (last_found first more))
 
+-- the worker after the call: it made these steps, and it took this hold, if it took one
+abbrev pub worker_after_asked : ℕ → (Head → ℕ) → ℕ → Head → List Head → List ℕ → WorkerPart → WorkerPart
+worker_after_asked limit asked chunk first more row worker = record worker {
+  steps = worker.steps ++ asked_steps limit asked chunk first more;
+  taken = held_by (asked_refusal limit asked first more) (asked_life asked chunk first more) row worker.taken;
+}
+
 -- the view after the call
 abbrev pub view_after_attempt : ℕ → (Head → ℕ) → ℕ → Head → List Head → List ℕ → View → View
 view_after_attempt limit asked chunk first more row view = record view {
-  workers = on_first (with_more (asked_steps limit asked chunk first more)) view.workers;
+  workers = on_first (worker_after_asked limit asked chunk first more row) view.workers;
   holds = held_by (asked_refusal limit asked first more) (asked_life asked chunk first more) row view.holds;
 }
 

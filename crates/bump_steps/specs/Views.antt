@@ -30,6 +30,7 @@ use Rattle.bump_steps.specs.declared.views.WordStep.TheVariants.{Put, Begun}
 use Rattle.bump_steps.specs.declared.views.Ride.{Ride}
 use Rattle.bump_steps.specs.declared.views.WorkerPart.{WorkerPart}
 use Rattle.bump_steps.specs.declared.views.HoldPart.{HoldPart}
+use Rattle.bump_steps.specs.declared.views.GlancePart.{GlancePart}
 use Rattle.bump_steps.specs.declared.views.ClassPart.{ClassPart}
 use Rattle.bump_steps.specs.declared.views.LanePart.{LanePart}
 use Rattle.bump_steps.specs.declared.views.View.{View}
@@ -116,11 +117,27 @@ pub data Measure : Type 0 where
   mislabels : ℕ → ℕ → Measure
   -- holds of this life in whose row another word i stands
   misreads : ℕ → ℕ → ℕ → Measure
+  -- glances at its life of this generation
+  glanced : ℕ → Measure
+  -- of these, those in whose row another word i stands, or that loaded a word that their row hasn't
+  misglanced : ℕ → ℕ → ℕ → Measure
 
 -- 1 where the hold is of this life, and word i of its row isn't this one
 abbrev pub misread : ℕ → ℕ → ℕ → ℕ → HoldPart → ℕ
 misread i chunk generation word hold =
     one_if (life chunk generation) hold.life * cond (slice_index hold.row i == word) 0 1
+
+-- 1 where the glance is at this life, and word i of its row isn't this one, or it loaded a word that its row hasn't
+abbrev pub misglance : ℕ → ℕ → ℕ → ℕ → GlancePart → ℕ
+misglance i chunk generation word glance =
+    one_if (life chunk generation) glance.life * cond ((slice_index glance.row i == word) && glance.agrees) 0 1
+
+-- what the glances of a worker count so
+abbrev pub glances_at : ℕ → ℕ → WorkerPart → ℕ
+glances_at chunk generation worker = total (λ g. one_if (life chunk generation) g.life) worker.glances
+
+abbrev pub misglances_at : ℕ → ℕ → ℕ → ℕ → WorkerPart → ℕ
+misglances_at i chunk generation word worker = total (misglance i chunk generation word) worker.glances
 
 -- what parts count of chunk c
 abbrev pub counts : ℕ → Measure → List WorkerPart → List HoldPart → List Ride → List ClassPart → List LanePart → ℕ
@@ -135,6 +152,8 @@ counts chunk (strays at) ws hs rs ks ls =
 counts chunk (mislabels i label) ws hs rs ks ls =
     total (λ k. cond (owns chunk k && not (last_word i k chunk == label)) 1 0) ks
 counts chunk (misreads i generation label) ws hs rs ks ls = total (misread i chunk generation label) hs
+counts chunk (glanced generation) ws hs rs ks ls = total (glances_at chunk generation) ws
+counts chunk (misglanced i generation word) ws hs rs ks ls = total (misglances_at i chunk generation word) ws
 
 -- what one view counts of chunk c
 abbrev pub weight : ℕ → Measure → View → ℕ

@@ -3,6 +3,7 @@
 mod applications;
 mod boardings;
 mod cuts;
+mod glances;
 mod lives;
 mod marks;
 mod meetings;

@@ -133,6 +133,13 @@ pub struct WorkerPart {
 
     /// The steps that it made, in order.
     pub steps: LinkedList<OwnStep>,
+
+    /// The holds that its exchanges took, as they were then, the last one first. Each has the words that stood in its
+    /// chunk when the exchange took it.
+    pub taken: LinkedList<HoldPart>,
+
+    /// Its glances, the last one first: each has the words that stood in its chunk when it began.
+    pub glances: LinkedList<GlancePart>,
 }
 
 /// What a hold knows.
@@ -145,6 +152,19 @@ pub struct HoldPart {
 
     /// The head words that its looks found, in order.
     pub looks: LinkedList<u64>,
+}
+
+/// What a glance knows: a look at a life without a reference. While the life is linked its words are those of the row,
+/// and each word that the glance loaded was the one of the row.
+pub struct GlancePart {
+    /// The life that its first load found linked.
+    pub life: ItemId,
+
+    /// The life's words, as a hold has them.
+    pub row: LinkedList<u64>,
+
+    /// Whether each word that it loaded is the one of the row.
+    pub agrees: bool,
 }
 
 /// The mark of a hold's reference that was given back.

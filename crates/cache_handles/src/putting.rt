@@ -22,8 +22,8 @@ pub enum PutTold {
     /// A replacement, an update or a touch: the key has nothing, or what has expired, and nothing was put.
     Nothing,
 
-    /// No chunk was free, and it is told whether an item was evicted all the same: each chunk without an item is held
-    /// by a reader, or by a bump that waits. The key keeps what it had.
+    /// No chunk was free, and it is told whether an item was evicted all the same: behind all bumps that waited each chunk
+    /// without an item was found held, or has had its last generation. The key keeps what it had.
     NoRoom { evicted: bool },
 
     /// The key is longer than keys may be.

@@ -14,11 +14,10 @@ ghost use Rattle.cache_lists.specs.Looks.{LooksOnly};
 ghost use Rattle.cache_lists.specs.Freeing.{FreesUpTo};
 ghost use Rattle.cache_lists.specs.Ends.{EndsOne, EndsLinked};
 ghost use Rattle.cache_lists.specs.Items.{HasNoBumpFor};
-ghost use Rattle.bump_class.specs.Applications.{AppliesFront};
-ghost use Rattle.bump_class.specs.Books.{BookView as TheBookView};
+ghost use Rattle.cache_lists.specs.Draining.{AppliesAboard, LooksAtMost};
 ghost use Rattle.bump_class.specs.Changes.{book_with_words};
 ghost use Rattle.bump_class.specs.Links.{MayHave, linked_item};
-ghost use Rattle.bump_class.specs.Lanes.{entries, LaneView as TheLaneView};
+ghost use Rattle.bump_class.specs.Lanes.{entries};
 ghost use Rattle.bump_class.specs.Pulls.{Pulls, PullsBy, limits_of_call};
 ghost use Rattle.cache_lists.specs.Ages.{LooksPast};
 ghost use Rattle.bump_class.specs.Sweeps.{Sweeps};
@@ -289,11 +288,11 @@ pub(crate) fn apply_next<N: Name, L: RowLaw>(
     now: u64,
 ) -> Option<Applied>
     ensures items { KeepsItems book.old book.new }
-    ensures front { IfSome result (λ it. (seen : TheBookView) × (from : TheLaneView)
-        × AppliesFront now seen from it book.new lane.new) }
+    ensures applies { IfSome result (λ it. AppliesAboard now book.old lane.old it book.new lane.new) }
     ensures applied { IfSome result (λ it. length (entries lane.new) ≡ length (entries lane.old) + 1) }
     ensures kept { IfNone result (entries lane.new ≡ entries lane.old) }
     ensures none { IfNone result (HasNoBumpFor book.old lane.new) }
+    ensures looks { IfNone result (LooksAtMost book.old lane.new book.new) }
     ensures ring { lane.new.ring ≡ lane.old.ring }
     ensures flows { Flows (way_of_applied result) book.old book.new }
 {

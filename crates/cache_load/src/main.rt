@@ -63,10 +63,7 @@ fn load_of(words: &[String]) -> Option<Load> {
 // and for each hold. By ages an item may leave HOT however few are there: then keys that are always there could be evicted.
 fn config_of(load: Load, seed: Seed) -> CacheConfig {
     CacheConfig {
-        spare: load
-            .readers
-            .saturating_mul(RING + 2)
-            .saturating_mul(load.parts),
+        spare: load.readers.saturating_mul(RING + 2),
         hot_age: None,
         warm_age: None,
         parts: load.parts,

@@ -4,7 +4,7 @@ use crate::changers::Changer;
 use crate::values::{STAYING, Value, count, next_other, value_of};
 use bump_cache::{Cache, LogName, Name, NoRoom, Put};
 use std::sync::Wait;
-use std::sync::atomic::{AtomicBool, AtomicU64, Ordering};
+use std::sync::atomic::{AtomicBool, Ordering};
 
 /// What writers came to.
 #[derive(Clone, Copy)]
@@ -139,6 +139,11 @@ pub fn tend<N: Name + LogName, W: Wait>(
         others: _,
         mut me,
     } = changer;
-    let clock = AtomicU64::new(7);
-    cache.tend_until(rt, &mut me, &clock, done);
+    cache.tend_until(rt, &mut me, || {
+        if done.load(Ordering::SeqCst) {
+            None
+        } else {
+            Some(7)
+        }
+    });
 }

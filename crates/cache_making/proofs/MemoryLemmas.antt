@@ -8,7 +8,7 @@ use Rattle.keyed_hash.specs.declared.seed.Seed.{Seed}
 use Rattle.cache_making.specs.declared.config.CacheFault.{CacheFault}
 use Rattle.cache_making.specs.declared.config.CacheFault.TheVariants.{Items, Spare, Parts, Readers}
 use Rattle.cache_making.specs.declared.config.CacheConfig.{CacheConfig}
-use Rattle.cache_making.specs.Configs.{class_of, even_share, first_cache_fault, most_parts, new_config, spare_of}
+use Rattle.cache_making.specs.Configs.{all_chunks, class_of, even_share, first_cache_fault, most_parts, new_config, spare_of}
 use Rattle.cache_making.specs.Memory.{bytes_of, index_bytes, list_bytes, packing_bytes, part_bytes, reader_bytes, row_bytes, shared_bytes, sum_of_parts}
 use Rattle.cache_making.proofs.Evens.{share_most, shares_all, shares_before}
 use Rattle.cache_making.proofs.Soundness.{sound}
@@ -22,16 +22,20 @@ first_of_four : Bool → Bool → Bool → Bool → Option CacheFault
 first_of_four a b c d = cond a (Some Items) (cond b (Some Spare) (cond c (Some Parts) (cond d (Some Readers) None)))
 
 -- a cache as `CacheConfig::new` has it, of items and readers within their bounds, has no fault
-pub new_is_sound : (items readers : ℕ) (seed : Seed) → 1 ≤ items → items ≤ most_chunks → 1 ≤ readers → readers ≤ 64
+pub new_is_sound : (items readers : ℕ) (seed : Seed) → 1 ≤ items → items + spare_of readers ≤ most_chunks → 1 ≤ readers
+    → readers ≤ 64
     → first_cache_fault (new_config items readers seed) ≡ None
 unfolding first_of_four
 new_is_sound items readers seed some few least most =
-    let chunks : nat_lt most_chunks (items + spare_of items readers) ≡ false =
-    le-ltb most_chunks (items + spare_of items readers) (omega arith) in
+    let one : nat_lt (spare_of readers) 1 ≡ false = le-ltb (spare_of readers) 1 (omega arith) in
+    let all : nat_lt most_chunks (items + spare_of readers * 1) ≡ false =
+    le-ltb most_chunks (items + spare_of readers * 1) (omega (arith, few)) in
+    let chunks : nat_lt (spare_of readers) 1 || nat_lt most_chunks (items + spare_of readers * 1) ≡ false =
+    ap₂ (λ a b. a || b) one all in
     let parts : nat_lt items 1 ≡ false = le-ltb items 1 some in
     let workers : nat_lt 64 (readers * 1) ≡ false = le-ltb 64 (readers * 1) (omega (arith, most)) in
     ap₂ (λ a b. first_of_four a b (nat_lt items 1) (not (is_within 1 64 readers) || nat_lt 64 (readers * 1)))
-    (within 1 most_chunks items some few) chunks
+    (within 1 most_chunks items some (omega (arith, few))) chunks
     ∙ ap₂ (λ c d. first_of_four false false c d) parts (ap₂ (λ a b. a || b) (within 1 64 readers least most) workers)
 
 -- a part of a configuration without faults has no more chunks than a store may have
@@ -39,16 +43,17 @@ pub few_chunks : (config : CacheConfig) (part : ℕ) → first_cache_fault confi
     → (class_of config part).chunks ≤ most_chunks
 few_chunks config part none low =
     let is = sound config none in
+    let some : 0 < config.parts = omega (arith, low) in
     omega (
       arith,
       is.chunks_most,
       share_most config.items config.parts part low,
-      share_most config.spare config.parts part low,
+      le-mul_of_pos_right config.spare some,
     )
 
 -- all parts together have no more
 pub few_chunks_all : (config : CacheConfig) → first_cache_fault config ≡ None
-    → config.items + config.spare ≤ most_chunks
+    → all_chunks config ≤ most_chunks
 few_chunks_all config none = (sound config none).chunks_most
 
 -- a configuration without faults has no more readers than a store has workers
@@ -67,11 +72,6 @@ few_parts config none = (sound config none).parts_most
 pub small_ring : (config : CacheConfig) → first_cache_fault config ≡ None → config.ring ≤ most_capacity
 small_ring config none = (sound config none).ring_most
 
--- with more items there are no fewer chunks
-pub more_chunks : (few many readers : ℕ) → few ≤ many → many ≤ most_chunks
-    → few + spare_of few readers ≤ many + spare_of many readers
-more_chunks few many readers more most = omega (arith, more, most)
-
 -- all bytes of a cache of one part, of so many chunks, and so many readers whose rings have this room
 abbrev one_part_bytes : ℕ → ℕ → ℕ → ℕ → ℕ → ℕ
 one_part_bytes chunks readers ring key_words value_words =
@@ -88,15 +88,15 @@ all_in_one total =
 -- a cache as `CacheConfig::new` has it takes them
 one_part : (items readers : ℕ) (seed : Seed) (key_words value_words : ℕ)
     → bytes_of (new_config items readers seed) key_words value_words
-    ≡ one_part_bytes (items + spare_of items readers) readers 8192 key_words value_words
+    ≡ one_part_bytes (items + spare_of readers) readers 8192 key_words value_words
 one_part items readers seed key_words value_words =
-    let chunks : (class_of (new_config items readers seed) 0).chunks ≡ items + spare_of items readers =
-    ap₂ (λ a b. a + b) (all_in_one items) (all_in_one (spare_of items readers)) in
+    let chunks : (class_of (new_config items readers seed) 0).chunks ≡ items + spare_of readers =
+    ap (λ n. n + spare_of readers) (all_in_one items) in
+    let all : items + spare_of readers * 1 ≡ items + spare_of readers = omega arith in
     let sum : sum_of_parts (part_bytes (new_config items readers seed) key_words value_words) 1
     ≡ part_bytes (new_config items readers seed) key_words value_words 0 = omega arith in
-    ap (λ n. row_bytes (items + spare_of items readers) (key_words + value_words) + n + readers * reader_bytes 1 8192
-    + shared_bytes) sum
-    ∙ ap (λ n. row_bytes (items + spare_of items readers) (key_words + value_words)
+    ap₂ (λ rows n. row_bytes rows (key_words + value_words) + n + readers * reader_bytes 1 8192 + shared_bytes) all sum
+    ∙ ap (λ n. row_bytes (items + spare_of readers) (key_words + value_words)
     + (list_bytes n + index_bytes n + 80 + 96 * readers + packing_bytes key_words value_words + 1168 + 1)
     + readers * reader_bytes 1 8192 + shared_bytes) chunks
 
@@ -107,15 +107,15 @@ more_bytes few many readers ring key_words value_words more =
     omega (arith, more, mul-le-mul_right (key_words + value_words) more)
 
 -- more items take no fewer bytes
-pub more_items : (few many readers : ℕ) (seed : Seed) (key_words value_words : ℕ) → few ≤ many → many ≤ most_chunks
+pub more_items : (few many readers : ℕ) (seed : Seed) (key_words value_words : ℕ) → few ≤ many
     → bytes_of (new_config few readers seed) key_words value_words
     ≤ bytes_of (new_config many readers seed) key_words value_words
-more_items few many readers seed key_words value_words more most =
-    let grow = more_bytes (few + spare_of few readers) (many + spare_of many readers) readers 8192 key_words value_words
-    (more_chunks few many readers more most) in
+more_items few many readers seed key_words value_words more =
+    let grow = more_bytes (few + spare_of readers) (many + spare_of readers) readers 8192 key_words value_words
+    (omega (arith, more)) in
     subst (λ n. n ≤ bytes_of (new_config many readers seed) key_words value_words)
     (sym (one_part few readers seed key_words value_words))
-    (subst (λ n. one_part_bytes (few + spare_of few readers) readers 8192 key_words value_words ≤ n)
+    (subst (λ n. one_part_bytes (few + spare_of readers) readers 8192 key_words value_words ≤ n)
     (sym (one_part many readers seed key_words value_words)) grow)
 
 -- no numbers test as out of bounds that aren't
@@ -125,10 +125,10 @@ not_without least most n low high out =
     cc (sym both ∙ out)
 
 -- where a cache of some items has room, readers are within their bounds and one of one item has room, too
-pub room_for_one : (items limit readers : ℕ) (seed : Seed) (key_words value_words : ℕ) → 1 ≤ items → items ≤ most_chunks
+pub room_for_one : (items limit readers : ℕ) (seed : Seed) (key_words value_words : ℕ) → 1 ≤ items
     → 1 ≤ readers → readers ≤ 64 → bytes_of (new_config items readers seed) key_words value_words ≤ limit
     → (is_within 1 64 readers ≡ false) ⊎ (limit < bytes_of (new_config 1 readers seed) key_words value_words) → ⊥
-room_for_one items limit readers seed key_words value_words some few least most fits (inl out) =
+room_for_one items limit readers seed key_words value_words some least most fits (inl out) =
     not_without 1 64 readers least most out
-room_for_one items limit readers seed key_words value_words some few least most fits (inr over) =
-    omega (arith, over, fits, more_items 1 items readers seed key_words value_words some few)
+room_for_one items limit readers seed key_words value_words some least most fits (inr over) =
+    omega (arith, over, fits, more_items 1 items readers seed key_words value_words some)

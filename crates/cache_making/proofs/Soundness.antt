@@ -1,8 +1,8 @@
 -- A configuration without faults is within its bounds, and so is its store.
-use Rattle.std.proofs.Common.{◌≡◌, ℕ, suc, ◌+◌, ◌*◌, ◌<◌, ◌≤◌, Bool, true, false, not, cond, ◌&&◌, ◌||◌, List, [], ◌∷◌, length, Option, Some, None, sym, ap, ap₂, ◌∙◌, arith, ne_eqb, refl, subst, le-leb}
+use Rattle.std.proofs.Common.{◌≡◌, ℕ, zero, suc, ◌+◌, ◌*◌, ◌<◌, ◌≤◌, Bool, true, false, not, cond, ◌&&◌, ◌||◌, List, [], ◌∷◌, length, Option, Some, None, sym, ap, ap₂, ◌∙◌, arith, ne_eqb, refl, subst, le-leb}
 use Rattle.std.specs.Prelude.{◌==◌, is_none, nat_le, nat_lt}
 use Rattle.std.specs.List.{list_any, slice_get}
-use Rattle.std.proofs.Math.Nat.{one-le-mul}
+use Rattle.std.proofs.Math.Nat.{mul-le-mul_left, mul-suc, one-le-mul}
 use Rattle.std.proofs.lemmas.Option.{slice_get_within}
 use Rattle.std.proofs.lemmas.Bool.{and_parts, le-ltb, leb-true, ltb-false, not-false, or_parts}
 use Rattle.bump_rules.specs.declared.configs.ClassConfig.{ClassConfig}
@@ -11,7 +11,7 @@ use Rattle.bump_rules.specs.Caches.{cache_refs}
 use Rattle.bump_rules.specs.Configs.{chunks_of, first_fault, have_wrong_chunks, is_within, most_capacity, most_chunks}
 use Rattle.cache_making.specs.declared.config.CacheConfig.{CacheConfig}
 use Rattle.cache_making.specs.declared.config.CacheFault.TheVariants.{Items, Spare, Shares, Parts, Readers, Ring}
-use Rattle.cache_making.specs.Configs.{class_of, first_cache_fault, items_in, most_parts}
+use Rattle.cache_making.specs.Configs.{all_chunks, class_of, first_cache_fault, items_in, most_parts}
 use Rattle.cache_making.proofs.Evens.{share_some, shares_all, shares_before, shares_most}
 
 -- a test for a fault that found none failed, and the tests behind it found none
@@ -27,7 +27,8 @@ within_of least most n e = let both = and_parts (nat_le least n) (nat_le n most)
 -- the bounds of a configuration without faults
 pub record IsSound (config : CacheConfig) : Type 0 where
   pub items_least : 1 ≤ config.items
-  pub chunks_most : config.items + config.spare ≤ 1000000
+  pub spare_least : 1 ≤ config.spare
+  pub chunks_most : all_chunks config ≤ 1000000
   pub parts_least : 1 ≤ config.parts
   pub parts_most : config.parts ≤ 16
   pub parts_few : config.parts ≤ config.items
@@ -40,20 +41,22 @@ pub record IsSound (config : CacheConfig) : Type 0 where
 pub sound : (config : CacheConfig) → first_cache_fault config ≡ None → IsSound config
 sound config none =
     let no_items = clear (not (is_within 1 most_chunks config.items)) Items _ none in
-    let no_spare = clear (nat_lt most_chunks (config.items + config.spare)) Spare _ no_items.1 in
+    let no_spare = clear (nat_lt config.spare 1 || nat_lt most_chunks (all_chunks config)) Spare _ no_items.1 in
     let no_shares = clear (nat_lt 100 (config.hot + config.warm)) Shares _ no_spare.1 in
     let no_parts = clear (not (is_within 1 most_parts config.parts) || nat_lt config.items config.parts) Parts _
     no_shares.1 in
     let no_readers = clear (not (is_within 1 64 config.readers) || nat_lt 64 (config.readers * config.parts)) Readers _
     no_parts.1 in
     let no_ring = clear (not (is_within 1 most_capacity config.ring)) Ring _ no_readers.1 in
+    let spare = or_parts _ _ no_spare.0 in
     let parts = or_parts _ _ no_parts.0 in
     let readers = or_parts _ _ no_readers.0 in
     let count = within_of 1 16 config.parts parts.0 in
     let ring = within_of 1 65536 config.ring no_ring.0 in
     record {
       items_least = (within_of 1 1000000 config.items no_items.0).0;
-      chunks_most = ltb-false most_chunks (config.items + config.spare) no_spare.0;
+      spare_least = ltb-false config.spare 1 spare.0;
+      chunks_most = ltb-false most_chunks (all_chunks config) spare.1;
       parts_least = count.0;
       parts_most = count.1;
       parts_few = ltb-false config.items config.parts parts.1;
@@ -63,10 +66,19 @@ sound config none =
       ring_most = ring.1;
     }
 
+-- the spare chunks of so many parts
+abbrev pub spare_before : ℕ → ℕ → ℕ
+spare_before spare zero = 0
+spare_before spare (suc part) = spare_before spare part + spare
+
+-- are these
+spare_is : (spare part : ℕ) → spare_before spare part ≡ spare * part
+spare_is spare zero = omega arith
+spare_is spare (suc part) = omega (arith, spare_is spare part, mul-suc spare part)
+
 -- so many chunks the first parts have
 abbrev pub chunks_in_first : CacheConfig → ℕ → ℕ
-chunks_in_first config part =
-    shares_before config.items config.parts part + shares_before config.spare config.parts part
+chunks_in_first config part = shares_before config.items config.parts part + spare_before config.spare part
 
 -- one part more has its own
 pub chunks_in_next : (config : CacheConfig) (part : ℕ)
@@ -75,9 +87,9 @@ chunks_in_next config part = omega arith
 
 -- all have those of the configuration
 chunks_in_all : (config : CacheConfig) → 1 ≤ config.parts
-    → chunks_in_first config config.parts ≡ config.items + config.spare
+    → chunks_in_first config config.parts ≡ all_chunks config
 chunks_in_all config some = ap₂ (λ a b. a + b) (shares_all config.items config.parts some)
-    (shares_all config.spare config.parts some)
+    (spare_is config.spare config.parts)
 
 -- and the first ones no more
 pub chunks_few : (config : CacheConfig) → IsSound config → (part : ℕ) → part ≤ config.parts
@@ -85,9 +97,8 @@ pub chunks_few : (config : CacheConfig) → IsSound config → (part : ℕ) → 
 chunks_few config is part low =
     let items : shares_before config.items config.parts part ≤ config.items =
     shares_most config.items config.parts part is.parts_least low in
-    let spare : shares_before config.spare config.parts part ≤ config.spare =
-    shares_most config.spare config.parts part is.parts_least low in
-    omega (arith, items, spare, is.chunks_most)
+    let spare : config.spare * part ≤ config.spare * config.parts = mul-le-mul_left config.spare low in
+    omega (arith, items, spare, spare_is config.spare part, is.chunks_most)
 
 -- classes that are those of the parts from one on have the parts' chunks
 chunks_from : (config : CacheConfig) (from : ℕ) (classes : List ClassConfig)

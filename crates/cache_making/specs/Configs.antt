@@ -1,5 +1,5 @@
 -- Which configurations of a cache are refused, why, and what a cache's store is made from.
-use Rattle.std.specs.Prelude.{◌≡◌, ℕ, ◌+◌, ◌-◌, ◌*◌, ◌/◌, ◌%◌, ◌<◌, min, Bool, not, ◌||◌, if◌then◌else◌, nat_lt, [], ◌∷◌, length, slice_get, Option, None, Some, find}
+use Rattle.std.specs.Prelude.{◌≡◌, ℕ, ◌+◌, ◌*◌, ◌/◌, ◌%◌, ◌<◌, min, Bool, not, ◌||◌, if◌then◌else◌, nat_lt, [], ◌∷◌, length, slice_get, Option, None, Some, find}
 use Rattle.bump_rules.specs.declared.configs.ClassConfig.{ClassConfig}
 use Rattle.bump_rules.specs.declared.configs.Config.{Config}
 use Rattle.bump_rules.specs.Caches.{cache_refs}
@@ -16,10 +16,14 @@ use Rattle.cache_making.specs.declared.config.CacheRefusal.TheVariants.{Fault, M
 abbrev pub most_parts : ℕ
 most_parts = 16
 
+-- so many chunks all parts have together: those of the items, and the spare ones of each part
+abbrev pub all_chunks : CacheConfig → ℕ
+all_chunks config = config.items + config.spare * config.parts
+
 -- whether a configuration has this fault
 abbrev pub has_cache_fault : CacheConfig → CacheFault → Bool
 has_cache_fault config Items = not (is_within 1 most_chunks config.items)
-has_cache_fault config Spare = nat_lt most_chunks (config.items + config.spare)
+has_cache_fault config Spare = nat_lt config.spare 1 || nat_lt most_chunks (all_chunks config)
 has_cache_fault config Shares = nat_lt 100 (config.hot + config.warm)
 has_cache_fault config Parts = not (is_within 1 most_parts config.parts) || nat_lt config.items config.parts
 has_cache_fault config Readers = not (is_within 1 64 config.readers) || nat_lt 64 (config.readers * config.parts)
@@ -47,10 +51,6 @@ even_share total parts part = total / parts + (if nat_lt part (total % parts) th
 abbrev pub items_in : CacheConfig → ℕ → ℕ
 items_in config part = even_share config.items config.parts part
 
--- so many chunks a part has beside those of its items
-abbrev pub spare_in : CacheConfig → ℕ → ℕ
-spare_in config part = even_share config.spare config.parts part
-
 -- what keeps HOT and WARM of a part short in a cache of this configuration
 abbrev pub bounds_of : CacheConfig → ℕ → Bounds
 bounds_of config part = record {
@@ -60,15 +60,15 @@ bounds_of config part = record {
   warm_age = config.warm_age;
 }
 
--- a spare chunk for each 64 items and one for each reader, as far as there may be chunks
-abbrev pub spare_of : ℕ → ℕ → ℕ
-spare_of items readers = min (min (items / 64 + readers) 4294967295) (most_chunks - items)
+-- a spare chunk for each reader, which may hold one item, and one more, for what is put, as far as that is a number
+abbrev pub spare_of : ℕ → ℕ
+spare_of readers = min (readers + 1) 4294967295
 
 -- the configuration of a cache of so many items and readers as memcached has it, of one part and without TEMP
 abbrev pub new_config : ℕ → ℕ → Seed → CacheConfig
 new_config items readers seed = record {
   items = items;
-  spare = spare_of items readers;
+  spare = spare_of readers;
   hot = 20;
   warm = 40;
   hot_age = Some 20;
@@ -83,7 +83,7 @@ new_config items readers seed = record {
 
 -- the class of a cache's store that a part is of, whose lists have no limits of their own
 abbrev pub class_of : CacheConfig → ℕ → ClassConfig
-class_of config part = record { chunks = items_in config part + spare_in config part; hot = 0; warm = 0 }
+class_of config part = record { chunks = items_in config part + config.spare; hot = 0; warm = 0 }
 
 -- The store is that of a cache of this configuration: it has a worker for each reader and part, and a class for each
 -- part.

@@ -3,7 +3,7 @@ use Rattle.std.specs.Prelude.{◌≡◌, ℕ, zero, suc, ◌+◌, ◌*◌, ◌/�
 use Rattle.bump_rules.specs.Configs.{most_chunks}
 use Rattle.keyed_hash.specs.declared.seed.Seed.{Seed}
 use Rattle.cache_making.specs.declared.config.CacheConfig.{CacheConfig}
-use Rattle.cache_making.specs.Configs.{class_of, new_config}
+use Rattle.cache_making.specs.Configs.{all_chunks, class_of, new_config, spare_of}
 
 -- the rows of all chunks, of all parts: head, time and label, and the words of a key and its value, 8 bytes each,
 -- behind 14 words that are spare
@@ -50,7 +50,7 @@ shared_bytes = 104 + 1
 -- all of a cache of this configuration, with keys and values of so many words
 abbrev pub bytes_of : CacheConfig → ℕ → ℕ → ℕ
 bytes_of config key_words value_words =
-    row_bytes (config.items + config.spare) (key_words + value_words)
+    row_bytes (all_chunks config) (key_words + value_words)
     + sum_of_parts (part_bytes config key_words value_words) config.parts
     + config.readers * reader_bytes config.parts config.ring + shared_bytes
 
@@ -59,7 +59,7 @@ bytes_of config key_words value_words =
 pub record IsMostFor (limit readers : ℕ) (seed : Seed) (key_words value_words : ℕ) (config : CacheConfig) : Type 0 where
   pub as_new : config ≡ new_config config.items readers seed
   pub least : 1 ≤ config.items
-  pub most : config.items ≤ most_chunks
+  pub most : config.items + spare_of readers ≤ most_chunks
   pub fits : bytes_of config key_words value_words ≤ limit
-  pub over : (items : ℕ) → config.items < items → items ≤ most_chunks
+  pub over : (items : ℕ) → config.items < items → items + spare_of readers ≤ most_chunks
       → limit < bytes_of (new_config items readers seed) key_words value_words

@@ -1,6 +1,6 @@
 //! What a cache is made from.
 ghost use Rattle.std.specs.Prelude.{◌≡◌, ◌*◌, ◌≤◌, ◌<◌, min, IfOk, None};
-ghost use Rattle.cache_making.specs.Configs.{IsStoreOf, bounds_of, class_of, even_share, first_cache_fault, items_in, new_config, share_of};
+ghost use Rattle.cache_making.specs.Configs.{IsStoreOf, all_chunks, bounds_of, class_of, even_share, first_cache_fault, items_in, new_config, share_of};
 
 use bump_rules::{CACHE_REFS, ClassConfig, Classes, Config, MAX_CAPACITY, MAX_CHUNKS};
 use cache_shelf::Bounds;
@@ -21,8 +21,8 @@ pub enum CacheFault {
     #[error("the number of items isn't 1 to 1,000,000")]
     Items,
 
-    /// The items and the spare chunks are more than 1,000,000 together.
-    #[error("the items and the spare chunks are more than 1,000,000 together")]
+    /// A part has no spare chunk, or the items and the spare chunks of all parts are more than 1,000,000 together.
+    #[error("a part has no spare chunk, or the items and all spare chunks are more than 1,000,000 together")]
     Spare,
 
     /// The shares of HOT and WARM are more than 100 percent together.
@@ -60,14 +60,20 @@ pub struct CacheConfig {
     /// At most so many items are in it, 1 to 1,000,000.
     pub items: u32,
 
-    /// So many chunks it has beside those of its items, at most 1,000,000 together with them. An item that ended keeps
-    /// its chunk as long as a reader or a bump that waits holds it: where so many are held a put may find no room.
+    /// So many chunks each part has beside those of its items, 1 or more; those of all parts and the items are at most
+    /// 1,000,000 together. A put needs one that is free, also where its key has an item, since that ends behind the new
+    /// one's beginning; and an item that ended keeps its chunk as long as a reader holds it. A reader holds one item at
+    /// most: in a get for a moment, or as a `HeldItem` as long as there is one. So with one chunk for each reader and one
+    /// more no put is refused, as long as no chunk has had its last generation; with fewer one may be, where readers
+    /// hold as many ended items of its part as there are spare chunks.
     pub spare: u32,
 
-    /// At most so many percent of the items are in HOT. memcached has 20.
+    /// HOT's share of the items in percent. Where HOT has more, balances move its last items on, a few at a time (at most 8
+    /// rounds at each eighth put, 100 in a tend), so it may have more. memcached has 20.
     pub hot: u32,
 
-    /// At most so many percent of them are in WARM. memcached has 40.
+    /// WARM's share of them, in the same sense. Bumps and rescues move items into WARM also past it: 916 of 1,000 were seen
+    /// there. memcached has 40.
     pub warm: u32,
 
     /// HOT's last item goes to COLD also where it was used longer ago than so many percent of COLD's age, which is how
@@ -79,9 +85,8 @@ pub struct CacheConfig {
     pub warm_age: Option<u32>,
 
     /// So many parts there are, 1 to 16, and at most as many as items: each has a lock of its own, and a key's part is
-    /// by its hash. So puts of keys of different parts don't wait for each other. The items and the spare chunks go to
-    /// the parts evenly, to the first ones one more where it isn't whole, and a part that is full evicts, whatever room
-    /// others have.
+    /// by its hash. So puts of keys of different parts don't wait for each other. The items go to the parts evenly, to
+    /// the first ones one more where it isn't whole, and a part that is full evicts, whatever room others have.
     pub parts: u32,
 
     /// So many readers there are, 1 to 64, and at most 64 when multiplied by the number of parts: a thread that gets
@@ -125,18 +130,16 @@ fn share(items: u32, percent: u32) -> u32
 
 impl CacheConfig {
     /// That of a cache of one part with so many items, 1 to 1,000,000, and so many readers, 1 to 64, as memcached has
-    /// it: at most 20 percent of the items are in HOT and 40 in WARM, their last ones are used no longer ago than 20
-    /// and 200 percent of COLD's age, and a reader's ring has room for 8,192 bumps (`LRU_BUMP_BUF_SIZE`). There is a
-    /// spare chunk for each 64 items and one for each reader, as far as there may be. Nothing is in TEMP, and a tend
-    /// looks at 1,000 chunks for items that have expired.
+    /// it: the shares of HOT and WARM are 20 and 40 percent of the items, their last ones are used no longer ago than 20
+    /// and 200 percent of COLD's age, and a reader's ring has room for 8,192 bumps (`LRU_BUMP_BUF_SIZE`). A part has a
+    /// spare chunk for each reader, and one more: so `fault` tells `Spare` of more items than 1,000,000 less these. Nothing
+    /// is in TEMP, and a tend looks at 1,000 chunks for items that have expired.
     pub fn new(items: u32, readers: u32, seed: Seed) -> CacheConfig
         ensures { result ≡ new_config items readers seed }
     {
         CacheConfig {
             items,
-            spare: (items / 64)
-                .saturating_add(readers)
-                .min(MAX_CHUNKS.saturating_sub(items)),
+            spare: readers.saturating_add(1),
             hot: 20,
             warm: 40,
             hot_age: Some(20),
@@ -157,7 +160,7 @@ impl CacheConfig {
         if self.items < 1 || self.items > MAX_CHUNKS {
             return Some(CacheFault::Items);
         }
-        if self.spare > MAX_CHUNKS - self.items {
+        if self.spare < 1 || self.all_chunks() > MAX_CHUNKS {
             return Some(CacheFault::Spare);
         }
         if self.hot > 100 || self.warm > 100 || self.hot + self.warm > 100 {
@@ -173,6 +176,14 @@ impl CacheConfig {
             return Some(CacheFault::Ring);
         }
         None
+    }
+
+    // How many chunks all parts have together, as far as that is a number.
+    pub(crate) fn all_chunks(&self) -> u32
+        ensures { result ≡ min (all_chunks self.now) 4294967295 }
+    {
+        let spare = self.spare.saturating_mul(self.parts);
+        self.items.saturating_add(spare)
     }
 
     // How many workers the cache's store has: one for each reader and part, as far as that is a number.
@@ -191,7 +202,7 @@ impl CacheConfig {
         share_in(self.items, self.parts, part)
     }
 
-    /// At most so many items are in a part's HOT: the share of its items that `hot` says, rounded down.
+    /// HOT's share of a part's items, as `hot` says, rounded down: where HOT has more, a balance moves its last item on.
     pub fn hot_items(&self, part: u32) -> u32
         requires part { part < self.now.parts }
         ensures { result ≡ share_of (items_in self.now part) self.now.hot }
@@ -199,7 +210,7 @@ impl CacheConfig {
         share(self.items_in(part), self.hot)
     }
 
-    /// At most so many items are in a part's WARM: the share of its items that `warm` says, rounded down.
+    /// WARM's share of a part's items, as `warm` says, rounded down: where WARM has more, a balance moves its last item on.
     pub fn warm_items(&self, part: u32) -> u32
         requires part { part < self.now.parts }
         ensures { result ≡ share_of (items_in self.now part) self.now.warm }
@@ -227,10 +238,8 @@ impl CacheConfig {
         requires part { part < self.now.parts }
         ensures { result ≡ class_of self.now part }
     {
-        let items = self.items_in(part);
-        let spare = share_in(self.spare, self.parts, part);
         ClassConfig {
-            chunks: items + spare,
+            chunks: self.items_in(part) + self.spare,
             hot: 0,
             warm: 0,
         }

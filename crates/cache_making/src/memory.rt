@@ -1,7 +1,7 @@
 //! How much memory a cache takes.
 ghost use Rattle.std.specs.Prelude.{◌≡◌, ◌+◌, ◌*◌, ◌<◌, ◌≤◌, ◌⊎◌, ◌↔◌, ◌^◌, ℕ, IfSome, IsNone, None, false, nat_le};
 ghost use Rattle.bump_rules.specs.Configs.{is_within, most_chunks, most_capacity};
-ghost use Rattle.cache_making.specs.Configs.{first_cache_fault, most_parts, new_config};
+ghost use Rattle.cache_making.specs.Configs.{first_cache_fault, most_parts, new_config, spare_of};
 ghost use Rattle.cache_making.specs.Memory.{IsMostFor, bytes_of, index_bytes, list_bytes, packing_bytes, part_bytes, reader_bytes, row_bytes, sum_of_parts};
 
 use crate::config::CacheConfig;
@@ -144,7 +144,7 @@ fn takes_at_most(
     value_words: u32,
 ) -> bool
     requires some { 1 ≤ items }
-    requires few { items ≤ most_chunks }
+    requires few { items + spare_of readers ≤ most_chunks }
     requires readers { 1 ≤ readers }
     requires most { readers ≤ 64 }
     ensures { result ≡ nat_le (bytes_of (new_config items readers seed) key_words value_words) limit }
@@ -158,13 +158,13 @@ fn takes_at_most(
 fn most_items(limit: u64, readers: u32, seed: Seed, key_words: u32, value_words: u32) -> u32
     requires readers { 1 ≤ readers }
     requires most { readers ≤ 64 }
-    ensures few { result ≤ most_chunks }
+    ensures few { result + spare_of readers ≤ most_chunks }
     ensures fits { 0 < result → bytes_of (new_config result readers seed) key_words value_words ≤ limit }
-    ensures over { (items : ℕ) → result < items → items ≤ most_chunks
+    ensures over { (items : ℕ) → result < items → items + spare_of readers ≤ most_chunks
         → limit < bytes_of (new_config items readers seed) key_words value_words }
 {
     let mut fits = 0;
-    let mut over = MAX_CHUNKS + 1;
+    let mut over = MAX_CHUNKS - readers;
     while fits + 1 < over {
         let middle = (fits + over) / 2;
         if takes_at_most(limit, middle, readers, seed, key_words, value_words) {
@@ -190,15 +190,15 @@ impl CacheConfig {
         ensures { result ≡ bytes_of self.now key_words value_words }
     {
         let (key_words, value_words) = (u64::from(key_words), u64::from(value_words));
-        let rows = rows_take(self.items + self.spare, key_words + value_words);
+        let rows = rows_take(self.all_chunks(), key_words + value_words);
         let parts = parts_take(self, key_words, value_words);
         let readers = u64::from(self.readers) * reader_takes(self.parts, self.ring);
         rows + parts + readers + (HEADS_BYTES + EMPTY_BYTES)
     }
 
-    /// The configuration that `new` makes of so many readers and this seed, of the most items, 1 to 1,000,000, with
-    /// which a cache takes at most `limit` bytes, by `bytes_taken` with keys and values of so many words: with more it
-    /// would take more, or there are 1,000,000. It has one part and no fault. It is None exactly where a cache of one
+    /// The configuration that `new` makes of so many readers and this seed, of the most items with which a cache takes
+    /// at most `limit` bytes, by `bytes_taken` with keys and values of so many words: with more it would take more, or
+    /// they and the spare chunks are 1,000,000 together. It has one part and no fault. It is None exactly where a cache of one
     /// item takes more than `limit`, or `readers` isn't 1 to 64. memcached's `-m` limits the memory of its items.
     pub fn for_bytes(
         limit: u64,

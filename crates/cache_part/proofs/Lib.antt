@@ -3,6 +3,7 @@ pub mod LookLemmas
 pub mod Agreements
 pub mod PartLemmas
 pub mod FindLemmas
+pub mod HeldLemmas
 pub mod RoomLemmas
 pub mod LinkLemmas
 pub mod ClearLemmas

@@ -1,15 +1,19 @@
 -- What a put comes to.
-use Rattle.std.specs.Prelude.{◌≡◌, ◌≢◌, ℕ, ◌+◌, ◌<◌, ◌≤◌, ◌⊎◌, if◌then◌else◌, List, length, Option, None, Some, IsSome, IfSome, slice_set}
-use Rattle.bump_links.specs.Lists.{first_of}
+use Rattle.std.specs.Prelude.{◌≡◌, ◌≢◌, ℕ, ◌+◌, ◌<◌, ◌≤◌, ◌⊎◌, if◌then◌else◌, true, List, length, Option, None, Some, IsSome, IfSome, slice_set}
+use Rattle.bump_links.specs.Lists.{first_of, times}
 use Rattle.bump_rules.specs.declared.items.Head.{Head}
 use Rattle.bump_rules.specs.declared.items.ItemId.{ItemId}
+use Rattle.bump_rules.specs.declared.places.Place.TheVariants.{Dying, Retired}
 use Rattle.bump_rules.specs.declared.places.Start.{Start}
 use Rattle.bump_rules.specs.declared.places.Start.TheVariants as start
 use Rattle.bump_rules.specs.Lists.{Lists, all_without}
 use Rattle.bump_steps.specs.declared.views.ClassPart.{ClassPart}
-use Rattle.bump_steps.specs.Views.{last_word}
+use Rattle.bump_steps.specs.Views.{last_word, owns}
+use Rattle.bump_heads.specs.Linking.{place_of_chunk}
 use Rattle.bump_class.specs.Books.{BookView}
 use Rattle.bump_class.specs.Changes.{book_with_words}
+use Rattle.bump_class.specs.Lanes.{LaneView}
+use Rattle.bump_class.specs.Sweeps.{Sweeps}
 use Rattle.cache_lists.specs.declared.victims.Victim.{Victim}
 use Rattle.cache_lists.specs.Counts.{CountedView}
 use Rattle.cache_lists.specs.Freeing.{most_freed, FreesUpTo}
@@ -22,6 +26,7 @@ use Rattle.entry_times.specs.Times.{expires_within}
 use Rattle.cache_part.specs.Keys.{row_of}
 use Rattle.cache_part.specs.Looks.{LooksOnly}
 use Rattle.cache_part.specs.Parts.{PartView}
+use Rattle.cache_part.specs.Tending.{DrainsEach}
 
 -- how many items are linked
 abbrev pub linked_count : Lists → ℕ
@@ -49,21 +54,72 @@ EvictsWhereFull items now old None before after =
 EvictsWhereFull items now old (Some chunk) before after =
     (old ≡ None) × (items ≤ linked_count before.book.lists) × EvictsAndReads now chunk before after
 
--- Where UNUSED is empty some chunks of ended items come free that nobody holds any more; else nothing changes.
-abbrev pub FreesWhereNone : BookView → BookView → Type 0
-FreesWhereNone before after = ((0 < length before.lists.unused) × (after ≡ before))
-    ⊎ ((length before.lists.unused ≡ 0) × ((freed : ℕ) × (heads : ℕ → Head) × FreesUpTo most_freed before freed after heads))
+-- a chunk of DYING was looked at, and the head that was found counts a reference: a reader holds its ended item, or a
+-- bump does
+abbrev pub IsFoundHeld : BookView → (ℕ → Head) → ℕ → Type 0
+IsFoundHeld looked heads chunk = (0 < times chunk looked.lists.dying) × (0 < (heads chunk).refs)
+
+-- All bumps that wait are applied, at most so many of each lane; and behind that each chunk of DYING is looked at, and
+-- comes free where nobody holds it. What stays in DYING was found held.
+pub record DrainsAndSweeps (most now : ℕ) (before : CountedView) (from : List LaneView) (after : CountedView)
+    (to : List LaneView) : Type 0 where
+  pub drained : CountedView
+  pub drains : DrainsEach most now before.book from drained.book to
+  pub evictions : drained.evictions ≡ before.evictions
+  pub freed : ℕ
+  pub heads : ℕ → Head
+  pub sweeps : Sweeps drained.book freed after.book heads
+  pub same : after ≡ record drained { book = after.book }
+  pub held : (chunk : ℕ) → owns chunk after.book.part ≡ true → place_of_chunk after.book.part chunk ≡ Dying
+      → IsFoundHeld drained.book heads chunk
+
+-- Some chunks of ended items come free that nobody holds any more.
+pub record FreesSome (before after : CountedView) : Type 0 where
+  pub freed : ℕ
+  pub heads : ℕ → Head
+  pub frees : FreesUpTo most_freed before.book freed after.book heads
+  pub same : after ≡ record before { book = after.book }
+
+-- First some come free; and where UNUSED is still empty behind that, the bumps that wait are applied, and all of DYING is
+-- looked at once more.
+pub record FreesAtLast (most now : ℕ) (before : CountedView) (from : List LaneView) (after : CountedView)
+    (to : List LaneView) : Type 0 where
+  pub swept : CountedView
+  pub frees : FreesSome before swept
+  pub ends : ((0 < length swept.book.lists.unused) × (after ≡ swept) × (to ≡ from))
+      ⊎ ((length swept.book.lists.unused ≡ 0) × DrainsAndSweeps most now swept from after to)
+
+-- So it is where UNUSED is empty; else nothing changes.
+abbrev pub FreesWhereNone : ℕ → ℕ → CountedView → List LaneView → CountedView → List LaneView → Type 0
+FreesWhereNone most now before from after to =
+    ((0 < length before.book.lists.unused) × (after ≡ before) × (to ≡ from))
+    ⊎ ((length before.book.lists.unused ≡ 0) × FreesAtLast most now before from after to)
 
 -- What comes before an item is linked: the key's item is looked for, one is evicted at this time where there are too
--- many, and its row is read, and chunks come free where none is.
-pub record MakesRoom (items now : ℕ) (old evicted : Option ℕ) (before after : CountedView) : Type 0 where
+-- many, and its row is read, and chunks come free where none is, for which at most so many bumps of each lane are
+-- applied.
+pub record MakesRoom (items now : ℕ) (old evicted : Option ℕ) (most : ℕ) (before : CountedView) (from : List LaneView)
+    (after : CountedView) (to : List LaneView) : Type 0 where
   pub seen : CountedView
   pub looks : LooksOnly before.book seen.book
   pub same : seen ≡ record before { book = seen.book }
   pub left : CountedView
   pub evicts : EvictsWhereFull items now old evicted seen left
-  pub frees : FreesWhereNone left.book after.book
-  pub counts : after ≡ record left { book = after.book }
+  pub frees : FreesWhereNone most now left from after to
+  pub evictions : after.evictions ≡ left.evictions
+
+-- Room was made so, but no chunk is free: behind the evict and a first sweep the bumps that wait were applied, and then
+-- each chunk of DYING was looked at. Each chunk of the class that has no item has had its last generation, or was found
+-- held there.
+pub record FindsNone (items now : ℕ) (old evicted : Option ℕ) (most : ℕ) (before : CountedView) (from : List LaneView)
+    (after : CountedView) (to : List LaneView) : Type 0 where
+  pub room : MakesRoom items now old evicted most before from after to
+  pub full : first_of after.book.lists.unused ≡ None
+  pub swept : CountedView
+  pub frees : FreesSome room.left swept
+  pub all : DrainsAndSweeps most now swept from after to
+  pub each : (chunk : ℕ) → owns chunk after.book.part ≡ true → linked_at after.book.part chunk ≡ None
+      → (place_of_chunk after.book.part chunk ≡ Retired) ⊎ IsFoundHeld all.drained.book all.heads chunk
 
 -- the key's old item ended, where it had one
 abbrev pub EndsOld : Option ℕ → BookView → BookView → Type 0
@@ -94,10 +150,10 @@ leads_anew hash (Some chunk) item index =
     slice_set (slice_set index chunk None) item.chunk (with_generation item.generation (led_at index chunk))
 
 -- What a put comes to: room was made, and then the item was linked.
-pub record Puts (items : ℕ) (temporary old evicted : Option ℕ) (row : List ℕ) (expires now chunk : ℕ)
-    (before after : CountedView) : Type 0 where
+pub record Puts (items : ℕ) (temporary old evicted : Option ℕ) (row : List ℕ) (expires now chunk most : ℕ)
+    (before : CountedView) (from : List LaneView) (after : CountedView) (to : List LaneView) : Type 0 where
   pub between : CountedView
-  pub room : MakesRoom items now old evicted before between
+  pub room : MakesRoom items now old evicted most before from between to
   pub item : ItemId
   pub at : item.chunk ≡ chunk
   pub links : Links temporary old row expires now item between.book after.book

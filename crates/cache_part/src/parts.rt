@@ -13,7 +13,7 @@ ghost use Rattle.cache_part.specs.Expiring.{KeepsUnexpired, LooksAround, LooksIn
 ghost use Rattle.cache_part.specs.Keys.{value_at, words_from};
 ghost use Rattle.cache_part.specs.Looks.{LooksOnly};
 ghost use Rattle.cache_part.specs.Parts.{PartView as ThePartView, IsPart, IsUnder, IsUnknown, IsItem, counted};
-ghost use Rattle.cache_part.specs.Putting.{MakesRoom, Puts, IsFresh, OthersStay, TellsRow, WasAnother, row_at};
+ghost use Rattle.cache_part.specs.Putting.{FindsNone, Puts, IsFresh, OthersStay, TellsRow, WasAnother, row_at};
 ghost use Rattle.cache_part.specs.Taking.{TakesNext};
 ghost use Rattle.cache_part.specs.Tending.{BalancesByAge, DrainsEach, Tends};
 ghost use Rattle.cache_part.specs.Visiting.{has_unexpired};
@@ -236,8 +236,9 @@ impl<N: Name, L: RowLaw> Part<N, L> {
     /// Puts an item under its key: the row is the key's words and then the value's; it expires at `expires`, or never
     /// where that is 0; and `now` is its time. Times are in the caller's ticks. Where the key has no item yet and as
     /// many as may be are linked, the one whose turn it is ends first, as by `CountedBook::evict`. Where no chunk is
-    /// free, chunks come free of ended items that nobody holds any more. It is refused exactly where none is free then;
-    /// the key keeps what it had. Else the new item is linked, in TEMP where it expires within as many ticks as
+    /// free, chunks come free of ended items that nobody holds any more; and where none does, the bumps that wait in the
+    /// lanes are applied, at most `most` of each, and it is tried once more. It is refused exactly where none is free
+    /// then: each chunk that has no item is held, or has had its last generation. The key keeps what it had. Else the new item is linked, in TEMP where it expires within as many ticks as
     /// `Part::new` was told, or has expired already, and else in HOT; the index leads to it, and behind that the key's
     /// old item ends, whether it had expired or not. The table's law holds of whatever row begins with the label
     /// `expires` and these words.
@@ -251,6 +252,8 @@ impl<N: Name, L: RowLaw> Part<N, L> {
         row: &[u64],
         expires: u64,
         evicted: &mut [u64],
+        lanes: &mut [RawLane<N, L>],
+        most: u32,
         now: u64,
     ) -> Result<PutItem, NoChunk>
         requires words { length row.now ≡ self.old.key_words + self.old.value_words }
@@ -264,7 +267,7 @@ impl<N: Name, L: RowLaw> Part<N, L> {
         ensures others { IfOk result (λ did. OthersStay (Some did.chunk) did.old did.evicted self.old.book
             self.new.book) }
         ensures puts { IfOk result (λ did. Puts self.old.items self.old.temporary did.old did.evicted row.now expires now
-            did.chunk (counted self.old) (counted self.new)) }
+            did.chunk most (counted self.old) lanes.old (counted self.new) lanes.new) }
         ensures row { IfOk result (λ did. HasRow did.chunk expires row.now self.new.book) }
         ensures length { length evicted.new ≡ length evicted.old }
         ensures told { IfOk result (λ did. TellsRow did.evicted evicted.old evicted.new self.old) }
@@ -274,7 +277,8 @@ impl<N: Name, L: RowLaw> Part<N, L> {
         ensures fresh { IfOk result (λ did. IsFresh did.chunk did.evicted self.old) }
         ensures no_room { IfErr result (λ why. first_of self.new.book.lists.unused ≡ None) }
         ensures room { IfErr result (λ why. (old : Option ℕ) × IsItem (take self.old.key_words row.now) old self.old
-            × MakesRoom self.old.items now old why.evicted (counted self.old) (counted self.new)) }
+            × FindsNone self.old.items now old why.evicted most (counted self.old) lanes.old (counted self.new)
+            lanes.new) }
         ensures stay { IfErr result (λ why. OthersStay None None why.evicted self.old.book self.new.book) }
         ensures told_refused { IfErr result (λ why. TellsRow why.evicted evicted.old evicted.new self.old) }
         ensures was_refused { IfErr result (λ why. IfSome why.evicted (λ c. IsSome (linked_at self.old.book.part c))) }
@@ -293,6 +297,8 @@ impl<N: Name, L: RowLaw> Part<N, L> {
             settings,
             row,
             evicted,
+            lanes,
+            most,
             now,
         );
         let Some(id) = replacing::link(
@@ -304,6 +310,7 @@ impl<N: Name, L: RowLaw> Part<N, L> {
             expires,
             now,
         ) else {
+            self.lists.promise();
             return Err(NoChunk {
                 evicted: room.evicted,
             });

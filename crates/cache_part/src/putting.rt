@@ -10,6 +10,7 @@ ghost use Rattle.keyed_hash.specs.Hashes.{hash_of};
 
 use crate::finding::{self, Found};
 use crate::room;
+use bump_class::RawLane;
 use bump_heads::Name;
 use bump_steps::RowLaw;
 use cache_lists::CountedBook;
@@ -29,8 +30,8 @@ pub struct PutItem {
     pub evicted: Option<u32>,
 }
 
-/// A put was refused, since no chunk was free, also where the chunks had come free of ended items that nobody held any
-/// more. A chunk whose generations are used up comes free no more.
+/// A put was refused, since no chunk was free, also where all bumps that waited were applied, and the chunks had come free
+/// of ended items that nobody held any more. A chunk whose generations are used up comes free no more.
 #[derive(Clone, Copy, Debug, PartialEq, Eq)]
 pub struct NoChunk {
     /// The chunk of the item that was evicted, if one was: also of one that had expired.
@@ -86,13 +87,16 @@ pub(crate) struct Room {
     pub(crate) evicted: Option<u32>,
 }
 
-// Makes room for an item with this row, and tells the row of the item that was evicted.
+// Makes room for an item with this row, and tells the row of the item that was evicted. Where no chunk comes free at once
+// bumps that wait are applied, at most `most` of each lane.
 pub(crate) fn make_room<N: Name, L: RowLaw>(
     lists: &mut CountedBook<N, L>,
     index: &mut Index,
     settings: Settings,
     row: &[u64],
     told: &mut [u64],
+    lanes: &mut [RawLane<N, L>],
+    most: u32,
     now: u64,
 ) -> Room
     requires part { IsPart settings.seed settings.key_words lists.old.book.part index.old.table }
@@ -105,7 +109,8 @@ pub(crate) fn make_room<N: Name, L: RowLaw>(
     ensures was { IsItemOf settings.key_words (take settings.key_words row.now) result.found.chunk lists.old.book.part }
     ensures item { IsItemOf settings.key_words (take settings.key_words row.now) result.found.chunk
         lists.new.book.part }
-    ensures room { MakesRoom settings.items now result.found.chunk result.evicted lists.old lists.new }
+    ensures room { MakesRoom settings.items now result.found.chunk result.evicted most lists.old lanes.old lists.new
+        lanes.new }
     ensures stay { OthersStay None None result.evicted lists.old.book lists.new.book }
     ensures told { TellsWords (settings.key_words + settings.value_words) result.evicted told.old told.new
         lists.old.book.part }
@@ -116,6 +121,6 @@ pub(crate) fn make_room<N: Name, L: RowLaw>(
 {
     let found = find_key_of(lists, index, settings, row);
     let evicted = room::evict_where_full(lists, index, settings, found.chunk, told, now);
-    room::free_where_none(lists);
+    room::free_where_none(lists, lanes, most, now);
     Room { found, evicted }
 }

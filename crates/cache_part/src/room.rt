@@ -2,13 +2,13 @@
 ghost use Rattle.std.specs.Prelude.{◌≡◌, ℕ, suc, ◌+◌, ◌≤◌, None, length, slice_set, IfSome, IfNone};
 ghost use Rattle.cache_lists.specs.Items.{KeepsItems};
 ghost use Rattle.cache_lists.specs.Linked.{linked_at};
-ghost use Rattle.cache_lists.specs.Segments.{SameSegments};
 ghost use Rattle.cache_nests.specs.Views.{led_at};
 ghost use Rattle.cache_part.specs.Parts.{generation_led};
-ghost use Rattle.cache_part.specs.Putting.{linked_count, EvictsWhereFull, FreesWhereNone, TellsWords};
+ghost use Rattle.cache_part.specs.Putting.{linked_count, DrainsAndSweeps, EvictsWhereFull, FreesAtLast, FreesWhereNone, TellsWords};
 
 use crate::putting::Settings;
-use crate::reading;
+use crate::{reading, tending};
+use bump_class::RawLane;
 use bump_heads::Name;
 use bump_rules::Place;
 use bump_steps::RowLaw;
@@ -60,15 +60,52 @@ pub(crate) fn evict_where_full<N: Name, L: RowLaw>(
     Some(victim.chunk)
 }
 
-// Chunks of ended items come free that nobody holds any more, where no chunk is.
-pub(crate) fn free_where_none<N: Name, L: RowLaw>(lists: &mut CountedBook<N, L>)
-    ensures frees { FreesWhereNone lists.old.book lists.new.book }
+// Applies the bumps that wait in the lanes, at most `most` of each, since each holds its item; and then frees what
+// nobody holds any more.
+fn drain_and_sweep<N: Name, L: RowLaw>(
+    lists: &mut CountedBook<N, L>,
+    lanes: &mut [RawLane<N, L>],
+    most: u32,
+    now: u64,
+)
+    ensures did { DrainsAndSweeps most now lists.old lanes.old lists.new lanes.new }
     ensures kept { KeepsItems lists.old.book lists.new.book }
-    ensures segments { SameSegments lists.old.book.lists lists.new.book.lists }
-    ensures counts { lists.new ≡ record lists.old { book = lists.new.book } }
+{
+    tending::drain(lists, lanes, most, now);
+    lists.promise();
+    lists.sweep();
+}
+
+// Chunks of ended items come free that nobody holds any more; and where none does the bumps that wait are applied first.
+fn free_at_last<N: Name, L: RowLaw>(
+    lists: &mut CountedBook<N, L>,
+    lanes: &mut [RawLane<N, L>],
+    most: u32,
+    now: u64,
+)
+    ensures frees { FreesAtLast most now lists.old lanes.old lists.new lanes.new }
+    ensures kept { KeepsItems lists.old.book lists.new.book }
+{
+    lists.free_some(MOST_FREED as u32);
+    if lists.size(Place::Unused) > 0 {
+        return;
+    }
+    drain_and_sweep(lists, lanes, most, now);
+}
+
+// So it is where no chunk is free.
+pub(crate) fn free_where_none<N: Name, L: RowLaw>(
+    lists: &mut CountedBook<N, L>,
+    lanes: &mut [RawLane<N, L>],
+    most: u32,
+    now: u64,
+)
+    ensures frees { FreesWhereNone most now lists.old lanes.old lists.new lanes.new }
+    ensures kept { KeepsItems lists.old.book lists.new.book }
+    ensures evictions { lists.new.evictions ≡ lists.old.evictions }
 {
     if lists.size(Place::Unused) > 0 {
         return;
     }
-    lists.free_some(MOST_FREED as u32);
+    free_at_last(lists, lanes, most, now);
 }

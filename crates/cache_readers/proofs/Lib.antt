@@ -1,1 +1,3 @@
 mod LookLemmas
+pub mod GrownLemmas
+pub mod TakenLemmas

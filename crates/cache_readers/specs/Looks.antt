@@ -1,5 +1,5 @@
 -- What looks at chunks come to, by which a reader finds the item of a key.
-use Rattle.std.specs.Prelude.{◌≡◌, ◌≢◌, ◌⊎◌, ◌&&◌, ℕ, zero, suc, ◌+◌, ◌<◌, ◌≤◌, true, false, List, length, slice_index, Result, Ok, Err, IfOk}
+use Rattle.std.specs.Prelude.{◌≡◌, ◌≢◌, ◌⊎◌, ◌&&◌, ℕ, zero, suc, ◌+◌, ◌%◌, ◌^◌, ◌<◌, ◌≤◌, true, false, List, length, slice_index, Result, Ok, Err, IfOk}
 use Rattle.bump_rules.specs.declared.commands.Touch.{Touch}
 use Rattle.bump_rules.specs.declared.configs.Config.{Config}
 use Rattle.bump_rules.specs.declared.items.Head.{Head}
@@ -12,6 +12,8 @@ use Rattle.bump_parts.specs.Gets.{GotAny}
 use Rattle.bump_parts.specs.StepCounts.{MakesAtMost}
 use Rattle.bump_parts.specs.Touches.{WorkerTouches}
 use Rattle.bump_parts.specs.Workers.{WorkerState}
+use Rattle.cache_readers.specs.declared.vain.Vain.{Vain}
+use Rattle.cache_readers.specs.declared.vain.Vain.TheVariants as vain
 use Rattle.entry_times.specs.Times.{has_expired}
 
 -- a worker's get of whatever item is linked in a chunk, by the clauses `missing` and `got` of `Worker::get_any`
@@ -29,33 +31,97 @@ HasWords words from row = (i : ℕ) → i < length words → word_of_row row (fr
 abbrev pub HasOtherKey : List ℕ → List ℕ → Type 0
 HasOtherKey key row = (i : ℕ) × (i < length key) × (word_of_row row i ≢ slice_index key i)
 
--- an item isn't what is looked for: it has another key; or it has the key and has expired, its label being when it does
-abbrev pub IsPassedBy : List ℕ → ℕ → List ℕ → Type 0
-IsPassedBy key now row = HasOtherKey key row ⊎ (HasWords key 0 row × (has_expired (label_of_row row) now ≡ true))
+-- What a look found that was in vain, by why it was: an item with another key; one that has the key and has expired, its
+-- label being when it does; or, where the reader took the life to which the index led to have ended, anything.
+abbrev pub IsInVain : Vain → List ℕ → ℕ → Result (HoldPart × Head) GetAnyRefusal → Type 0
+IsInVain vain.Ended key now took = Unit {0}
+IsInVain vain.Other key now (Ok told) = HasOtherKey key told.0.row
+IsInVain vain.Over key now (Ok told) = HasWords key 0 told.0.row × (has_expired (label_of_row told.0.row) now ≡ true)
+IsInVain vain.Other key now (Err refusal) = ⊥
+IsInVain vain.Over key now (Err refusal) = ⊥
 
--- a look at a chunk for its life of a generation gave no hold, or one of another life, or one of an item with another
--- key, or of one with the key that has expired: one load of its head, and at most 8 exchanges
-pub record LooksInVain (config : Config) (key : List ℕ) (now : ℕ) (before after : WorkerState) : Type 0 where
+-- a look at a chunk was in vain, for this: one load of its head, and at most 8 exchanges
+pub record LooksInVain (why : Vain) (config : Config) (key : List ℕ) (now : ℕ) (before after : WorkerState)
+    : Type 0 where
   pub chunk : ℕ
-  pub generation : ℕ
   pub took : Result (HoldPart × Head) GetAnyRefusal
   pub gets : WorkerGetsAny config chunk before after took
-  pub other : IfOk took (λ told. told.0.life.generation ≡ generation → IsPassedBy key now told.0.row)
+  pub is : IsInVain why key now took
   pub few : MakesAtMost 1 8 0 before.part.steps after.part.steps
 
--- so many, one after the other
-abbrev pub AreInVain : Config → List ℕ → ℕ → ℕ → WorkerState → WorkerState → Type 0
-AreInVain config key now zero before after = after ≡ before
-AreInVain config key now (suc count) before after = (between : WorkerState)
-    × AreInVain config key now count before between × LooksInVain config key now between after
+-- so many looks of one search, one after the other: each held an item with another key
+abbrev pub AreOther : Config → List ℕ → ℕ → ℕ → WorkerState → WorkerState → Type 0
+AreOther config key now zero before after = after ≡ before
+AreOther config key now (suc count) before after = (between : WorkerState)
+    × AreOther config key now count before between × LooksInVain vain.Other config key now between after
 
--- Looks for a key ended with a hold of an item that has it and hasn't expired, with the words that were stored for its
--- life, of which the table's law holds: so many looks were in vain, and the next one gave this hold, by this head.
-pub record TakesKey (law : RowPredicate) (config : Config) (key : List ℕ) (now : ℕ) (before after : WorkerState)
+-- looks of one search, each of which held an item with another key
+pub record FindsOthers (config : Config) (key : List ℕ) (now : ℕ) (before after : WorkerState) : Type 0 where
+  pub looks : ℕ
+  pub others : AreOther config key now looks before after
+
+-- what is the last of a search that ended for this: nothing, where the index led to no further life
+abbrev pub EndsSearch : Vain → Config → List ℕ → ℕ → WorkerState → WorkerState → Type 0
+EndsSearch vain.Other config key now before after = after ≡ before
+EndsSearch vain.Over config key now before after = LooksInVain vain.Over config key now before after
+EndsSearch vain.Ended config key now before after = LooksInVain vain.Ended config key now before after
+
+-- a search ended for this, behind looks that held items with other keys
+pub record SearchEnds (why : Vain) (config : Config) (key : List ℕ) (now : ℕ) (before after : WorkerState)
+    : Type 0 where
+  pub between : WorkerState
+  pub others : FindsOthers config key now before between
+  pub last : EndsSearch why config key now between after
+
+-- so many searches, one after the other: each ended at a life that had ended
+abbrev pub SearchesAnew : Config → List ℕ → ℕ → ℕ → WorkerState → WorkerState → Type 0
+SearchesAnew config key now zero before after = after ≡ before
+SearchesAnew config key now (suc count) before after = (between : WorkerState)
+    × SearchesAnew config key now count before between × SearchEnds vain.Ended config key now between after
+
+-- as many as there are at most
+abbrev pub most_searches : ℕ
+most_searches = 1000
+
+-- one more, in a count of 64 bits: behind its greatest number comes 0
+abbrev pub one_more : ℕ → ℕ
+one_more count = (count + 1) % 2 ^ 64
+
+-- so many more
+abbrev pub many_more : ℕ → ℕ → ℕ
+many_more zero count = count
+many_more (suc more) count = one_more (many_more more count)
+
+-- A search ended with a hold of an item that has the key and hasn't expired, with the words that stood in its chunk when
+-- the hold was taken, of which the table's law holds: so many looks held items with other keys, and the next one gave
+-- this hold, by this head.
+pub record SearchTakes (law : RowPredicate) (config : Config) (key : List ℕ) (now : ℕ) (before after : WorkerState)
     (hold : HoldPart) (found : Head) : Type 0 where
   pub looks : ℕ
   pub last : WorkerState
-  pub vain : AreInVain config key now looks before last
+  pub others : AreOther config key now looks before last
+  pub chunk : ℕ
+  pub gets : WorkerGetsAny config chunk last after (Ok (hold, found))
+  pub has_key : HasWords key 0 hold.row
+  pub stays : has_expired (label_of_row hold.row) now ≡ false
+  pub lawful : law (words_in hold.row)
+  pub few : MakesAtMost 1 8 0 last.part.steps after.part.steps
+
+-- Looks for a key ended with a hold of an item that has it and hasn't expired, with the words that stood in its chunk when
+-- the hold was taken, of which the table's law holds: so many searches ended at lives that had ended, so many looks of the
+-- next one held items with other keys, and the next look gave this hold, by this head. By `gets` it is the first of the
+-- holds that the worker took, so that its row is no other than that which the exchange found. The searches that ended so
+-- are counted: the count was one number before, and is the other.
+pub record TakesKey (law : RowPredicate) (config : Config) (key : List ℕ) (now from to : ℕ)
+    (before after : WorkerState) (hold : HoldPart) (found : Head) : Type 0 where
+  pub turns : ℕ
+  pub counted : to ≡ many_more turns from
+  pub few_turns : turns < most_searches
+  pub start : WorkerState
+  pub anew : SearchesAnew config key now turns before start
+  pub looks : ℕ
+  pub last : WorkerState
+  pub others : AreOther config key now looks start last
   pub chunk : ℕ
   pub gets : WorkerGetsAny config chunk last after (Ok (hold, found))
   pub has_key : HasWords key 0 hold.row
@@ -70,36 +136,45 @@ pub record TouchesUnmarked (config : Config) (hold : HoldPart) (found : Head) (n
   pub touched : (found.fetched && found.active) ≡ false
       → (answer : Touch) × WorkerTouches config hold.life now before after answer
   pub few : MakesAtMost 1 8 4 before.part.steps after.part.steps
+  -- a touch takes no hold
+  pub taken : after.part.taken ≡ before.part.taken
 
 -- a get took this hold of an item with the key, and touched it
-pub record Hits (law : RowPredicate) (config : Config) (key : List ℕ) (now : ℕ) (before after : WorkerState)
+pub record Hits (law : RowPredicate) (config : Config) (key : List ℕ) (now from to : ℕ) (before after : WorkerState)
     (hold : HoldPart) : Type 0 where
   pub found : Head
   pub between : WorkerState
-  pub takes : TakesKey law config key now before between hold found
+  pub takes : TakesKey law config key now from to before between hold found
   pub touches : TouchesUnmarked config hold found now between after
 
 -- a get found this value: its hit's row has it behind the key
-pub record Finds (law : RowPredicate) (config : Config) (key value : List ℕ) (now : ℕ) (before after : WorkerState)
-    : Type 0 where
+pub record Finds (law : RowPredicate) (config : Config) (key value : List ℕ) (now from to : ℕ)
+    (before after : WorkerState) : Type 0 where
   pub hold : HoldPart
-  pub hits : Hits law config key now before after hold
+  pub hits : Hits law config key now from to before after hold
   pub has_value : HasWords value (length key) hold.row
 
 -- an item with the key was held, and nothing else was done
-pub record Sees (law : RowPredicate) (config : Config) (key : List ℕ) (now : ℕ) (before after : WorkerState)
+pub record Sees (law : RowPredicate) (config : Config) (key : List ℕ) (now from to : ℕ) (before after : WorkerState)
     : Type 0 where
   pub hold : HoldPart
   pub found : Head
-  pub takes : TakesKey law config key now before after hold found
+  pub takes : TakesKey law config key now from to before after hold found
 
 -- a peek found this value: the row of the item that it held has it behind the key
-pub record Peeks (law : RowPredicate) (config : Config) (key value : List ℕ) (now : ℕ) (before after : WorkerState)
-    : Type 0 where
-  pub sees : Sees law config key now before after
+pub record Peeks (law : RowPredicate) (config : Config) (key value : List ℕ) (now from to : ℕ)
+    (before after : WorkerState) : Type 0 where
+  pub sees : Sees law config key now from to before after
   pub has_value : HasWords value (length key) sees.hold.row
 
--- looks for a key found nothing: so many were in vain
-pub record FindsNothing (config : Config) (key : List ℕ) (now : ℕ) (before after : WorkerState) : Type 0 where
-  pub looks : ℕ
-  pub vain : AreInVain config key now looks before after
+-- Looks for a key found nothing: so many searches ended at lives that had ended, and are counted. Either they were as many
+-- as there are at most; or the next search ended, where the index led to no further life, or at an item that has the key
+-- and has expired.
+pub record FindsNothing (config : Config) (key : List ℕ) (now from to : ℕ) (before after : WorkerState) : Type 0
+  where
+    pub turns : ℕ
+    pub counted : to ≡ many_more turns from
+    pub start : WorkerState
+    pub anew : SearchesAnew config key now turns before start
+    pub ends : ((turns ≡ most_searches) × (after ≡ start)) ⊎ ((turns < most_searches)
+        × (SearchEnds vain.Other config key now start after ⊎ SearchEnds vain.Over config key now start after))

@@ -1,37 +1,43 @@
 -- What contracts see of a reader of a cache, and what a get that found nothing leaves of it.
-use Rattle.std.specs.Prelude.{◌≡◌, ℕ, ◌+◌, ◌%◌, ◌^◌, List}
+use Rattle.std.specs.Prelude.{◌≡◌, ℕ, List}
 use Rattle.bump_rules.specs.declared.configs.Config.{Config}
 use Rattle.bump_parts.specs.Workers.{WorkerState}
-use Rattle.cache_readers.specs.Looks.{FindsNothing}
+use Rattle.cache_readers.specs.Looks.{FindsNothing, one_more}
 
--- the configuration of the cache's store, the first chunk of the index that it searches, the worker, and how many of its
--- gets found something, and how many nothing
+-- the configuration of the cache's store, the first chunk of the index that it searches, the worker, how many of its gets
+-- found something, and how many nothing, and how many searches ended at a life that had ended, and began anew
 pub record ReaderView : Type 0 where
   pub config : Config
   pub first : ℕ
   pub worker : WorkerState
   pub hits : ℕ
   pub misses : ℕ
-
--- one more, in a count of 64 bits: behind its greatest number comes 0
-abbrev pub one_more : ℕ → ℕ
-one_more count = (count + 1) % 2 ^ 64
+  pub anew : ℕ
 
 -- a reader that got nothing yet, of a store of this configuration and of the index with this first chunk, with this worker
 abbrev pub new_reader : Config → ℕ → WorkerState → ReaderView
-new_reader config first worker = record { config = config; first = first; worker = worker; hits = 0; misses = 0 }
+new_reader config first worker = record {
+  config = config;
+  first = first;
+  worker = worker;
+  hits = 0;
+  misses = 0;
+  anew = 0;
+}
 
--- the reader's worker made steps, and nothing is counted
+-- the reader's worker made steps, and no get is counted
 abbrev pub CountsNothing : ReaderView → ReaderView → Type 0
-CountsNothing before after = after ≡ record before { worker = after.worker }
+CountsNothing before after = after ≡ record before { worker = after.worker; anew = after.anew }
 
 -- the same, but a hit is counted
 abbrev pub CountsHit : ReaderView → ReaderView → Type 0
-CountsHit before after = after ≡ record before { worker = after.worker; hits = one_more before.hits }
+CountsHit before after = after ≡ record before
+    { worker = after.worker; hits = one_more before.hits; anew = after.anew }
 
 -- the same, but a miss is counted
 abbrev pub CountsMiss : ReaderView → ReaderView → Type 0
-CountsMiss before after = after ≡ record before { worker = after.worker; misses = one_more before.misses }
+CountsMiss before after = after ≡ record before
+    { worker = after.worker; misses = one_more before.misses; anew = after.anew }
 
 -- the ring of the reader's worker is the one that it had
 abbrev pub KeepsRing : ReaderView → ReaderView → Type 0
@@ -39,7 +45,8 @@ KeepsRing before after = after.worker.sender.ring ≡ before.worker.sender.ring
 
 -- a reader's looks for a key found nothing
 abbrev pub ReadsNothing : List ℕ → ℕ → ReaderView → ReaderView → Type 0
-ReadsNothing key now before after = FindsNothing before.config key now before.worker after.worker
+ReadsNothing key now before after =
+    FindsNothing before.config key now before.anew after.anew before.worker after.worker
 
 -- a get found nothing, and counted one miss
 pub record Misses (key : List ℕ) (now : ℕ) (before after : ReaderView) : Type 0 where

@@ -5,6 +5,7 @@
 
 mod looking;
 mod readers;
+mod vain;
 
 pub use bump_heads::{Heads, Name, ReaderHeads};
 pub use bump_parts::{Hold, Worker};
@@ -12,3 +13,4 @@ pub use bump_rules::{Accounts, ItemId};
 pub use bump_steps::RowLaw;
 pub use cache_nests::IndexReader;
 pub use readers::WordReader;
+pub use vain::Vain;

@@ -1,9 +1,10 @@
 //! Looks at the chunks to which the index leads.
-ghost use Rattle.std.specs.Prelude.{◌≡◌, ◌+◌, ◌≤◌, true, false, IfOk, OnErr, IfSome, IfNone, length};
-ghost use Rattle.cache_readers.specs.Looks.{FindsNothing, HasOtherKey, HasWords, Hits, LooksInVain, TakesKey};
-ghost use Rattle.cache_readers.specs.Looks.{TouchesUnmarked};
-ghost use Rattle.cache_readers.specs.Readers.{one_more};
+ghost use Rattle.std.specs.Prelude.{◌≡◌, ◌+◌, ◌≤◌, true, false, IfOk, IfSome, IfNone, length};
+ghost use Rattle.std.specs.Result.{IfErr};
+ghost use Rattle.cache_readers.specs.Looks.{FindsNothing, HasOtherKey, HasWords, Hits, LooksInVain, SearchEnds, SearchTakes};
+ghost use Rattle.cache_readers.specs.Looks.{TakesKey, TouchesUnmarked, one_more};
 
+use crate::vain::Vain;
 use bump_parts::{Hold, Worker};
 use bump_readers::{Name, ReaderHeads};
 use bump_rules::{Head, ItemId};
@@ -14,18 +15,6 @@ use entry_times::has_expired;
 // A search begins anew where the life to which the index led has ended, so often at most: each time the key was put
 // anew, removed or evicted meanwhile.
 const TURNS: u32 = 1_000;
-
-// Why a look was in vain.
-pub(crate) enum Vain {
-    // The life to which the index led has another key.
-    Other,
-
-    // It has the key, and has expired: the search is over.
-    Over,
-
-    // That life has ended: the index leads elsewhere by now.
-    Ended,
-}
 
 // Whether the item that is held has the key.
 #[inline(always)]
@@ -94,9 +83,9 @@ fn look<N: Name, L: RowLaw>(
     now: u64,
 ) -> Result<(Hold<N>, Head), Vain>
     requires few { length key.now ≤ N.table.slots }
-    ensures takes { IfOk result (λ took. TakesKey L.law heads.now key.now now worker.old worker.new took.0 took.1) }
+    ensures takes { IfOk result (λ took. SearchTakes L.law heads.now key.now now worker.old worker.new took.0 took.1) }
     ensures led { IfOk result (λ took. took.0.life.generation ≡ id.generation) }
-    ensures vain { OnErr result (LooksInVain heads.now key.now now worker.old worker.new) }
+    ensures vain { IfErr result (λ why. LooksInVain why heads.now key.now now worker.old worker.new) }
     ensures ring { worker.new.sender.ring ≡ worker.old.sender.ring }
 {
     let Ok((mut hold, found)) = worker.get_any(heads, id.chunk) else {
@@ -130,8 +119,8 @@ fn look_through<N: Name, L: RowLaw>(
     now: u64,
 ) -> Result<(Hold<N>, Head), Vain>
     requires few { length key.now ≤ N.table.slots }
-    ensures takes { IfOk result (λ took. TakesKey L.law heads.now key.now now worker.old worker.new took.0 took.1) }
-    ensures vain { OnErr result (FindsNothing heads.now key.now now worker.old worker.new) }
+    ensures takes { IfOk result (λ took. SearchTakes L.law heads.now key.now now worker.old worker.new took.0 took.1) }
+    ensures vain { IfErr result (λ why. SearchEnds why heads.now key.now now worker.old worker.new) }
     ensures ring { worker.new.sender.ring ≡ worker.old.sender.ring }
 {
     let mut search = index.search(hash);
@@ -146,19 +135,22 @@ fn look_through<N: Name, L: RowLaw>(
     Err(Vain::Other)
 }
 
-// Finds the item of a key that hasn't expired: a hold of it, and the head by which it was taken.
+// Finds the item of a key that hasn't expired: a hold of it, and the head by which it was taken. Searches that end at a
+// life that has ended are counted in `anew`.
 #[inline(always)]
 pub(crate) fn find<N: Name, L: RowLaw>(
     worker: &mut Worker<N>,
     heads: &ReaderHeads<N, L>,
     index: &IndexReader,
+    anew: &mut u64,
     hash: u32,
     key: &[u64],
     now: u64,
 ) -> Option<(Hold<N>, Head)>
     requires few { length key.now ≤ N.table.slots }
-    ensures takes { IfSome result (λ took. TakesKey L.law heads.now key.now now worker.old worker.new took.0 took.1) }
-    ensures vain { IfNone result (FindsNothing heads.now key.now now worker.old worker.new) }
+    ensures takes { IfSome result (λ took. TakesKey L.law heads.now key.now now anew.old anew.new worker.old worker.new
+        took.0 took.1) }
+    ensures vain { IfNone result (FindsNothing heads.now key.now now anew.old anew.new worker.old worker.new) }
     ensures ring { worker.new.sender.ring ≡ worker.old.sender.ring }
 {
     for _turn in 0..TURNS {
@@ -166,7 +158,7 @@ pub(crate) fn find<N: Name, L: RowLaw>(
             Ok(took) => return Some(took),
             Err(Vain::Other) => return None,
             Err(Vain::Over) => return None,
-            Err(Vain::Ended) => {}
+            Err(Vain::Ended) => count_one(anew),
         }
     }
     None
@@ -188,18 +180,20 @@ pub(crate) fn take<N: Name, L: RowLaw>(
     index: &IndexReader,
     hits: &mut u64,
     misses: &mut u64,
+    anew: &mut u64,
     hash: u32,
     key: &[u64],
     now: u64,
 ) -> Option<Hold<N>>
     requires few { length key.now ≤ N.table.slots }
-    ensures found { IfSome result (λ hold. Hits L.law heads.now key.now now worker.old worker.new hold) }
-    ensures nothing { IfNone result (FindsNothing heads.now key.now now worker.old worker.new) }
+    ensures found { IfSome result (λ hold. Hits L.law heads.now key.now now anew.old anew.new worker.old worker.new
+        hold) }
+    ensures nothing { IfNone result (FindsNothing heads.now key.now now anew.old anew.new worker.old worker.new) }
     ensures hit { IfSome result (λ _. (hits.new ≡ one_more hits.old) × (misses.new ≡ misses.old)) }
     ensures missed { IfNone result ((hits.new ≡ hits.old) × (misses.new ≡ one_more misses.old)) }
     ensures ring { worker.new.sender.ring ≡ worker.old.sender.ring }
 {
-    let Some((mut hold, found)) = find(worker, heads, index, hash, key, now) else {
+    let Some((mut hold, found)) = find(worker, heads, index, anew, hash, key, now) else {
         count_one(misses);
         return None;
     };

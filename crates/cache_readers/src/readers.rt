@@ -26,6 +26,7 @@ pub struct WordReader<N: Name, L: RowLaw> {
     index: IndexReader,
     hits: u64,
     misses: u64,
+    anew: u64,
 }
 
 impl<N: Name, L: RowLaw> Model for WordReader<N, L> {
@@ -37,6 +38,7 @@ impl<N: Name, L: RowLaw> Model for WordReader<N, L> {
       worker = r.worker;
       hits = r.hits;
       misses = r.misses;
+      anew = r.anew;
     } };
 }
 
@@ -56,6 +58,7 @@ impl<N: Name, L: RowLaw> WordReader<N, L> {
             index,
             hits: 0,
             misses: 0,
+            anew: 0,
         }
     }
 
@@ -71,13 +74,21 @@ impl<N: Name, L: RowLaw> WordReader<N, L> {
     #[inline(always)]
     fn see(&mut self, hash: u32, key: &[u64], now: u64) -> Option<(Hold<N>, Head)>
         requires few { length key.now ≤ N.table.slots }
-        ensures found { IfSome result (λ took. TakesKey L.law self.old.config key.now now self.old.worker
-            self.new.worker took.0 took.1) }
+        ensures found { IfSome result (λ took. TakesKey L.law self.old.config key.now now self.old.anew self.new.anew
+            self.old.worker self.new.worker took.0 took.1) }
         ensures nothing { IfNone result (ReadsNothing key.now now self.old self.new) }
         ensures uncounted { CountsNothing self.old self.new }
         ensures ring { KeepsRing self.old self.new }
     {
-        find(&mut self.worker, &self.heads, &self.index, hash, key, now)
+        find(
+            &mut self.worker,
+            &self.heads,
+            &self.index,
+            &mut self.anew,
+            hash,
+            key,
+            now,
+        )
     }
 
     /// Reads the value that was put under a key into `value`, as memcached's `get`, and tells whether there was one
@@ -99,8 +110,8 @@ impl<N: Name, L: RowLaw> WordReader<N, L> {
     #[inline(always)]
     pub fn get(&mut self, hash: u32, key: &[u64], value: &mut [u64], now: u64) -> bool
         requires few { length key.now + length value.old ≤ N.table.slots }
-        ensures found { result ≡ true → Finds L.law self.old.config key.now value.new now self.old.worker
-            self.new.worker }
+        ensures found { result ≡ true → Finds L.law self.old.config key.now value.new now self.old.anew self.new.anew
+            self.old.worker self.new.worker }
         ensures counted { result ≡ true → CountsHit self.old self.new }
         ensures nothing { result ≡ false → ReadsNothing key.now now self.old self.new }
         ensures missed { result ≡ false → CountsMiss self.old self.new }
@@ -116,6 +127,7 @@ impl<N: Name, L: RowLaw> WordReader<N, L> {
             &self.index,
             &mut self.hits,
             &mut self.misses,
+            &mut self.anew,
             hash,
             key,
             now,
@@ -135,8 +147,8 @@ impl<N: Name, L: RowLaw> WordReader<N, L> {
     #[inline(always)]
     pub fn hold(&mut self, hash: u32, key: &[u64], now: u64) -> Option<Hold<N>>
         requires few { length key.now ≤ N.table.slots }
-        ensures found { IfSome result (λ hold. Hits L.law self.old.config key.now now self.old.worker self.new.worker
-            hold) }
+        ensures found { IfSome result (λ hold. Hits L.law self.old.config key.now now self.old.anew self.new.anew
+            self.old.worker self.new.worker hold) }
         ensures counted { IfSome result (λ hold. CountsHit self.old self.new) }
         ensures missed { IfNone result (Misses key.now now self.old self.new) }
         ensures ring { KeepsRing self.old self.new }
@@ -147,6 +159,7 @@ impl<N: Name, L: RowLaw> WordReader<N, L> {
             &self.index,
             &mut self.hits,
             &mut self.misses,
+            &mut self.anew,
             hash,
             key,
             now,
@@ -170,8 +183,8 @@ impl<N: Name, L: RowLaw> WordReader<N, L> {
     #[inline(always)]
     pub fn peek(&mut self, hash: u32, key: &[u64], value: &mut [u64], now: u64) -> bool
         requires few { length key.now + length value.old ≤ N.table.slots }
-        ensures found { result ≡ true → Peeks L.law self.old.config key.now value.new now self.old.worker
-            self.new.worker }
+        ensures found { result ≡ true → Peeks L.law self.old.config key.now value.new now self.old.anew self.new.anew
+            self.old.worker self.new.worker }
         ensures nothing { result ≡ false → ReadsNothing key.now now self.old self.new }
         ensures uncounted { CountsNothing self.old self.new }
         ensures unread { result ≡ false → value.new ≡ value.old }
@@ -191,7 +204,8 @@ impl<N: Name, L: RowLaw> WordReader<N, L> {
     #[inline(always)]
     pub fn contains(&mut self, hash: u32, key: &[u64], now: u64) -> bool
         requires few { length key.now ≤ N.table.slots }
-        ensures found { result ≡ true → Sees L.law self.old.config key.now now self.old.worker self.new.worker }
+        ensures found { result ≡ true → Sees L.law self.old.config key.now now self.old.anew self.new.anew
+            self.old.worker self.new.worker }
         ensures nothing { result ≡ false → ReadsNothing key.now now self.old self.new }
         ensures uncounted { CountsNothing self.old self.new }
         ensures ring { KeepsRing self.old self.new }
@@ -223,6 +237,14 @@ impl<N: Name, L: RowLaw> WordReader<N, L> {
         ensures { result ≡ self.now.misses }
     {
         self.misses
+    }
+
+    /// How many searches, of gets and of peeks, ended at a life that had ended meanwhile, and began anew, in the same way:
+    /// each time another thread put the key anew, removed it or evicted it.
+    pub fn searched_anew(&self) -> u64
+        ensures { result ≡ self.now.anew }
+    {
+        self.anew
     }
 
     /// Its counts of bumps, as `Worker::counts` tells them: accepted and dropped ones add up to those attempted.

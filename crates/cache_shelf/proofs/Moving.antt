@@ -1,7 +1,6 @@
 -- What is said of a change of a part, where its items move from list to list before or behind it.
 use Rattle.std.proofs.Common.{◌≡◌, ℕ, List, ◌∷◌, ◌++◌, length, take, drop, Option, Some, None, IsSome, IfNone, refl, sym, ap, ◌∙◌, subst}
 use Rattle.std.proofs.Math.Seq.{take-append_seam}
-use Rattle.bump_class.specs.Books.{BookView}
 use Rattle.bump_class.specs.Lanes.{LaneView}
 use Rattle.bump_steps.specs.Rule.{RowPredicate}
 use Rattle.bump_steps.specs.Views.{last_label, last_word}
@@ -142,18 +141,6 @@ had_read law key (Some c) from to before seen lawful item alike words none some 
   told = some c refl ∙ old_stays before seen c alike (words c refl);
 }
 
--- lanes that had their turns, as a slice of the vector that they lie in
-pub drains_whole : (most now : ℕ) (book left : BookView) (items from to : List LaneView) (len : ℕ)
-    → DrainsEach most now book from left to → from ≡ items → length to ≡ length from → length from ≡ len
-    → DrainsEach most now book items left (take len (to ++ drop (length to) items))
-drains_whole most now book left items from to len drains same even long =
-    subst (λ l. DrainsEach most now book items left l) (sym whole)
-    (subst (λ l. DrainsEach most now book l left to) same drains)
-  where
-    whole : take len (to ++ drop (length to) items) ≡ to
-    whole = ap (λ n. take n (to ++ drop (length to) items)) (sym (even ∙ long))
-        ∙ take-append_seam to (drop (length to) items)
-
 -- bumps of a shelf's lanes that are applied only move items of its part
 pub drain_moves : (inside shelf : ShelfView) (drained : PartView) → inside ≡ shelf
     → KeepsItems inside.part.book drained.book
@@ -200,16 +187,28 @@ module _ {before drained mid after : PartView} (moves : OnlyMoves before drained
       subst (λ out. AllKept out before after) (out_before before drained after early evicted)
       (all_before before drained after early _ (all_then drained mid after late _ all))
 
--- the bumps, what was done then, and the turn, one after the other
-pub in_turn : (Does : PartView → PartView → Type 0) (now : ℕ) (inside shelf : ShelfView) (drained mid : PartView)
-    (after : ShelfView) → inside ≡ shelf
-    → DrainsEach put_bumps now inside.part.book inside.lanes drained.book after.lanes → OnlyMoves shelf.part drained
-    → Does drained mid → TakesTurn inside.limits inside.puts now mid after.part after.puts → PutsInTurn Does now shelf after
-in_turn Does now inside shelf drained mid after same drains moves does turn = record {
-  drained = drained;
-  drains = subst (λ v. DrainsEach put_bumps now v.part.book v.lanes drained.book after.lanes) same drains;
-  moves = moves;
-  did = mid;
-  does = does;
-  turn = subst (λ v. TakesTurn v.limits v.puts now mid after.part after.puts) same turn;
-}
+-- The bumps, what was done then, and the turn, one after the other. The lanes are a slice of the vector that they lie in,
+-- which they fill.
+pub in_turn : (Does : ℕ → PartView → List LaneView → PartView → List LaneView → Type 0) (now : ℕ)
+    (inside shelf : ShelfView) (drained mid : PartView) (from between to : List LaneView) (len : ℕ) (after : ShelfView)
+    → inside ≡ shelf → from ≡ inside.lanes → length between ≡ length from → length to ≡ length between
+    → length from ≡ len → after.lanes ≡ take len (to ++ drop (length to) inside.lanes)
+    → DrainsEach put_bumps now inside.part.book from drained.book between → OnlyMoves shelf.part drained
+    → Does inside.limits.most drained between mid to
+    → TakesTurn inside.limits inside.puts now mid after.part after.puts → PutsInTurn Does now shelf after
+in_turn Does now inside shelf drained mid from between to len after same all even again long left drains moves does turn =
+    record {
+      drained = drained;
+      between = between;
+      drains = subst (λ v. DrainsEach put_bumps now v.part.book v.lanes drained.book between) same
+          (subst (λ l. DrainsEach put_bumps now inside.part.book l drained.book between) all drains);
+      moves = moves;
+      did = mid;
+      does = subst (λ v. Does v.limits.most drained between mid after.lanes) same
+          (subst (λ l. Does inside.limits.most drained between mid l) (sym (left ∙ whole)) does);
+      turn = subst (λ v. TakesTurn v.limits v.puts now mid after.part after.puts) same turn;
+    }
+  where
+    whole : take len (to ++ drop (length to) inside.lanes) ≡ to
+    whole = ap (λ n. take n (to ++ drop (length to) inside.lanes)) (sym (again ∙ (even ∙ long)))
+        ∙ take-append_seam to (drop (length to) inside.lanes)

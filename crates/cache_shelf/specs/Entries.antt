@@ -1,14 +1,14 @@
 -- What a part keeps, as a table of keys and values, each of which is a list of words, and of times at which they
 -- expire.
 use Rattle.std.specs.Prelude.{◌≡◌, ◌≢◌, ◌↔◌, ℕ, false, List, ◌∷◌, Option, None, Some, IsSome, option_map}
-use Rattle.bump_links.specs.Lists.{first_of}
+use Rattle.bump_class.specs.Lanes.{LaneView}
 use Rattle.bump_steps.specs.Rule.{RowPredicate}
 use Rattle.bump_steps.specs.Views.{last_label}
 use Rattle.cache_lists.specs.Linked.{linked_at}
 use Rattle.cache_part.specs.Keys.{key_at, value_at}
 use Rattle.cache_part.specs.Looks.{LooksOnly}
 use Rattle.cache_part.specs.Parts.{PartView, IsItem, IsUnder, IsUnknown, counted}
-use Rattle.cache_part.specs.Putting.{MakesRoom, Puts, row_at}
+use Rattle.cache_part.specs.Putting.{FindsNone, Puts, row_at}
 use Rattle.entry_times.specs.Times.{has_expired}
 use Rattle.cache_shelf.specs.Shelves.{Obeys, ShelfView}
 
@@ -74,16 +74,19 @@ pub record ReadsShelf (before after : ShelfView) : Type 0 where
   pub part : OnlyReads before.part after.part
   pub rest : after ≡ record before { part = after.part }
 
--- the part put an item, and then the time and the value of the key's old one were read
-pub record PutsEntry (old evicted : Option ℕ) (row : List ℕ) (expires now chunk : ℕ) (before after : PartView) : Type 0
-  where
-    pub put : PartView
-    pub puts : Puts before.items before.temporary old evicted row expires now chunk (counted before) (counted put)
-    pub reads : OnlyReads put after
+-- the part put an item, for which at most so many bumps of each lane were applied, where it had to; and then the time and
+-- the value of the key's old one were read
+pub record PutsEntry (old evicted : Option ℕ) (row : List ℕ) (expires now chunk most : ℕ) (before : PartView)
+    (from : List LaneView) (after : PartView) (to : List LaneView) : Type 0 where
+  pub put : PartView
+  pub puts : Puts before.items before.temporary old evicted row expires now chunk most (counted before) from
+      (counted put) to
+  pub reads : OnlyReads put after
 
--- Room was made for an item with this key, for which this one was evicted, and no chunk is free.
-pub record FindsNoRoom (key : List ℕ) (evicted : Option ℕ) (now : ℕ) (before after : PartView) : Type 0 where
+-- Room was made for an item with this key, for which this one was evicted, and at most so many bumps of each lane were
+-- applied; and no chunk is free.
+pub record FindsNoRoom (key : List ℕ) (evicted : Option ℕ) (now most : ℕ) (before : PartView) (from : List LaneView)
+    (after : PartView) (to : List LaneView) : Type 0 where
   pub old : Option ℕ
   pub item : IsItem key old before
-  pub room : MakesRoom before.items now old evicted (counted before) (counted after)
-  pub full : first_of after.book.lists.unused ≡ None
+  pub none : FindsNone before.items now old evicted most (counted before) from (counted after) to

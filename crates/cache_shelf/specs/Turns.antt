@@ -1,5 +1,6 @@
 -- What a put and a tend do to a shelf, one after the other.
-use Rattle.std.specs.Prelude.{◌≡◌, ℕ, ◌+◌, ◌<◌, ◌⊎◌}
+use Rattle.std.specs.Prelude.{◌≡◌, ℕ, ◌+◌, ◌<◌, ◌⊎◌, List}
+use Rattle.bump_class.specs.Lanes.{LaneView}
 use Rattle.cache_lists.specs.Items.{KeepsItems}
 use Rattle.cache_part.specs.Parts.{PartView, counted}
 use Rattle.cache_part.specs.Tending.{BalancesByAge, DrainsEach, Tends}
@@ -31,14 +32,17 @@ abbrev pub TakesTurn : Limits → ℕ → ℕ → PartView → PartView → ℕ 
 TakesTurn limits puts now before after left =
     CountsPut puts before after left ⊎ BalancesInTurn limits puts now before after left
 
--- First the bumps that wait are applied, at most `put_bumps` of each lane; then the part does this; and then the put
--- has its turn to balance. Before and behind what the part does items only move.
-pub record PutsInTurn (Does : PartView → PartView → Type 0) (now : ℕ) (before after : ShelfView) : Type 0 where
+-- First the bumps that wait are applied, at most `put_bumps` of each lane; then the part does this, for which it may apply
+-- as many of each lane as the limits say; and then the put has its turn to balance. Before and behind what the part does
+-- items only move.
+pub record PutsInTurn (Does : ℕ → PartView → List LaneView → PartView → List LaneView → Type 0) (now : ℕ)
+    (before after : ShelfView) : Type 0 where
   pub drained : PartView
-  pub drains : DrainsEach put_bumps now before.part.book before.lanes drained.book after.lanes
+  pub between : List LaneView
+  pub drains : DrainsEach put_bumps now before.part.book before.lanes drained.book between
   pub moves : OnlyMoves before.part drained
   pub did : PartView
-  pub does : Does drained did
+  pub does : Does before.limits.most drained between did after.lanes
   pub turn : TakesTurn before.limits before.puts now did after.part after.puts
 
 -- a shelf is tended: its part is, by the shelf's lanes and limits

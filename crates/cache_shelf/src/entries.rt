@@ -13,6 +13,7 @@ ghost use Rattle.cache_part.specs.Visiting.{has_unexpired};
 ghost use Rattle.cache_shelf.specs.Entries.{AllKept, Evicted, FindsNoRoom, Had, Keeps, OnlyReads, OthersKept, PutsEntry, key_of_evicted};
 ghost use Rattle.cache_shelf.specs.Shelves.{IsLawful};
 
+use bump_class::RawLane;
 use bump_heads::Name;
 use bump_steps::RowLaw;
 use cache_part::{NoChunk, Part, PutItem};
@@ -47,14 +48,16 @@ fn read_old<N: Name, L: RowLaw>(part: &mut Part<N, L>, chunk: Option<u32>, old: 
     }
 }
 
-// Puts an item, and reads the time and the value that its key had. The table's law holds of each item, before and
-// behind that.
+// Puts an item, and reads the time and the value that its key had. Where no chunk comes free at once bumps are applied, at
+// most `most` of each lane. The table's law holds of each item, before and behind that.
 pub(crate) fn put_entry<N: Name, L: RowLaw>(
     part: &mut Part<N, L>,
     row: &[u64],
     expires: u64,
     old: &mut [u64],
     evicted: &mut [u64],
+    lanes: &mut [RawLane<N, L>],
+    most: u32,
     now: u64,
 ) -> Result<PutItem, NoChunk>
     requires lawful { IsLawful L.law part.old }
@@ -69,12 +72,13 @@ pub(crate) fn put_entry<N: Name, L: RowLaw>(
     ensures evicted { IfOk result (λ did. Evicted L.law did.evicted evicted.old evicted.new part.old part.new) }
     ensures others { IfOk result (λ did. OthersKept (take part.old.key_words row.now)
         (key_of_evicted did.evicted part.old) part.old part.new) }
-    ensures puts { IfOk result (λ did. PutsEntry did.old did.evicted row.now expires now did.chunk part.old part.new) }
+    ensures puts { IfOk result (λ did. PutsEntry did.old did.evicted row.now expires now did.chunk most part.old
+        lanes.old part.new lanes.new) }
     ensures evicted_refused { IfErr result (λ why. Evicted L.law why.evicted evicted.old evicted.new part.old
         part.new) }
     ensures stay { IfErr result (λ why. AllKept (key_of_evicted why.evicted part.old) part.old part.new) }
-    ensures refuses { IfErr result (λ why. FindsNoRoom (take part.old.key_words row.now) why.evicted now part.old
-        part.new) }
+    ensures refuses { IfErr result (λ why. FindsNoRoom (take part.old.key_words row.now) why.evicted now most part.old
+        lanes.old part.new lanes.new) }
     ensures old_stays { IfErr result (λ why. old.new ≡ old.old) }
     ensures lengths { (length old.new ≡ length old.old) × (length evicted.new ≡ length evicted.old) }
     ensures rest { part.new ≡ record part.old {
@@ -85,7 +89,7 @@ pub(crate) fn put_entry<N: Name, L: RowLaw>(
     } }
 {
     part.promise();
-    match part.put(row, expires, evicted, now) {
+    match part.put(row, expires, evicted, lanes, most, now) {
         Ok(did) => {
             read_old(part, did.old, old);
             Ok(did)

@@ -82,9 +82,10 @@ impl<N: Name, L: RowLaw> Shelf<N, L> {
     /// First the bumps that wait are applied, at most `PUT_BUMPS` of each lane. Then the part puts, as `Part::put`
     /// does: the key's old item ends, and at most one other is evicted. When the old item expires, and its value, are
     /// told in `old`, which has one word more than a value; and when the evicted one does, and its row, in `evicted`,
-    /// which has one word more than a row. Both may have expired; where there is none the words stay. It is refused
-    /// exactly where no chunk is free then, also of those of ended items that nobody holds any more; the key keeps what
-    /// it had. In the end each eighth put balances HOT and WARM, in `PUT_ROUNDS` rounds at most. Under each other key
+    /// which has one word more than a row. Both may have expired; where there is none the words stay. Where no chunk is
+    /// free, also of those of ended items that nobody holds any more, as many bumps of each lane are applied as the
+    /// limits say, and it looks once more; it is refused exactly where none is free then: each chunk that has no item is
+    /// held, or has had its last generation. The key keeps what it had. In the end each eighth put balances HOT and WARM, in `PUT_ROUNDS` rounds at most. Under each other key
     /// but the evicted one's stays what was there.
     pub fn put(
         &mut self,
@@ -118,8 +119,10 @@ impl<N: Name, L: RowLaw> Shelf<N, L> {
         ensures lengths { (length old.new ≡ length old.old) × (length evicted.new ≡ length evicted.old) }
         ensures same { self.new ≡ with_put self.new self.old }
     {
-        self.part.drain(&mut self.lanes, PUT_BUMPS, now);
-        let put = put_entry(&mut self.part, row, expires, old, evicted, now);
+        let lanes: &mut [RawLane<N, L>] = &mut self.lanes;
+        self.part.drain(lanes, PUT_BUMPS, now);
+        let most = self.limits.most;
+        let put = put_entry(&mut self.part, row, expires, old, evicted, lanes, most, now);
         self.puts = take_turn(&mut self.part, self.limits, self.puts, now);
         put
     }

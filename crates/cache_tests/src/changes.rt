@@ -192,12 +192,16 @@ impl<N: Name + LogName> Both<N> {
     fn update<W: Wait>(&mut self, rt: &W, call: Call) -> bool {
         let had = self.kept(call);
         let mut calls = 0u64;
-        let updated = self
-            .cache
-            .update(rt, &mut self.me, &call.key, call.now, |value| {
+        let updated = self.cache.update(
+            rt,
+            &mut self.me,
+            &call.key,
+            call.now,
+            &mut |value: &u64| {
                 calls = calls.wrapping_add(1);
                 value.wrapping_mul(3)
-            });
+            },
+        );
         let Some(kept) = had else {
             return updated == Ok(None) && calls == 0;
         };
@@ -211,12 +215,17 @@ impl<N: Name + LogName> Both<N> {
         let had = self.kept(call);
         let mut calls = 0u64;
         let value = call.value;
-        let got = self
-            .cache
-            .get_or_put(rt, &mut self.me, &call.key, call.expires, call.now, || {
+        let got = self.cache.get_or_put(
+            rt,
+            &mut self.me,
+            &call.key,
+            call.expires,
+            call.now,
+            &mut || {
                 calls = calls.wrapping_add(1);
                 value
-            });
+            },
+        );
         if let Some(kept) = had {
             return got == Ok(GotOrPut::Got(kept.value)) && calls == 0;
         }
@@ -355,13 +364,7 @@ fn each_kind_of_call_comes_to_what_a_plain_map_has(rt: HostRuntime) -> Result<()
         // each reader's bumps may hold as many chunks as its rings have room
         let config = CacheConfig {
             parts,
-            ..config_of(
-                parts.saturating_mul(KEYS as u32),
-                parts.saturating_mul(8),
-                20,
-                40,
-                8,
-            )
+            ..config_of(parts.saturating_mul(KEYS as u32), 8, 20, 40, 8)
         };
         let blank = CacheBlank::<u64, u64>::new(alloc, &config)?;
         let wrong = run::<Brand, _>(&rt, alloc, blank, start)?;

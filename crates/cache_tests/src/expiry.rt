@@ -214,7 +214,7 @@ fn config_for(case: Case) -> CacheConfig {
     match case {
         Case::ToldOfParts => CacheConfig {
             parts: PARTS,
-            ..config_of(300, 30, 0, 40, 16)
+            ..config_of(300, 10, 0, 40, 16)
         },
         _ => CacheConfig {
             expiry_looks: LOOKS,

@@ -26,6 +26,8 @@ mod one_hash;
 #[cfg(test)]
 mod order;
 #[cfg(test)]
+mod present_keys;
+#[cfg(test)]
 mod random_calls;
 #[cfg(test)]
 mod refused_memory;

@@ -154,7 +154,7 @@ fn calm(items: &mut Items, at: usize) {
     }
 }
 
-// At most so many items are in HOT and in WARM of the first part.
+// The shares of HOT and WARM of the first part, in items.
 fn shares(config: &CacheConfig) -> (usize, usize) {
     if config.parts == 0 {
         return (0, 0);

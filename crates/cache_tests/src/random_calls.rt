@@ -188,10 +188,10 @@ const SMALL: [(u32, u32, u32, u32, u32, u32); 7] = [
     (10, 2, 20, 40, 1, 8),
     (10, 1, 0, 100, 1, 16),
     (10, 1, 100, 0, 2, 16),
-    (10, 0, 20, 40, 1, 4),
+    (10, 1, 20, 40, 1, 4),
     (10, 3, 20, 40, 3, 1),
     (1, 1, 20, 40, 1, 2),
-    (2, 0, 50, 50, 2, 1),
+    (2, 1, 50, 50, 2, 1),
 ];
 
 // Random calls on each of the small caches, tended or never, with keys and values of these types.
@@ -276,13 +276,7 @@ fn keys_of_several_parts(rt: HostRuntime) -> Result<(), Fail> {
             parts,
             readers: 2,
             temporary: Some(16),
-            ..config_of(
-                parts.saturating_mul(100),
-                parts.saturating_mul(40),
-                20,
-                40,
-                16,
-            )
+            ..config_of(parts.saturating_mul(100), 40, 20, 40, 16)
         };
         let calls = Calls {
             keys: 90,
@@ -301,7 +295,7 @@ fn keys_of_several_parts(rt: HostRuntime) -> Result<(), Fail> {
 fn a_million_items(rt: HostRuntime) -> Result<(), Fail> {
     let config = CacheConfig {
         ring: 16,
-        ..CacheConfig::new(1_000_000, 1, SEED)
+        ..CacheConfig::new(999_998, 1, SEED)
     };
     let calls = Calls {
         keys: 1_000,

@@ -7,7 +7,7 @@ use bump_cache::{
 };
 use std::alloc::{AllocError, Global};
 use std::sync::Wait;
-use std::sync::atomic::{AtomicBool, AtomicU64};
+use std::sync::atomic::{AtomicBool, AtomicU64, Ordering};
 use std::time::{Clock, Duration};
 
 /// A key and its value.
@@ -18,6 +18,15 @@ pub struct Entry<K, V> {
 
     /// The value.
     pub value: V,
+}
+
+// What a clock has, until a flag is set.
+fn time_of(clock: &AtomicU64, stop: &AtomicBool) -> Option<u64> {
+    if stop.load(Ordering::SeqCst) {
+        None
+    } else {
+        Some(clock.load(Ordering::SeqCst))
+    }
 }
 
 /// Whoever changes a cache: a caller that has a part.
@@ -110,7 +119,7 @@ impl<N: Name + LogName> Changer<N> {
         stop: &AtomicBool,
     ) {
         let Changer { mut me } = self;
-        cache.tend_until(rt, &mut me, clock, stop);
+        cache.tend_until(rt, &mut me, || time_of(clock, stop));
     }
 
     /// The same, and sleeps for a millisecond behind each tend.
@@ -122,7 +131,13 @@ impl<N: Name + LogName> Changer<N> {
         stop: &AtomicBool,
     ) {
         let Changer { mut me } = self;
-        cache.tend_each(rt, &mut me, rt, Duration::from_millis(1), clock, stop);
+        cache.tend_each(
+            rt,
+            &mut me,
+            rt,
+            Duration::from_millis(1),
+            || time_of(clock, stop),
+        );
     }
 
     /// Ends the next item of a part that has expired, and tells it.
@@ -290,7 +305,7 @@ pub const SEED: Seed = Seed {
     second: 0xfedc_ba98_7654_3211,
 };
 
-/// The configuration of a small cache of one reader: at most so many percent of the items are in HOT and in WARM.
+/// The configuration of a small cache of one reader, with these shares of HOT and WARM in percent.
 pub fn config_of(items: u32, spare: u32, hot: u32, warm: u32, ring: u32) -> CacheConfig {
     CacheConfig {
         items,

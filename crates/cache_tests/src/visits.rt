@@ -181,13 +181,7 @@ fn each_key_is_visited_once(rt: HostRuntime) -> Result<(), Fail> {
     for parts in [1u32, 2, 5] {
         let config = CacheConfig {
             parts,
-            ..config_of(
-                parts.saturating_mul(100),
-                parts.saturating_mul(10),
-                20,
-                40,
-                16,
-            )
+            ..config_of(parts.saturating_mul(100), 10, 20, 40, 16)
         };
         let wrong = wrong_in(&rt, rt.alloc(), &config)?;
         assert_eq!(rt; wrong, [0, 0, 0, 0, 0], "of {parts} parts");

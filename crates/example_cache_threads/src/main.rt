@@ -77,7 +77,13 @@ fn tend<N: Name + LogName, R: Wait>(
 )
     requires { 0 < me.parts }
 {
-    cache.tend_until(rt, &mut me, clock, done);
+    cache.tend_until(rt, &mut me, || {
+        if done.load(Ordering::SeqCst) {
+            None
+        } else {
+            Some(clock.load(Ordering::SeqCst))
+        }
+    });
 }
 
 // Each reader in a thread of its own, and two more for the one that puts and the one that tends, until all readers are done.

@@ -448,3 +448,168 @@ const S3_FIFO_HITS: [(u32, u64); 6] = [
 fn s3_fifo_comes_to_what_another_program_tells(rt: HostRuntime) -> Result<(), Fail> {
     expect_at(&rt, rt.alloc(), Policy::S3Fifo, &S3_FIFO_HITS)
 }
+
+// What is done with a key, and whether it was in the cache.
+#[derive(Clone, Copy)]
+enum Step {
+    Access(u32, bool),
+    Remove(u32, bool),
+}
+
+// These steps come to this, in a cache of so many items.
+fn expect_steps(
+    rt: &impl Abort,
+    alloc: Global,
+    policy: Policy,
+    items: u32,
+    steps: &[Step],
+) -> Result<(), Fail> {
+    let mut run = Replay::new(alloc, policy, items)?;
+    for step in steps {
+        match *step {
+            Step::Access(key, wanted) => assert!(rt; access(&mut run, key)? == wanted, "key {key}"),
+            Step::Remove(key, wanted) => assert!(rt; run.remove(key) == wanted, "key {key}"),
+        }
+    }
+    Ok(())
+}
+
+// 2 leaves no place behind that it would have to fill again: 1 is still there.
+const REMOVED_AND_PUT_AGAIN: [Step; 7] = [
+    Step::Access(1, false),
+    Step::Access(2, false),
+    Step::Remove(2, true),
+    Step::Access(2, false),
+    Step::Access(1, true),
+    Step::Remove(3, false),
+    Step::Access(2, true),
+];
+
+#[test]
+fn each_policy_frees_a_removed_place(rt: HostRuntime) -> Result<(), Fail> {
+    for policy in [
+        Policy::Lru,
+        Policy::Fifo,
+        Policy::Clock,
+        Policy::Sieve,
+        Policy::S3Fifo,
+    ] {
+        expect_steps(&rt, rt.alloc(), policy, 2, &REMOVED_AND_PUT_AGAIN)?;
+    }
+    Ok(())
+}
+
+const CLOCK_REMOVES: [Step; 10] = [
+    Step::Access(1, false),
+    Step::Access(2, false),
+    Step::Access(3, false),
+    Step::Access(1, true),
+    // The hand stood at 1, and stands at 2, which goes for 5.
+    Step::Remove(1, true),
+    Step::Access(4, false),
+    Step::Access(5, false),
+    Step::Access(3, true),
+    Step::Access(4, true),
+    Step::Access(2, false),
+];
+
+#[test]
+fn clock_goes_on_from_a_removed_key(rt: HostRuntime) -> Result<(), Fail> {
+    expect_steps(&rt, rt.alloc(), Policy::Clock, 3, &CLOCK_REMOVES)
+}
+
+const SIEVE_REMOVES: [Step; 11] = [
+    Step::Access(1, false),
+    Step::Access(2, false),
+    Step::Access(3, false),
+    Step::Access(1, true),
+    // The hand passes 1 and evicts 2. It stands at 3, and then at 4, which goes for 6.
+    Step::Access(4, false),
+    Step::Remove(3, true),
+    Step::Access(5, false),
+    Step::Access(6, false),
+    Step::Access(1, true),
+    Step::Access(5, true),
+    Step::Access(4, false),
+];
+
+#[test]
+fn sieve_goes_on_from_a_removed_key(rt: HostRuntime) -> Result<(), Fail> {
+    expect_steps(&rt, rt.alloc(), Policy::Sieve, 3, &SIEVE_REMOVES)
+}
+
+const S3_FIFO_REMOVES: [Step; 14] = [
+    Step::Access(1, false),
+    Step::Access(2, false),
+    Step::Access(3, false),
+    // 3 is no ghost for it: it comes into the small queue again, and 1 goes for 4, and is a ghost.
+    Step::Remove(3, true),
+    Step::Access(3, false),
+    Step::Access(4, false),
+    // It stays a ghost, and comes into the main queue; 2 goes for it, and then 3.
+    Step::Remove(1, false),
+    Step::Access(1, false),
+    Step::Access(2, false),
+    Step::Access(3, false),
+    Step::Access(5, false),
+    Step::Access(2, true),
+    Step::Access(3, true),
+    Step::Access(4, false),
+];
+
+#[test]
+fn s3_fifo_remembers_no_removed_key(rt: HostRuntime) -> Result<(), Fail> {
+    expect_steps(&rt, rt.alloc(), Policy::S3Fifo, 3, &S3_FIFO_REMOVES)
+}
+
+// How many accesses of the same log hit, where in place of each fifth one its key is removed.
+fn hits_with_removals(alloc: Global, policy: Policy, items: u32, log: &[u32]) -> Result<u64, Fail> {
+    let mut run = Replay::new(alloc, policy, items)?;
+    for (place, key) in log.iter().enumerate() {
+        if place % 5 == 4 {
+            run.remove(*key);
+        } else {
+            access(&mut run, *key)?;
+        }
+    }
+    Ok(told(&run).hits)
+}
+
+// They come to so many: what checks/lib/policies.py comes to.
+fn expect_removals(
+    rt: &impl Abort,
+    alloc: Global,
+    policy: Policy,
+    wanted: &[(u32, u64)],
+) -> Result<(), Fail> {
+    let log = skewed(alloc, 3_000, 40)?;
+    for (items, hits) in wanted {
+        assert_eq!(rt; hits_with_removals(alloc, policy, *items, &log)?, *hits);
+    }
+    Ok(())
+}
+
+const REMOVALS: [(Policy, [(u32, u64); 4]); 5] = [
+    (Policy::Lru, [(2, 146), (7, 543), (20, 1_413), (30, 1_827)]),
+    (Policy::Fifo, [(2, 148), (7, 528), (20, 1_371), (30, 1_814)]),
+    (
+        Policy::Clock,
+        [(2, 148), (7, 558), (20, 1_434), (30, 1_833)],
+    ),
+    (
+        Policy::Sieve,
+        [(2, 148), (7, 548), (20, 1_425), (30, 1_810)],
+    ),
+    (
+        Policy::S3Fifo,
+        [(2, 162), (7, 557), (20, 1_394), (30, 1_780)],
+    ),
+];
+
+#[test]
+fn removals_come_to_what_another_program_tells(rt: HostRuntime) -> Result<(), Fail> {
+    for (policy, wanted) in REMOVALS {
+        expect_removals(&rt, rt.alloc(), policy, &wanted)?;
+    }
+    Ok(())
+}

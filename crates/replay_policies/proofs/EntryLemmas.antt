@@ -1,14 +1,12 @@
 -- Queues of entries, and the lists of their keys.
-use Rattle.std.proofs.Common.{◌≡◌, ◌≢◌, ℕ, suc, ◌+◌, ◌<◌, ◌≤◌, true, false, List, [], ◌∷◌, ◌++◌, length, reverse, min, ltb, nat_eq, refl, sym, ap, ap₂, subst, ◌∙◌, arith, inl, inr, Option, Some, unwrap_or}
+use Rattle.std.proofs.Common.{if◌then◌else◌, ◌≡◌, ◌≢◌, ℕ, suc, ◌+◌, ◌<◌, ◌≤◌, true, false, List, [], ◌∷◌, ◌++◌, length, reverse, ltb, nat_eq, refl, sym, ap, ◌∙◌, arith, inl, inr}
 use Rattle.std.specs.List.{IsDistinct, AllByRecursion}
 use Rattle.std.proofs.lemmas.Bool.{eq-eqb, ne_eqb, lt-ltb, le-ltb, ltb-true, ltb-false}
 use Rattle.std.proofs.lemmas.Bool.Decides.{eqb_tells}
 use Rattle.std.proofs.lemmas.List.{reverse-append}
-use Rattle.replay_policies.specs.declared.queues.Entry.{Entry}
-use Rattle.replay_policies.specs.Entries.{keys_in, once_more, asked, times}
+use Rattle.replay_policies.specs.declared.entries.Entry.{Entry}
+use Rattle.replay_policies.specs.Entries.{keys_in, once_more, asked, entries_without, times}
 use Rattle.replay_policies.specs.Plain.{is_hit}
-use Rattle.replay_policies.specs.Queues.{entries_from}
-use Rattle.replay_policies.specs.Tables.{number_of}
 
 -- a key is hit where it stands in the list
 pub is_hit-times : (key : ℕ) (keys : List ℕ) → is_hit key keys ≡ ltb 0 (times key keys)
@@ -120,48 +118,42 @@ asked-miss most key (e ∷ queue) none =
       | inr f ↦ rw f.0 (ap (λ es. e ∷ es) (asked-miss most key queue (rw f.0 at none)))
     ]
 
--- the keys of a queue that is made from a table are those that it was made of
-pub keys_in-entries_from : (table : List (List (Option ℕ))) (keys : List ℕ) → keys_in (entries_from table keys) ≡ keys
-keys_in-entries_from table [] = refl
-keys_in-entries_from table (x ∷ keys) = ap (λ ks. x ∷ ks) (keys_in-entries_from table keys)
+-- to ask for a key in two queues, one behind the other, is to ask in both
+pub asked-append : (most key : ℕ) (xs ys : List Entry) → asked most key (xs ++ ys) ≡ asked most key xs ++ asked most key ys
+asked-append most key [] ys = refl
+asked-append most key (e ∷ xs) ys =
+    ap (λ (es : List Entry). (if nat_eq key e.key then once_more most e else e) ∷ es) (asked-append most key xs ys)
 
--- as many
-pub length-entries_from : (table : List (List (Option ℕ))) (keys : List ℕ) → length (entries_from table keys) ≡ length keys
-length-entries_from table [] = refl
-length-entries_from table (x ∷ keys) = ap suc (length-entries_from table keys)
+-- where a key isn't in the queue, the queue without it is as it was
+pub entries_without-miss : (key : ℕ) (queue : List Entry) → times key (keys_in queue) ≡ 0 → entries_without key queue ≡ queue
+entries_without-miss key [] none = refl
+entries_without-miss key (e ∷ queue) none =
+    elim (eqb_tells key e.key) [
+      | inl t ↦ absurd (let n : suc (times key (keys_in queue)) ≡ 0 = (rw t.0 at none) in omega (arith, n))
+      | inr f ↦ rw f.0 (ap (λ (es : List Entry). e ∷ es) (entries_without-miss key queue (rw f.0 at none)))
+    ]
 
--- a key with this number of uses, or none
-abbrev pub entry_with : ℕ → Option ℕ → Entry
-entry_with key number = record { key = key; uses = unwrap_or number 0 }
-
--- tables that have the same numbers of these keys make the same queue of them
-pub entries_from-same : (old new : List (List (Option ℕ))) (keys : List ℕ)
-    → ((k : ℕ) → 0 < times k keys → number_of new k ≡ number_of old k) → entries_from new keys ≡ entries_from old keys
-entries_from-same old new [] same = refl
-entries_from-same old new (x ∷ keys) same =
-    let here = times-first x keys in
-    let this : number_of new x ≡ number_of old x = same x (omega (arith, here)) in
-    ap₂ (λ (e : Entry) (es : List Entry). e ∷ es) (ap (entry_with x) this)
-    (entries_from-same old new keys (λ k among. same k (let le = times-rest-le k x keys in omega (arith, le, among))))
-
--- one use more of an entry is one use more of its number
-once_more-entry_with : (most key uses : ℕ) (old new : Option ℕ) → old ≡ Some uses → new ≡ Some (min most (uses + 1))
-    → entry_with key new ≡ once_more most (entry_with key old)
-once_more-entry_with most key uses old new o n = rw (o, n) refl
-
--- tables that differ in one use more of a key make queues that differ in that
-pub entries_from-asked : (most key uses : ℕ) (old new : List (List (Option ℕ))) (keys : List ℕ)
-    → number_of old key ≡ Some uses → number_of new key ≡ Some (min most (uses + 1))
-    → ((k : ℕ) → k ≢ key → number_of new k ≡ number_of old k)
-    → entries_from new keys ≡ asked most key (entries_from old keys)
-entries_from-asked most key uses old new [] o n others = refl
-entries_from-asked most key uses old new (x ∷ keys) o n others =
-    let rest = entries_from-asked most key uses old new keys o n others in
-    elim (eqb_tells key x) [
-      | inl t ↦
-          let o' : number_of old x ≡ Some uses = subst (λ k. number_of old k ≡ Some uses) t.1 o in
-          let n' : number_of new x ≡ Some (min most (uses + 1)) = subst (λ k. number_of new k ≡ Some (min most (uses + 1))) t.1 n in
-          rw t.0 (ap₂ (λ (e : Entry) (es : List Entry). e ∷ es) (once_more-entry_with most x uses (number_of old x) (number_of new x) o' n') rest)
+-- no key stands in the queue without one of them more often than before
+pub times-entries_without : (k key : ℕ) (queue : List Entry) → times k (keys_in (entries_without key queue)) ≤ times k (keys_in queue)
+times-entries_without k key [] = omega arith
+times-entries_without k key (e ∷ queue) =
+    let rest = times-entries_without k key queue in
+    let more = times-rest-le k e.key (keys_in queue) in
+    elim (eqb_tells key e.key) [
+      | inl t ↦ rw t.0 (omega (arith, rest, more))
       | inr f ↦
-          rw f.0 (ap₂ (λ (e : Entry) (es : List Entry). e ∷ es) (ap (entry_with x) (others x (λ e. f.1 (sym e)))) rest)
+          elim (eqb_tells k e.key) [
+            | inl t ↦ rw (f.0, t.0) (omega (arith, rest))
+            | inr g ↦ rw (f.0, g.0) rest
+          ]
+    ]
+
+-- nor has it more keys
+pub length-entries_without : (key : ℕ) (queue : List Entry) → length (entries_without key queue) ≤ length queue
+length-entries_without key [] = omega arith
+length-entries_without key (e ∷ queue) =
+    let rest = length-entries_without key queue in
+    elim (eqb_tells key e.key) [
+      | inl t ↦ rw t.0 (omega (arith, rest))
+      | inr f ↦ rw f.0 (omega (arith, rest))
     ]

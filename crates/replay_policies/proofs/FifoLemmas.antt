@@ -2,7 +2,7 @@
 use Rattle.std.proofs.Common.{◌≡◌, ℕ, suc, ◌<◌, ◌≤◌, true, false, if◌then◌else◌, nat_lt, List, [], ◌∷◌, ◌++◌, length, reverse, take, drop, ltb, refl, sym, ap, subst, ◌∙◌, arith, inl, inr}
 use Rattle.std.proofs.lemmas.Bool.{cases_lt, lt-ltb, le-ltb}
 use Rattle.std.proofs.lemmas.List.{map-append, reverse-append, length-map, length-reverse, length-drop, take_all, take_at}
-use Rattle.replay_policies.specs.declared.queues.Entry.{Entry}
+use Rattle.replay_policies.specs.declared.entries.Entry.{Entry}
 use Rattle.replay_policies.specs.Entries.{keys_in, new_entry, times}
 use Rattle.replay_policies.specs.Plain.{is_hit, after_access_fifo}
 use Rattle.replay_policies.proofs.ClockLemmas.{is_hit-alone}

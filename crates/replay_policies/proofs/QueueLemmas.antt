@@ -1,298 +1,140 @@
--- Two queues and the table of their keys' uses.
-use Rattle.std.proofs.Common.{◌≡◌, ◌≢◌, ℕ, ◌+◌, ◌<◌, ◌≤◌, ◌%◌, ◌/◌, Bool, true, false, cond, ◌||◌, List, [], ◌∷◌, ◌++◌, length, min, nat_eq, refl, sym, ap, ap₂, subst, ◌∙◌, arith, inl, inr, Option, Some, None, is_some, IfSome, option_to_list}
-use Rattle.std.proofs.lemmas.Bool.{eq-eqb, ne_eqb, cases_lt, cases_Bool, false≢true}
+-- Two queues of keys, in neither of which a key of the other stands.
+use Rattle.std.proofs.Common.{◌≡◌, ℕ, suc, ◌+◌, ◌<◌, ◌≤◌, false, not, List, [], ◌∷◌, ◌++◌, reverse, nat_eq, refl, sym, ap, subst, ◌∙◌, arith, inl, inr, Option, Some, None, IfSome, option_to_list}
+use Rattle.std.specs.List.{filter}
 use Rattle.std.proofs.lemmas.Bool.Decides.{eqb_tells}
-use Rattle.std.proofs.lemmas.List.{get_or_past, map-append}
-use Rattle.replay_policies.specs.declared.queues.Entry.{Entry}
-use Rattle.replay_policies.specs.Entries.{keys_in, asked, times}
-use Rattle.replay_policies.specs.Plain.{is_hit}
-use Rattle.replay_policies.specs.Queues.{IsQueues, entry_from, entries_from}
-use Rattle.replay_policies.specs.Tables.{page_at, number_of, HasPlace}
-use Rattle.replay_policies.proofs.EntryLemmas.{hit_from_times, miss_from_times, times_from_miss, times-append, times-first, times-rest, keys_in-entries_from, asked-miss, entries_from-same, entries_from-asked, entry_with}
+use Rattle.std.proofs.lemmas.List.{append-nil, map-append, reverse-append}
+use Rattle.std.proofs.lemmas.List.Elements.{filter-append}
+use Rattle.replay_policies.specs.declared.entries.Entry.{Entry}
+use Rattle.replay_policies.specs.Entries.{entries_without, keys_in, times}
+use Rattle.replay_policies.specs.Plain.{is_hit, keys_without}
+use Rattle.replay_policies.proofs.EntryLemmas.{miss_from_times, times_from_miss, times-append, times-first, times-rest, times-reverse}
 
-abbrev pub Table : Type 0
-Table = List (List (Option ℕ))
+-- no key stands in both together twice, where none stands in one of them twice or in both
+pub once-both : (first second : List Entry) → ((k : ℕ) → times k (keys_in first) + times k (keys_in second) ≤ 1)
+    → (k : ℕ) → times k (keys_in first ++ keys_in second) ≤ 1
+once-both first second once k =
+    let o = once k in
+    let both = times-append k (keys_in first) (keys_in second) in
+    omega (arith, o, both)
 
--- a key that has a number has a place
-pub HasPlace-from_number : (table : Table) (key : ℕ) → is_some (number_of table key) ≡ true → HasPlace table key
-HasPlace-from_number table key some =
-    let page = page_at table (key / 65536) in
-    elim (cases_lt (key % 65536) (length page)) [
-      | inl lt ↦ lt
-      | inr ge ↦
-          let none : number_of table key ≡ None = get_or_past page (key % 65536) None ge in
-          absurd (false≢true (sym (ap is_some none) ∙ some))
-    ]
+-- a key that was taken out of the first queue is in neither any more
+pub gone-first : (taken : Option Entry) (old new second : List Entry) → old ≡ option_to_list taken ++ new
+    → ((k : ℕ) → times k (keys_in old) + times k (keys_in second) ≤ 1)
+    → IfSome taken (λ e. is_hit e.key (keys_in new ++ keys_in second) ≡ false)
+gone-first None old new second is once = tt
+gone-first (Some e) old new second is once =
+    let o = once e.key in
+    let front = ap (λ (es : List Entry). times e.key (keys_in es)) is in
+    let first = times-first e.key (keys_in new) in
+    let both = times-append e.key (keys_in new) (keys_in second) in
+    miss_from_times e.key (keys_in new ++ keys_in second) (omega (arith, o, front, first, both))
 
--- what a test of a number comes to
-abbrev pub one_if : Bool → ℕ
-one_if b = cond b 1 0
+-- nor is one that was taken out of the second
+pub gone-second : (taken : Option Entry) (first old new : List Entry) → old ≡ option_to_list taken ++ new
+    → ((k : ℕ) → times k (keys_in first) + times k (keys_in old) ≤ 1)
+    → IfSome taken (λ e. is_hit e.key (keys_in first ++ keys_in new) ≡ false)
+gone-second None first old new is once = tt
+gone-second (Some e) first old new is once =
+    let o = once e.key in
+    let front = ap (λ (es : List Entry). times e.key (keys_in es)) is in
+    let head = times-first e.key (keys_in new) in
+    let both = times-append e.key (keys_in first) (keys_in new) in
+    miss_from_times e.key (keys_in first ++ keys_in new) (omega (arith, o, front, head, both))
 
-one_if-le : (b : Bool) → one_if b ≤ 1
-one_if-le true = omega arith
-one_if-le false = omega arith
+-- a key that was put in stands there once more, and each other key as often
+times-pushed : (k : ℕ) (queue : List Entry) (e : Entry)
+    → times k (keys_in (queue ++ e ∷ [])) ≡ times k (keys_in queue) + times k (e.key ∷ [])
+times-pushed k queue e =
+    ap (times k) (map-append (λ (a : Entry). a.key) queue (e ∷ [])) ∙ times-append k (keys_in queue) (e.key ∷ [])
 
-one_if-true : (b : Bool) → 0 < one_if b → b ≡ true
-one_if-true true h = refl
-one_if-true false h = absurd (omega arith)
-
-one_if-false : (b : Bool) → one_if b ≡ 0 → b ≡ false
-one_if-false true h = absurd (omega arith)
-one_if-false false h = refl
-
--- the queues may change places
-pub IsQueues-swap : (first second : List ℕ) (table : Table) → IsQueues first second table → IsQueues second first table
-IsQueues-swap first second table q = record { once = λ k. let o = q.once k in omega (arith, o) }
-
--- a key is in one of them exactly where it has a number
-pub hit-number : (first second : List ℕ) (table : Table) → IsQueues first second table
-    → (key : ℕ) → is_some (number_of table key) ≡ is_hit key (first ++ second)
-hit-number first second table q key =
-    let o = q.once key in
-    let both = times-append key first second in
-    elim (cases_Bool (is_some (number_of table key))) [
-      | inl t ↦
-          let o1 : times key first + times key second ≡ 1 = (rw t at o) in
-          t ∙ sym (hit_from_times key (first ++ second) (omega (arith, o1, both)))
-      | inr f ↦
-          let o0 : times key first + times key second ≡ 0 = (rw f at o) in
-          f ∙ sym (miss_from_times key (first ++ second) (omega (arith, o0, both)))
-    ]
-
--- a key of the first queue has a number
-pub number-first : (first second : List ℕ) (table : Table) → IsQueues first second table
-    → (key : ℕ) → 0 < times key first → is_some (number_of table key) ≡ true
-number-first first second table q key some =
-    let o = q.once key in one_if-true (is_some (number_of table key)) (omega (arith, o, some))
-
--- no key stands in both together more than once
-pub once-all : (first second : List ℕ) (table : Table) → IsQueues first second table → (key : ℕ) → times key (first ++ second) ≤ 1
-once-all first second table q key =
-    let o = q.once key in
-    let both = times-append key first second in
-    let le = one_if-le (is_some (number_of table key)) in
-    omega (arith, o, both, le)
-
--- the keys of the queues that a table makes of two lists
-pub keys-of-entries : (first second : List ℕ) (table : Table)
-    → keys_in (entries_from table first) ++ keys_in (entries_from table second) ≡ first ++ second
-keys-of-entries first second table =
-    ap₂ (λ (a b : List ℕ). a ++ b) (keys_in-entries_from table first) (keys_in-entries_from table second)
-
-pub hit-view : (first second : List ℕ) (table : Table) → IsQueues first second table → (key : ℕ)
-    → is_some (number_of table key) ≡ is_hit key (keys_in (entries_from table first) ++ keys_in (entries_from table second))
-hit-view first second table q key =
-    hit-number first second table q key ∙ ap (is_hit key) (sym (keys-of-entries first second table))
-
-pub once-view : (first second : List ℕ) (table : Table) → IsQueues first second table → (key : ℕ)
-    → times key (keys_in (entries_from table first) ++ keys_in (entries_from table second)) ≤ 1
-once-view first second table q key =
-    subst (λ ks. times key ks ≤ 1) (sym (keys-of-entries first second table)) (once-all first second table q key)
-
-pub once-first : (first second : List ℕ) (table : Table) → IsQueues first second table → (key : ℕ)
-    → times key (keys_in (entries_from table first)) ≤ 1
-once-first first second table q key =
-    let all = once-all first second table q key in
-    let both = times-append key first second in
-    subst (λ ks. times key ks ≤ 1) (sym (keys_in-entries_from table first)) (omega (arith, all, both))
-
-pub absent-view : (first second : List ℕ) (table : Table) (key : ℕ)
-    → is_hit key (keys_in (entries_from table first) ++ keys_in (entries_from table second)) ≡ false
-    → times key (first ++ second) ≡ 0
-absent-view first second table key h =
-    times_from_miss key (first ++ second) (ap (is_hit key) (sym (keys-of-entries first second table)) ∙ h)
-
-pub absent-turned : (first second : List ℕ) (key : ℕ) → times key (first ++ second) ≡ 0 → times key (second ++ first) ≡ 0
-absent-turned first second key h =
-    let one = times-append key first second in
-    let other = times-append key second first in
-    omega (arith, h, one, other)
-
--- a key without a number isn't in the first queue, and to ask for it changes nothing there
-pub asked-none : (most key : ℕ) (first second : List ℕ) (table : Table) → IsQueues first second table
-    → number_of table key ≡ None → asked most key (entries_from table first) ≡ entries_from table first
-asked-none most key first second table q none =
-    let o = q.once key in
-    let zero_is : one_if (is_some (number_of table key)) ≡ 0 = ap (λ (n : Option ℕ). one_if (is_some n)) none in
-    asked-miss most key (entries_from table first)
-    (subst (λ ks. times key ks ≡ 0) (sym (keys_in-entries_from table first)) (omega (arith, o, zero_is)))
-
--- a table that has the numbers of another keeps the same queues
-pub IsQueues-same : (first second : List ℕ) (old new : Table) → ((k : ℕ) → number_of new k ≡ number_of old k)
-    → IsQueues first second old → IsQueues first second new
-IsQueues-same first second old new same q =
-    record { once = λ k. q.once k ∙ sym (ap (λ (n : Option ℕ). one_if (is_some n)) (same k)) }
-
--- so does one that has a number for the same keys
-pub IsQueues-noted : (first second : List ℕ) (old new : Table)
-    → ((k : ℕ) → is_some (number_of new k) ≡ is_some (number_of old k)) → IsQueues first second old → IsQueues first second new
-IsQueues-noted first second old new same q = record { once = λ k. q.once k ∙ sym (ap one_if (same k)) }
-
--- The first key of the first queue is taken out, and its number with it.
-module _ (old new : Table) (key : ℕ) (first second : List ℕ) (q : IsQueues (key ∷ first) second old)
-    (numbers : (k : ℕ) → number_of new k ≡ cond (nat_eq k key || false) None (number_of old k)) where
-  taken : number_of new key ≡ None
-  taken = numbers key ∙ rw (eq-eqb key key refl) refl
-
-  kept : (k : ℕ) → k ≢ key → number_of new k ≡ number_of old k
-  kept k other = numbers k ∙ rw (ne_eqb k key other) refl
-
-  -- it is in neither queue any more
-  pub gone-first : times key first ≡ 0
-  gone-first =
-      let o = q.once key in
-      let here = times-first key first in
-      let le = one_if-le (is_some (number_of old key)) in
-      omega (arith, o, here, le)
-
-  pub gone-second : times key second ≡ 0
-  gone-second =
-      let o = q.once key in
-      let here = times-first key first in
-      let le = one_if-le (is_some (number_of old key)) in
-      omega (arith, o, here, le)
-
-  -- the others are where they were
-  pub IsQueues-less : IsQueues first second new
-  IsQueues-less = record {
-    once = λ k. elim (eqb_tells k key) [
-      | inl t ↦
-          let a : times k first ≡ 0 = subst (λ n. times n first ≡ 0) (sym t.1) gone-first in
-          let b : times k second ≡ 0 = subst (λ n. times n second ≡ 0) (sym t.1) gone-second in
-          let n : number_of new k ≡ None = subst (λ n. number_of new n ≡ None) (sym t.1) taken in
-          let zero_is : one_if (is_some (number_of new k)) ≡ 0 = ap (λ (m : Option ℕ). one_if (is_some m)) n in
-          omega (arith, a, b, zero_is)
-      | inr f ↦
-          let o = q.once k in
-          let rest = times-rest k key first f.1 in
-          let same = ap (λ (m : Option ℕ). one_if (is_some m)) (kept k f.1) in
-          omega (arith, o, rest, same)
-    ];
-  }
-
-  -- and they have the uses that they had
-  pub first-less : entries_from new first ≡ entries_from old first
-  first-less = entries_from-same old new first (λ k among. kept k (λ e.
-      let none : times k first ≡ 0 = subst (λ n. times n first ≡ 0) (sym e) gone-first in absurd (omega (arith, none, among))))
-
-  pub second-less : entries_from new second ≡ entries_from old second
-  second-less = entries_from-same old new second (λ k among. kept k (λ e.
-      let none : times k second ≡ 0 = subst (λ n. times n second ≡ 0) (sym e) gone-second in absurd (omega (arith, none, among))))
-
--- A key that was in neither queue is put behind the first one, with so many uses.
-module _ (old new : Table) (key uses : ℕ) (first second : List ℕ) (q : IsQueues first second old)
-    (absent : times key (first ++ second) ≡ 0)
-    (numbers : (k : ℕ) → number_of new k ≡ cond (nat_eq k key) (Some uses) (number_of old k)) where
-  given : number_of new key ≡ Some uses
-  given = numbers key ∙ rw (eq-eqb key key refl) refl
-
-  stays : (k : ℕ) → k ≢ key → number_of new k ≡ number_of old k
-  stays k other = numbers k ∙ rw (ne_eqb k key other) refl
-
-  not-first : times key first ≡ 0
-  not-first = let both = times-append key first second in omega (arith, both, absent)
-
-  not-second : times key second ≡ 0
-  not-second = let both = times-append key first second in omega (arith, both, absent)
-
-  pub IsQueues-more : IsQueues (first ++ key ∷ []) second new
-  IsQueues-more = record {
-    once = λ k. elim (eqb_tells k key) [
-      | inl t ↦
-          let a : times k first ≡ 0 = subst (λ n. times n first ≡ 0) (sym t.1) not-first in
-          let b : times k second ≡ 0 = subst (λ n. times n second ≡ 0) (sym t.1) not-second in
-          let n : number_of new k ≡ Some uses = subst (λ n. number_of new n ≡ Some uses) (sym t.1) given in
-          let one_is : one_if (is_some (number_of new k)) ≡ 1 = ap (λ (m : Option ℕ). one_if (is_some m)) n in
-          let more = times-append k first (key ∷ []) in
-          let here : times k (key ∷ []) ≡ 1 = (rw t.0 refl) in
-          omega (arith, a, b, one_is, more, here)
-      | inr f ↦
-          let o = q.once k in
-          let more = times-append k first (key ∷ []) in
-          let rest = times-rest k key [] f.1 in
-          let same = ap (λ (m : Option ℕ). one_if (is_some m)) (stays k f.1) in
-          omega (arith, o, more, rest, same)
-    ];
-  }
-
-  pub first-more : entries_from new (first ++ key ∷ []) ≡ entries_from old first ++ record { key = key; uses = uses } ∷ []
-  first-more =
-      map-append (entry_from new) first (key ∷ [])
-      ∙ ap₂ (λ (a : List Entry) (n : Option ℕ). a ++ entry_with key n ∷ [])
-      (entries_from-same old new first (λ k among. stays k (λ e.
-      let none : times k first ≡ 0 = subst (λ n. times n first ≡ 0) (sym e) not-first in absurd (omega (arith, none, among)))))
-      given
-
-  pub second-more : entries_from new second ≡ entries_from old second
-  second-more = entries_from-same old new second (λ k among. stays k (λ e.
-      let none : times k second ≡ 0 = subst (λ n. times n second ≡ 0) (sym e) not-second in absurd (omega (arith, none, among))))
-
--- A key that is in one of them has one use more.
-module _ (most key uses : ℕ) (old new : Table) (o : number_of old key ≡ Some uses)
-    (numbers : (k : ℕ) → number_of new k ≡ cond (nat_eq k key) (Some (min most (uses + 1))) (number_of old k)) where
-  more_is : number_of new key ≡ Some (min most (uses + 1))
-  more_is = numbers key ∙ rw (eq-eqb key key refl) refl
-
-  unasked : (k : ℕ) → k ≢ key → number_of new k ≡ number_of old k
-  unasked k other = numbers k ∙ rw (ne_eqb k key other) refl
-
-  -- the same keys have a number
-  pub noted-asked : (k : ℕ) → is_some (number_of new k) ≡ is_some (number_of old k)
-  noted-asked k =
-      elim (eqb_tells k key) [
+module _ (e : Entry) (queue other : List Entry) (absent : times e.key (keys_in queue) + times e.key (keys_in other) ≡ 0) where
+  -- so none stands in both twice, where the key was in neither
+  pub once-pushed : ((k : ℕ) → times k (keys_in queue) + times k (keys_in other) ≤ 1)
+      → (k : ℕ) → times k (keys_in (queue ++ e ∷ [])) + times k (keys_in other) ≤ 1
+  once-pushed once k =
+      let pushed = times-pushed k queue e in
+      elim (eqb_tells k e.key) [
         | inl t ↦
-            let n : number_of new k ≡ Some (min most (uses + 1)) = subst (λ m. number_of new m ≡ Some (min most (uses + 1))) (sym t.1) more_is in
-            let p : number_of old k ≡ Some uses = subst (λ m. number_of old m ≡ Some uses) (sym t.1) o in
-            ap is_some n ∙ sym (ap is_some p)
-        | inr f ↦ ap is_some (unasked k f.1)
+            let none : times k (keys_in queue) + times k (keys_in other) ≡ 0 =
+            subst (λ n. times n (keys_in queue) + times n (keys_in other) ≡ 0) (sym t.1) absent in
+            let one : times k (e.key ∷ []) ≡ 1 = rw t.0 refl in
+            omega (arith, pushed, none, one)
+        | inr f ↦
+            let zero_is = times-rest k e.key [] f.1 in
+            let o = once k in
+            omega (arith, pushed, zero_is, o)
       ]
 
-  -- and each queue is the one in which the key was asked for
-  pub entries-asked : (keys : List ℕ) → entries_from new keys ≡ asked most key (entries_from old keys)
-  entries-asked keys = entries_from-asked most key uses old new keys o more_is unasked
+  -- and each that stands in one of them has what the others had, if the new one has
+  pub placed-pushed : (P : ℕ → Type 0) → P e.key → ((k : ℕ) → 0 < times k (keys_in queue) + times k (keys_in other) → P k)
+      → (k : ℕ) → 0 < times k (keys_in (queue ++ e ∷ [])) + times k (keys_in other) → P k
+  placed-pushed P here had k among =
+      let pushed = times-pushed k queue e in
+      elim (eqb_tells k e.key) [
+        | inl t ↦ subst P (sym t.1) here
+        | inr f ↦ let zero_is = times-rest k e.key [] f.1 in had k (omega (arith, pushed, zero_is, among))
+      ]
 
--- What a pop does to the queues that the table makes: what it took stood first, the rest is as it was, and what it took is in
--- neither any more.
-pub record Pops (old new : Table) (taken : Option Entry) (all first second : List ℕ) : Type 0 where
-  pub front : entries_from old all ≡ option_to_list taken ++ entries_from new first
-  pub others : entries_from new second ≡ entries_from old second
-  pub gone : IfSome taken (λ e. is_hit e.key (keys_in (entries_from new first) ++ keys_in (entries_from new second)) ≡ false)
+-- a miss in both stands in neither
+pub absent-both : (key : ℕ) (first second : List Entry) → is_hit key (keys_in first ++ keys_in second) ≡ false
+    → times key (keys_in first) + times key (keys_in second) ≡ 0
+absent-both key first second miss =
+    let none = times_from_miss key (keys_in first ++ keys_in second) miss in
+    let both = times-append key (keys_in first) (keys_in second) in
+    omega (arith, none, both)
 
-pops : (old new : Table) (taken : Option Entry) (first second : List ℕ)
-    → IsQueues (keys_in (option_to_list taken) ++ first) second old
-    → IfSome taken (λ e. e ≡ entry_from old e.key)
-    → ((k : ℕ) → number_of new k ≡ cond (is_hit k (keys_in (option_to_list taken))) None (number_of old k))
-    → Pops old new taken (keys_in (option_to_list taken) ++ first) first second
-pops old new None first second q uses numbers = record {
-  front = sym (entries_from-same old new first (λ k among. numbers k));
-  others = entries_from-same old new second (λ k among. numbers k);
-  gone = tt;
-}
-pops old new (Some e) first second q uses numbers =
-    let none-first = gone-first old new e.key first second q numbers in
-    let none-second = gone-second old new e.key first second q numbers in
-    let both = times-append e.key first second in
-    record {
-      front = ap₂ (λ (a : Entry) (b : List Entry). a ∷ b) (sym uses) (sym (first-less old new e.key first second q numbers));
-      others = second-less old new e.key first second q numbers;
-      gone = ap (is_hit e.key) (keys-of-entries first second new)
-          ∙ miss_from_times e.key (first ++ second) (omega (arith, none-first, none-second, both));
-    }
+-- the keys that differ from one of them
+abbrev pub other_keys : ℕ → List ℕ → List ℕ
+other_keys key keys = filter (λ k. not (nat_eq key k)) keys
 
-pub pops-from : (old new : Table) (taken : Option Entry) (all first second : List ℕ) → IsQueues all second old
-    → all ≡ keys_in (option_to_list taken) ++ first
-    → IfSome taken (λ e. e ≡ entry_from old e.key)
-    → ((k : ℕ) → number_of new k ≡ cond (is_hit k (keys_in (option_to_list taken))) None (number_of old k))
-    → Pops old new taken all first second
-pops-from old new taken all first second q is uses numbers =
-    subst (λ xs. Pops old new taken xs first second) (sym is)
-    (pops old new taken first second (subst (λ xs. IsQueues xs second old) is q) uses numbers)
+-- they are all, where it isn't among them
+other_keys-miss : (key : ℕ) (keys : List ℕ) → times key keys ≡ 0 → other_keys key keys ≡ keys
+other_keys-miss key [] none = refl
+other_keys-miss key (x ∷ keys) none =
+    elim (eqb_tells key x) [
+      | inl t ↦ absurd (let n : suc (times key keys) ≡ 0 = (rw t.0 at none) in omega (arith, n))
+      | inr f ↦ rw f.0 (ap (λ (ks : List ℕ). x ∷ ks) (other_keys-miss key keys (rw f.0 at none)))
+    ]
 
--- what is in neither queue is in neither, whichever comes first
-pub gone-turned : (table : Table) (taken : Option Entry) (first second : List ℕ)
-    → IfSome taken (λ e. is_hit e.key (keys_in (entries_from table first) ++ keys_in (entries_from table second)) ≡ false)
-    → IfSome taken (λ e. is_hit e.key (keys_in (entries_from table second) ++ keys_in (entries_from table first)) ≡ false)
-gone-turned table None first second gone = tt
-gone-turned table (Some e) first second gone =
-    ap (is_hit e.key) (keys-of-entries second first table)
-    ∙ miss_from_times e.key (second ++ first) (absent-turned first second e.key (absent-view first second table e.key gone))
+-- they are the keys without it, where it stands there once at most
+keys_without-others : (key : ℕ) (keys : List ℕ) → times key keys ≤ 1 → keys_without key keys ≡ other_keys key keys
+keys_without-others key [] once = refl
+keys_without-others key (x ∷ keys) once =
+    elim (eqb_tells key x) [
+      | inl t ↦ let o : suc (times key keys) ≤ 1 = (rw t.0 at once) in rw t.0 (sym (other_keys-miss key keys (omega (arith, o))))
+      | inr f ↦ rw f.0 (ap (λ (ks : List ℕ). x ∷ ks) (keys_without-others key keys (rw f.0 at once)))
+    ]
+
+-- from the end they are the same
+other_keys-reverse : (key : ℕ) (keys : List ℕ) → other_keys key (reverse keys) ≡ reverse (other_keys key keys)
+other_keys-reverse key [] = refl
+other_keys-reverse key (x ∷ keys) =
+    let turned : other_keys key (reverse (x ∷ keys)) ≡ other_keys key (reverse keys) ++ other_keys key (x ∷ []) =
+    ap (other_keys key) (reverse-append (x ∷ []) keys) ∙ filter-append (λ (k : ℕ). not (nat_eq key k)) (reverse keys) (x ∷ []) in
+    let rest = other_keys-reverse key keys in
+    elim (eqb_tells key x) [
+      | inl t ↦
+          let gone : other_keys key (x ∷ []) ≡ [] = rw t.0 refl in
+          rw t.0 (turned ∙ ap (λ (ks : List ℕ). other_keys key (reverse keys) ++ ks) gone ∙ append-nil (other_keys key (reverse keys)) ∙ rest)
+      | inr f ↦
+          let stays : other_keys key (x ∷ []) ≡ x ∷ [] = rw f.0 refl in
+          rw f.0 (turned ∙ ap (λ (ks : List ℕ). other_keys key (reverse keys) ++ ks) stays
+          ∙ ap (λ (ks : List ℕ). ks ++ x ∷ []) rest ∙ sym (reverse-append (x ∷ []) (other_keys key keys)))
+    ]
+
+-- a queue without a key has them
+keys_in-without : (key : ℕ) (queue : List Entry) → keys_in (entries_without key queue) ≡ other_keys key (keys_in queue)
+keys_in-without key [] = refl
+keys_in-without key (e ∷ queue) =
+    elim (eqb_tells key e.key) [
+      | inl t ↦ rw t.0 (keys_in-without key queue)
+      | inr f ↦ rw f.0 (ap (λ (ks : List ℕ). e.key ∷ ks) (keys_in-without key queue))
+    ]
+
+-- so from its end it is the list of a FIFO without the key
+pub newest_first-without : (key : ℕ) (queue : List Entry) → times key (keys_in queue) ≤ 1
+    → reverse (keys_in (entries_without key queue)) ≡ keys_without key (reverse (keys_in queue))
+newest_first-without key queue once =
+    let same = times-reverse key (keys_in queue) in
+    ap reverse (keys_in-without key queue) ∙ sym (other_keys-reverse key (keys_in queue))
+    ∙ sym (keys_without-others key (reverse (keys_in queue)) (omega (arith, same, once)))

@@ -3,7 +3,7 @@ use Rattle.std.proofs.Common.{◌≡◌, ◌≢◌, ℕ, zero, suc, ◌+◌, ◌
 use Rattle.std.proofs.lemmas.Bool.{cases_lt, eq-eqb, ne_eqb, lt-ltb, le-ltb}
 use Rattle.std.proofs.lemmas.Bool.Decides.{eqb_tells}
 use Rattle.std.proofs.lemmas.List.{length-append, map-append}
-use Rattle.replay_policies.specs.declared.queues.Entry.{Entry}
+use Rattle.replay_policies.specs.declared.entries.Entry.{Entry}
 use Rattle.replay_policies.specs.Entries.{asked, keys_in, once_less, total_uses, times}
 use Rattle.replay_policies.specs.Plain.{is_hit}
 use Rattle.replay_policies.specs.Sieve.{SieveQueue, back_to_tail, without_unvisited, after_sieving, sieve_keys, sieve_with_room, with_head, after_access_sieve}
@@ -43,6 +43,12 @@ pub times-back_to_tail : (key : ℕ) (ahead passed : List Entry)
     → times_in key (back_to_tail ahead passed) ≡ times key (keys_in ahead) + times key (keys_in passed)
 times-back_to_tail key [] passed = omega arith
 times-back_to_tail key (e ∷ ahead) passed = refl
+
+-- where none is ahead then, there is none at all
+pub turned-back_to_tail : (ahead passed : List Entry) → length (back_to_tail ahead passed).ahead ≡ 0
+    → length (back_to_tail ahead passed).passed ≡ 0
+turned-back_to_tail [] passed none = refl
+turned-back_to_tail (e ∷ ahead) passed none = absurd (omega (arith, none))
 
 -- a key at the hand that isn't visited is evicted
 without_unvisited-here : (steps : ℕ) (e : Entry) (ahead passed : List Entry) → e.uses ≡ 0

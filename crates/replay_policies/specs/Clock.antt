@@ -1,8 +1,8 @@
 -- CLOCK, or second chance: a FIFO queue whose keys have a reference bit each, the key at the hand standing first. The bit
 -- of an entry is its count of uses, which is 0 or 1.
 use Rattle.std.specs.Prelude.{ℕ, zero, suc, List, [], ◌∷◌, ◌++◌, nat_eq, nat_lt, length, if◌then◌else◌}
-use Rattle.replay_policies.specs.declared.queues.Entry.{Entry}
-use Rattle.replay_policies.specs.Entries.{asked, keys_in, new_entry, once_less, total_uses}
+use Rattle.replay_policies.specs.declared.entries.Entry.{Entry}
+use Rattle.replay_policies.specs.Entries.{asked, entries_without, keys_in, new_entry, once_less, total_uses}
 use Rattle.replay_policies.specs.Plain.{is_hit}
 
 -- the queue after the hand went on, so many keys at most: a key with uses left loses one and goes to the back, for
@@ -25,3 +25,7 @@ with_room items queue = if nat_lt (length queue) items then queue else after_evi
 abbrev pub after_access_clock : ℕ → ℕ → List Entry → List Entry
 after_access_clock items key queue =
     if is_hit key (keys_in queue) then asked 1 key queue else with_room items queue ++ new_entry key ∷ []
+
+-- a removal: the key's place is gone, and where the hand stood at it, it stands at the next key
+abbrev pub after_removal_clock : ℕ → List Entry → List Entry
+after_removal_clock key queue = entries_without key queue

@@ -1,6 +1,6 @@
 -- Queues of keys, each with how often it was asked for. The key that the hand looks at next stands first.
-use Rattle.std.specs.Prelude.{ℕ, suc, ◌+◌, ◌-◌, List, [], ◌∷◌, map, min, nat_eq, if◌then◌else◌}
-use Rattle.replay_policies.specs.declared.queues.Entry.{Entry}
+use Rattle.std.specs.Prelude.{ℕ, suc, ◌+◌, ◌-◌, List, [], ◌∷◌, map, min, filter, nat_eq, not, if◌then◌else◌}
+use Rattle.replay_policies.specs.declared.entries.Entry.{Entry}
 
 -- the keys of a queue
 abbrev pub keys_in : List Entry → List ℕ
@@ -22,6 +22,10 @@ once_less e = record { key = e.key; uses = e.uses - 1 }
 abbrev pub asked : ℕ → ℕ → List Entry → List Entry
 asked most key [] = []
 asked most key (e ∷ queue) = (if nat_eq key e.key then once_more most e else e) ∷ asked most key queue
+
+-- a queue without a key: all others keep their order and their uses
+abbrev pub entries_without : ℕ → List Entry → List Entry
+entries_without key queue = filter (λ e. not (nat_eq key e.key)) queue
 
 -- all uses of a queue together
 abbrev pub total_uses : List Entry → ℕ

@@ -2,6 +2,7 @@ pub mod Caches
 pub mod Clock
 pub mod Entries
 pub mod Ghosts
+pub mod Lines
 pub mod Plain
 pub mod Policies
 pub mod Queues

@@ -7,7 +7,7 @@ use Rattle.std.specs.List.{list_any}
 abbrev pub is_hit : ℕ → List ℕ → Bool
 is_hit key keys = list_any (nat_eq key) keys
 
--- the keys without this one, which a cache has once at most
+-- the keys without this one, which a cache has once at most: what a removal leaves of an LRU and of a FIFO
 abbrev pub keys_without : ℕ → List ℕ → List ℕ
 keys_without key [] = []
 keys_without key (first ∷ keys) = if nat_eq key first then keys else first ∷ keys_without key keys

@@ -2,12 +2,12 @@
 use Rattle.std.specs.Prelude.{ℕ, ◌+◌, List, [], ◌∷◌, if◌then◌else◌}
 use Rattle.replay_policies.specs.declared.policies.Policy.{Policy}
 use Rattle.replay_policies.specs.declared.policies.Policy.TheVariants.{Lru, Fifo, Clock, Sieve, S3Fifo}
-use Rattle.replay_policies.specs.declared.queues.Entry.{Entry}
-use Rattle.replay_policies.specs.Clock.{after_access_clock}
+use Rattle.replay_policies.specs.declared.entries.Entry.{Entry}
+use Rattle.replay_policies.specs.Clock.{after_access_clock, after_removal_clock}
 use Rattle.replay_policies.specs.Entries.{keys_in}
-use Rattle.replay_policies.specs.Plain.{is_hit, after_access_lru, after_access_fifo}
-use Rattle.replay_policies.specs.S3Fifo.{S3Queues, no_s3_queues, after_access_s3fifo, s3_keys}
-use Rattle.replay_policies.specs.Sieve.{SieveQueue, no_sieve, after_access_sieve, sieve_keys}
+use Rattle.replay_policies.specs.Plain.{is_hit, keys_without, after_access_lru, after_access_fifo}
+use Rattle.replay_policies.specs.S3Fifo.{S3Queues, no_s3_queues, after_access_s3fifo, after_removal_s3fifo, s3_keys}
+use Rattle.replay_policies.specs.Sieve.{SieveQueue, no_sieve, after_access_sieve, after_removal_sieve, sieve_keys}
 
 -- what a cache keeps of its keys: of an LRU and of a FIFO no more than their order
 pub data Kept : Type 0 where
@@ -48,6 +48,14 @@ after_access items key (ByFifo keys) = ByFifo (after_access_fifo items key keys)
 after_access items key (ByClock queue) = ByClock (after_access_clock items key queue)
 after_access items key (BySieve sieve) = BySieve (after_access_sieve items key sieve)
 after_access items key (ByS3Fifo queues) = ByS3Fifo (after_access_s3fifo items key queues)
+
+-- what it keeps after a removal of a key: all other keys keep their order and what the policy has of them
+abbrev pub after_removal : ℕ → Kept → Kept
+after_removal key (ByLru keys) = ByLru (keys_without key keys)
+after_removal key (ByFifo keys) = ByFifo (keys_without key keys)
+after_removal key (ByClock queue) = ByClock (after_removal_clock key queue)
+after_removal key (BySieve sieve) = BySieve (after_removal_sieve key sieve)
+after_removal key (ByS3Fifo queues) = ByS3Fifo (after_removal_s3fifo key queues)
 
 -- so many of these accesses hit, one after another, where the cache keeps this at first
 abbrev pub hits_from : ℕ → Kept → List ℕ → ℕ

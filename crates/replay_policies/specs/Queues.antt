@@ -1,34 +1,40 @@
 -- What a contract sees of two queues of keys.
-use Rattle.std.specs.Prelude.{◌≡◌, ℕ, ◌+◌, List, ◌++◌, Option, map, is_some, unwrap_or, if◌then◌else◌}
-use Rattle.replay_policies.specs.declared.queues.Entry.{Entry}
+use Rattle.std.specs.Prelude.{ℕ, ◌+◌, ◌<◌, ◌≤◌, List, ◌++◌, Option}
+use Rattle.replay_policies.specs.declared.entries.Entry.{Entry}
 use Rattle.replay_policies.specs.Entries.{keys_in, times}
-use Rattle.replay_policies.specs.Tables.{number_of}
+use Rattle.replay_policies.specs.Lines.{LineView}
+use Rattle.replay_policies.specs.Tables.{HasPlace}
 
--- a queue: how many keys it has memory for, and its keys, the one that came first standing first
-pub record LineView : Type 0 where
-  pub room : ℕ
-  pub keys : List ℕ
-
--- the queues, and the table of the uses of their keys
+-- the queues, how many keys there is memory for in each, and the tables of the places of their keys
 pub record QueuesView : Type 0 where
   pub first_room : ℕ
   pub second_room : ℕ
   pub first : List Entry
   pub second : List Entry
-  pub table : List (List (Option ℕ))
+  pub first_table : List (List (Option ℕ))
+  pub second_table : List (List (Option ℕ))
+
+-- what two queues show
+abbrev pub queues_view : LineView → LineView → QueuesView
+queues_view first second = record {
+  first_room = first.room;
+  second_room = second.room;
+  first = first.entries;
+  second = second.entries;
+  first_table = first.table;
+  second_table = second.table;
+}
 
 -- all keys of both
 abbrev pub all_keys : QueuesView → List ℕ
 all_keys q = keys_in q.first ++ keys_in q.second
 
--- a key with the uses that a table has of it
-abbrev pub entry_from : List (List (Option ℕ)) → ℕ → Entry
-entry_from table key = record { key = key; uses = unwrap_or (number_of table key) 0 }
+-- there is a place for a key in the table of either queue
+pub record HasPlaces (q : QueuesView) (key : ℕ) : Type 0 where
+  pub first : HasPlace q.first_table key
+  pub second : HasPlace q.second_table key
 
--- keys with the uses that a table has of them
-abbrev pub entries_from : List (List (Option ℕ)) → List ℕ → List Entry
-entries_from table keys = map (entry_from table) keys
-
--- each key that has a number in the table stands in one of the queues, once, and no other key in any
-pub record IsQueues (first second : List ℕ) (table : List (List (Option ℕ))) : Type 0 where
-  pub once : (key : ℕ) → times key first + times key second ≡ (if is_some (number_of table key) then 1 else 0)
+-- no key stands in both queues, or in one of them twice, and each that stands in one has its places
+pub record IsQueues (q : QueuesView) : Type 0 where
+  pub once : (key : ℕ) → times key (keys_in q.first) + times key (keys_in q.second) ≤ 1
+  pub placed : (key : ℕ) → 0 < times key (keys_in q.first) + times key (keys_in q.second) → HasPlaces q key

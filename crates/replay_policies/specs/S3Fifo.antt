@@ -4,9 +4,9 @@
 -- Main evicts as CLOCK does, but that a key gets a round for each of its uses. The uses of an entry are how often it was
 -- asked for, up to 3; they begin at 0, also where a key goes on to main, and each round takes one.
 use Rattle.std.specs.Prelude.{ℕ, ◌+◌, ◌-◌, ◌/◌, max, Bool, List, [], ◌∷◌, ◌++◌, nat_le, nat_lt, length, if◌then◌else◌}
-use Rattle.replay_policies.specs.declared.queues.Entry.{Entry}
+use Rattle.replay_policies.specs.declared.entries.Entry.{Entry}
 use Rattle.replay_policies.specs.Clock.{after_eviction}
-use Rattle.replay_policies.specs.Entries.{asked, keys_in, new_entry}
+use Rattle.replay_policies.specs.Entries.{asked, entries_without, keys_in, new_entry}
 use Rattle.replay_policies.specs.Plain.{is_hit, keys_without, after_miss}
 
 -- the queues, the oldest key of each first, and the ghosts, the newest first
@@ -69,3 +69,8 @@ abbrev pub after_access_s3fifo : ℕ → ℕ → S3Queues → S3Queues
 after_access_s3fifo items key s = if is_hit key (s3_keys s)
     then record { small = asked 3 key s.small; main = asked 3 key s.main; ghosts = s.ghosts }
     else with_key (is_hit key s.ghosts) key (s3_with_room items (without_ghost key s))
+
+-- a removal: the key's place is gone, in whichever queue it stands, and the key is no ghost for that. The ghosts stay
+abbrev pub after_removal_s3fifo : ℕ → S3Queues → S3Queues
+after_removal_s3fifo key s =
+    record { small = entries_without key s.small; main = entries_without key s.main; ghosts = s.ghosts }

@@ -1,8 +1,8 @@
 -- SIEVE: one queue from its tail, the oldest key, to its head, the newest, and a hand that goes from the tail towards
 -- the head. Each key has a visited bit, which is its count of uses, 0 or 1.
 use Rattle.std.specs.Prelude.{ℕ, zero, suc, ◌+◌, List, [], ◌∷◌, ◌++◌, nat_eq, nat_lt, length, if◌then◌else◌}
-use Rattle.replay_policies.specs.declared.queues.Entry.{Entry}
-use Rattle.replay_policies.specs.Entries.{asked, keys_in, new_entry, once_less, total_uses}
+use Rattle.replay_policies.specs.declared.entries.Entry.{Entry}
+use Rattle.replay_policies.specs.Entries.{asked, entries_without, keys_in, new_entry, once_less, total_uses}
 use Rattle.replay_policies.specs.Plain.{is_hit}
 
 -- the queue, cut at the hand: the keys that the hand passed, from the tail on, are `passed`; those from the hand on, the
@@ -50,3 +50,8 @@ abbrev pub after_access_sieve : ℕ → ℕ → SieveQueue → SieveQueue
 after_access_sieve items key sieve =
     if is_hit key (sieve_keys sieve) then record { ahead = asked 1 key sieve.ahead; passed = asked 1 key sieve.passed }
     else with_head key (sieve_with_room items sieve)
+
+-- a removal: the key's place is gone; where the hand stood at it, it stands at the next key towards the head, and at the
+-- tail if there is none
+abbrev pub after_removal_sieve : ℕ → SieveQueue → SieveQueue
+after_removal_sieve key sieve = back_to_tail (entries_without key sieve.ahead) (entries_without key sieve.passed)

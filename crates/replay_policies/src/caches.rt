@@ -4,12 +4,13 @@ ghost use Rattle.std.specs.List.{IsDistinct};
 ghost use Rattle.std.specs.NonZero.{non_zero_usize_get};
 ghost use Rattle.replay_policies.specs.Caches.{IsCache, kept_of};
 ghost use Rattle.replay_policies.specs.Plain.{is_hit};
-ghost use Rattle.replay_policies.specs.Policies.{after_access, keys_of, nothing_kept};
+ghost use Rattle.replay_policies.specs.Policies.{after_access, after_removal, keys_of, nothing_kept};
 
 use crate::ghosts::Ghosts;
 use crate::policies::Policy;
 use crate::queues::Queues;
 use crate::{clocks, plain, s3fifos, sieves};
+use bump_links::NODES_MAX;
 use lru::LruCache;
 use std::alloc::{AllocError, Global};
 use std::num::NonZeroUsize;
@@ -31,18 +32,20 @@ impl Cache {
         policy: Policy,
         items: NonZeroUsize,
     ) -> Result<Cache, AllocError>
+        requires few { non_zero_usize_get items ≤ NODES_MAX }
         ensures empty { IfOk result (λ cache. kept_of cache ≡ nothing_kept policy) }
         ensures room { IfOk result (λ cache. IsCache (non_zero_usize_get items) cache) }
     {
-        let room = items.get();
+        // A FIFO and CLOCK have one queue. The other has room for one key, which is the least.
+        let room = items.get() as u32;
         Ok(match policy {
             Policy::Lru => Cache::Lru(LruCache::new(alloc, items)?),
-            Policy::Fifo => Cache::Fifo(Queues::new(alloc, room, 0)?),
-            Policy::Clock => Cache::Clock(Queues::new(alloc, room, 0)?),
+            Policy::Fifo => Cache::Fifo(Queues::new(alloc, room, 1)?),
+            Policy::Clock => Cache::Clock(Queues::new(alloc, room, 1)?),
             Policy::Sieve => Cache::Sieve(Queues::new(alloc, room, room)?),
             Policy::S3Fifo => Cache::S3Fifo(
                 Queues::new(alloc, room, room)?,
-                s3fifos::ghosts_of(alloc, room)?,
+                s3fifos::ghosts_of(alloc, items.get())?,
             ),
         })
     }
@@ -65,6 +68,22 @@ impl Cache {
             Cache::Clock(queue) => clocks::access(queue, items, key),
             Cache::Sieve(queues) => sieves::access(queues, items, key),
             Cache::S3Fifo(queues, ghosts) => s3fifos::access(queues, ghosts, items, key),
+        }
+    }
+
+    // Removes a key from a cache of so many items: whether it was in it.
+    pub(crate) fn remove(&mut self, items: usize, key: u32) -> bool
+        requires room { IsCache items self.old }
+        ensures found { result ≡ is_hit key (keys_of (kept_of self.old)) }
+        ensures kept { kept_of self.new ≡ after_removal key (kept_of self.old) }
+        ensures room { IsCache items self.new }
+    {
+        match self {
+            Cache::Lru(cache) => plain::remove_lru(cache, key),
+            Cache::Fifo(queue) => plain::remove_fifo(queue, items, key),
+            Cache::Clock(queue) => clocks::remove(queue, items, key),
+            Cache::Sieve(queues) => sieves::remove(queues, items, key),
+            Cache::S3Fifo(queues, ghosts) => s3fifos::remove(queues, ghosts, items, key),
         }
     }
 

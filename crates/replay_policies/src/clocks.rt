@@ -1,12 +1,13 @@
 //! CLOCK.
 ghost use Rattle.std.specs.Prelude.{◌≡◌, ℕ, ◌+◌, ◌<◌, ◌≤◌, false, length, IfOk, OnOk, OnErr};
 ghost use Rattle.replay_policies.specs.Caches.{IsOneQueue};
-ghost use Rattle.replay_policies.specs.Clock.{after_access_clock, after_eviction, with_room};
+ghost use Rattle.replay_policies.specs.Clock.{after_access_clock, after_eviction, after_removal_clock, with_room};
 ghost use Rattle.replay_policies.specs.Entries.{keys_in};
 ghost use Rattle.replay_policies.specs.Plain.{is_hit};
-ghost use Rattle.replay_policies.specs.Tables.{HasPlace};
+ghost use Rattle.replay_policies.specs.Queues.{HasPlaces};
 
-use crate::queues::{Entry, Queues};
+use crate::entries::Entry;
+use crate::queues::Queues;
 use std::alloc::AllocError;
 
 // Moves the hand on over the first queue until it has evicted a key.
@@ -16,7 +17,7 @@ pub(crate) fn evict(queues: &mut Queues)
     ensures second { queues.new.second ≡ queues.old.second }
     ensures first_room { queues.new.first_room ≡ queues.old.first_room }
     ensures second_room { queues.new.second_room ≡ queues.old.second_room }
-    ensures places { (key : ℕ) → HasPlace queues.old.table key → HasPlace queues.new.table key }
+    ensures places { (key : ℕ) → HasPlaces queues.old key → HasPlaces queues.new key }
 {
     while let Some(entry) = queues.pop_first() {
         if entry.uses == 0 {
@@ -37,7 +38,7 @@ fn make_room(queue: &mut Queues, items: usize)
     ensures fits { length queue.new.first < items }
     ensures second { queue.new.second ≡ queue.old.second }
     ensures first_room { queue.new.first_room ≡ queue.old.first_room }
-    ensures places { (key : ℕ) → HasPlace queue.old.table key → HasPlace queue.new.table key }
+    ensures places { (key : ℕ) → HasPlaces queue.old key → HasPlaces queue.new key }
 {
     if queue.first_len() >= items {
         evict(queue);
@@ -61,4 +62,14 @@ pub(crate) fn access(queue: &mut Queues, items: usize, key: u32) -> Result<bool,
     make_room(queue, items);
     queue.push_first(Entry { key, uses: 0 });
     Ok(false)
+}
+
+// A removal: whether the key was in the cache.
+pub(crate) fn remove(queue: &mut Queues, items: usize, key: u32) -> bool
+    requires queue { IsOneQueue items queue.old }
+    ensures found { result ≡ is_hit key (keys_in queue.old.first) }
+    ensures kept { queue.new.first ≡ after_removal_clock key queue.old.first }
+    ensures queue { IsOneQueue items queue.new }
+{
+    queue.remove(key)
 }

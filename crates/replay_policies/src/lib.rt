@@ -5,6 +5,7 @@
 
 mod caches;
 mod clocks;
+mod entries;
 mod faults;
 mod ghosts;
 mod lines;

@@ -3,10 +3,11 @@ ghost use Rattle.std.specs.Prelude.{◌≡◌, ℕ, ◌<◌, false, drop, length
 ghost use Rattle.std.specs.Map.{keys_of};
 ghost use Rattle.replay_policies.specs.Caches.{IsOneQueue};
 ghost use Rattle.replay_policies.specs.Entries.{keys_in};
-ghost use Rattle.replay_policies.specs.Tables.{HasPlace};
-ghost use Rattle.replay_policies.specs.Plain.{is_hit, after_access_lru, after_access_fifo};
+ghost use Rattle.replay_policies.specs.Queues.{HasPlaces};
+ghost use Rattle.replay_policies.specs.Plain.{is_hit, keys_without, after_access_lru, after_access_fifo};
 
-use crate::queues::{Entry, Queues};
+use crate::entries::Entry;
+use crate::queues::Queues;
 use lru::LruCache;
 use std::alloc::AllocError;
 
@@ -25,6 +26,15 @@ pub(crate) fn access_lru(cache: &mut LruCache<u32, ()>, key: u32) -> Result<bool
     Ok(cache.put(key, ())?.is_some())
 }
 
+// A removal from an LRU: whether the key was in the cache.
+pub(crate) fn remove_lru(cache: &mut LruCache<u32, ()>, key: u32) -> bool
+    ensures found { result ≡ is_hit key (keys_of cache.old.entries) }
+    ensures keys { keys_of cache.new.entries ≡ keys_without key (keys_of cache.old.entries) }
+    ensures room { cache.new.cap ≡ cache.old.cap }
+{
+    cache.pop(&key).is_some()
+}
+
 // Makes room for a key more: a full queue loses the one that came first.
 fn make_room(queue: &mut Queues, items: usize)
     requires some { 0 < items }
@@ -33,7 +43,7 @@ fn make_room(queue: &mut Queues, items: usize)
         ≡ (if nat_lt (length queue.old.first) items then queue.old.first else drop 1 queue.old.first) }
     ensures second { queue.new.second ≡ queue.old.second }
     ensures first_room { queue.new.first_room ≡ queue.old.first_room }
-    ensures places { (key : ℕ) → HasPlace queue.old.table key → HasPlace queue.new.table key }
+    ensures places { (key : ℕ) → HasPlaces queue.old key → HasPlaces queue.new key }
 {
     if queue.first_len() >= items {
         queue.pop_first();
@@ -59,4 +69,14 @@ pub(crate) fn access_fifo(queue: &mut Queues, items: usize, key: u32) -> Result<
     make_room(queue, items);
     queue.push_first(Entry { key, uses: 0 });
     Ok(false)
+}
+
+// A removal from a FIFO: whether the key was in the cache.
+pub(crate) fn remove_fifo(queue: &mut Queues, items: usize, key: u32) -> bool
+    requires queue { IsOneQueue items queue.old }
+    ensures found { result ≡ is_hit key (reverse (keys_in queue.old.first)) }
+    ensures keys { reverse (keys_in queue.new.first) ≡ keys_without key (reverse (keys_in queue.old.first)) }
+    ensures queue { IsOneQueue items queue.new }
+{
+    queue.remove(key)
 }

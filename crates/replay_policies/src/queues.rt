@@ -1,84 +1,53 @@
 //! Two queues of keys, each with how often it was asked for.
-ghost use Rattle.std.specs.Prelude.{◌≡◌, ℕ, ◌<◌, ◌≤◌, ◌+◌, [], ◌∷◌, ◌++◌, true, false, nat_eq, length, is_some, unwrap_or, if◌then◌else◌, IfOk, OnOk, IfSome, IsSome, ◌↔◌};
+ghost use Rattle.std.specs.Prelude.{◌≡◌, ℕ, ◌<◌, ◌≤◌, ◌+◌, [], ◌∷◌, ◌++◌, false, length, IfOk, OnOk, IfSome, IsSome, ◌↔◌};
 ghost use Rattle.std.specs.Option.{option_to_list};
-ghost use Rattle.replay_policies.specs.Entries.{asked, keys_in, times};
+ghost use Rattle.replay_policies.specs.Entries.{asked, entries_without, keys_in, times};
 ghost use Rattle.replay_policies.specs.Plain.{is_hit};
-ghost use Rattle.replay_policies.specs.Queues.{QueuesView, IsQueues, all_keys, entries_from, entry_from};
-ghost use Rattle.replay_policies.specs.Tables.{HasPlace, number_of};
+ghost use Rattle.replay_policies.specs.Queues.{QueuesView, IsQueues, HasPlaces, all_keys};
 
+use crate::entries::Entry;
 use crate::lines::Line;
-use crate::tables::KeyTable;
+use bump_links::NODES_MAX;
 use std::alloc::{AllocError, Global};
 use std::marker::Model;
 use std::mem;
 
-/// A key in a queue, and how often it was asked for, as far as its policy counts.
-#[derive(Clone, Copy, Debug, PartialEq, Eq)]
-pub struct Entry {
-    /// The key.
-    pub key: u32,
-
-    /// How often it was asked for, as far as its policy counts.
-    pub uses: u32,
-}
-
-// Two queues. Each key stands in one of them once, or in none, and the table has the uses of those that do.
+// Two queues. Each key stands in one of them once, or in none.
 #[derive(Drop)]
 pub(crate) struct Queues {
     first: Line,
     second: Line,
-    table: KeyTable,
 }
 
 impl Model for Queues {
-    ghost use Rattle.replay_policies.specs.Queues.{QueuesView, IsQueues, entries_from};
+    ghost use Rattle.replay_policies.specs.Queues.{QueuesView, IsQueues, queues_view};
 
     ghost Value = { QueuesView };
 
-    ghost view = { λ q. record {
-      first_room = q.first.room;
-      second_room = q.second.room;
-      first = entries_from q.table q.first.keys;
-      second = entries_from q.table q.second.keys;
-      table = q.table;
-    } };
+    ghost view = { λ q. queues_view q.first q.second };
 
-    ghost invariant = { λ q. IsQueues q.first.keys q.second.keys q.table };
-}
-
-// Takes the first key out of a line, with its uses.
-fn take(line: &mut Line, table: &mut KeyTable) -> Option<Entry>
-    requires numbered { (key : ℕ) → 0 < times key line.old.keys → IsSome (number_of table.old key) }
-    ensures keys { line.old.keys ≡ keys_in (option_to_list result) ++ line.new.keys }
-    ensures uses { IfSome result (λ e. e ≡ entry_from table.old e.key) }
-    ensures room { line.new.room ≡ line.old.room }
-    ensures numbers { (key : ℕ) → number_of table.new key
-        ≡ (if is_hit key (keys_in (option_to_list result)) then None else number_of table.old key) }
-    ensures places { (key : ℕ) → HasPlace table.old key → HasPlace table.new key }
-    ensures place { IfSome result (λ e. HasPlace table.new e.key) }
-    ensures found { IsSome result ↔ (0 < length line.old.keys) }
-{
-    let key = line.pop()?;
-    let uses = table.get(key).unwrap_or(0);
-    table.set(key, None);
-    Some(Entry { key, uses })
+    ghost invariant = { λ q. IsQueues (queues_view q.first q.second) };
 }
 
 impl Queues {
     // Queues without keys, which have memory for so many each. It is refused only for want of memory.
-    pub(crate) fn new(alloc: Global, first: usize, second: usize) -> Result<Queues, AllocError>
+    pub(crate) fn new(alloc: Global, first: u32, second: u32) -> Result<Queues, AllocError>
+        requires some_first { 1 ≤ first }
+        requires few_first { first ≤ NODES_MAX }
+        requires some_second { 1 ≤ second }
+        requires few_second { second ≤ NODES_MAX }
         ensures { IfOk result (λ q. q ≡ record {
           first_room = first;
           second_room = second;
           first = [];
           second = [];
-          table = [];
+          first_table = [];
+          second_table = [];
         }) }
     {
         Ok(Queues {
             first: Line::new(alloc, first)?,
             second: Line::new(alloc, second)?,
-            table: KeyTable::new(alloc),
         })
     }
 
@@ -109,7 +78,7 @@ impl Queues {
     pub(crate) fn has(&self, key: u32) -> bool
         ensures { result ≡ is_hit key (all_keys self.now) }
     {
-        self.table.get(key).is_some()
+        self.first.has(key) || self.second.has(key)
     }
 
     // Asks for a key, and tells whether it is in one of them. It has one use more then, up to so many.
@@ -120,23 +89,35 @@ impl Queues {
         ensures first_room { self.new.first_room ≡ self.old.first_room }
         ensures second_room { self.new.second_room ≡ self.old.second_room }
     {
-        let Some(uses) = self.table.get(key) else {
-            return false;
-        };
-        let more = if uses < most { uses + 1 } else { most };
-        self.table.set(key, Some(more));
-        true
+        let in_first = self.first.ask(key, most);
+        let in_second = self.second.ask(key, most);
+        in_first || in_second
     }
 
-    // Makes a place for the uses of a key that is to be put in. It is refused only for want of memory; nothing else changes.
+    // Takes a key out, wherever it stands: whether it was in one of them.
+    pub(crate) fn remove(&mut self, key: u32) -> bool
+        ensures found { result ≡ is_hit key (all_keys self.old) }
+        ensures first { self.new.first ≡ entries_without key self.old.first }
+        ensures second { self.new.second ≡ entries_without key self.old.second }
+        ensures first_room { self.new.first_room ≡ self.old.first_room }
+        ensures second_room { self.new.second_room ≡ self.old.second_room }
+        ensures once { (k : ℕ) → times k (all_keys self.old) ≤ 1 }
+    {
+        let in_first = self.first.remove(key);
+        let in_second = self.second.remove(key);
+        in_first || in_second
+    }
+
+    // Makes places for a key that is to be put in. It is refused only for want of memory; nothing else changes.
     pub(crate) fn make_place(&mut self, key: u32) -> Result<(), AllocError>
-        ensures place { OnOk result (HasPlace self.new.table key) }
+        ensures place { OnOk result (HasPlaces self.new key) }
         ensures first { self.new.first ≡ self.old.first }
         ensures second { self.new.second ≡ self.old.second }
         ensures first_room { self.new.first_room ≡ self.old.first_room }
         ensures second_room { self.new.second_room ≡ self.old.second_room }
     {
-        self.table.make_place(key)
+        self.first.make_place(key)?;
+        self.second.make_place(key)
     }
 
     // Takes the first key out of the first queue, where there is one.
@@ -147,10 +128,10 @@ impl Queues {
         ensures first_room { self.new.first_room ≡ self.old.first_room }
         ensures second_room { self.new.second_room ≡ self.old.second_room }
         ensures gone { IfSome result (λ e. is_hit e.key (all_keys self.new) ≡ false) }
-        ensures places { (key : ℕ) → HasPlace self.old.table key → HasPlace self.new.table key }
-        ensures place { IfSome result (λ e. HasPlace self.new.table e.key) }
+        ensures places { (key : ℕ) → HasPlaces self.old key → HasPlaces self.new key }
+        ensures place { IfSome result (λ e. HasPlaces self.new e.key) }
     {
-        take(&mut self.first, &mut self.table)
+        self.first.pop()
     }
 
     // The same of the second queue.
@@ -161,40 +142,38 @@ impl Queues {
         ensures first_room { self.new.first_room ≡ self.old.first_room }
         ensures second_room { self.new.second_room ≡ self.old.second_room }
         ensures gone { IfSome result (λ e. is_hit e.key (all_keys self.new) ≡ false) }
-        ensures places { (key : ℕ) → HasPlace self.old.table key → HasPlace self.new.table key }
-        ensures place { IfSome result (λ e. HasPlace self.new.table e.key) }
+        ensures places { (key : ℕ) → HasPlaces self.old key → HasPlaces self.new key }
+        ensures place { IfSome result (λ e. HasPlaces self.new e.key) }
     {
-        take(&mut self.second, &mut self.table)
+        self.second.pop()
     }
 
-    // Puts a key that is in neither queue into the first one, behind all others. There must be room for it, and a place.
+    // Puts a key that is in neither queue into the first one, behind all others. There must be room for it, and places.
     pub(crate) fn push_first(&mut self, entry: Entry)
         requires new { is_hit entry.key (all_keys self.old) ≡ false }
         requires room { length self.old.first < self.old.first_room }
-        requires place { HasPlace self.old.table entry.key }
+        requires place { HasPlaces self.old entry.key }
         ensures first { self.new.first ≡ self.old.first ++ entry ∷ [] }
         ensures second { self.new.second ≡ self.old.second }
         ensures first_room { self.new.first_room ≡ self.old.first_room }
         ensures second_room { self.new.second_room ≡ self.old.second_room }
-        ensures places { (key : ℕ) → HasPlace self.old.table key → HasPlace self.new.table key }
+        ensures places { (key : ℕ) → HasPlaces self.old key → HasPlaces self.new key }
     {
-        self.table.set(entry.key, Some(entry.uses));
-        self.first.push(entry.key);
+        self.first.push(entry);
     }
 
     // The same of the second queue.
     pub(crate) fn push_second(&mut self, entry: Entry)
         requires new { is_hit entry.key (all_keys self.old) ≡ false }
         requires room { length self.old.second < self.old.second_room }
-        requires place { HasPlace self.old.table entry.key }
+        requires place { HasPlaces self.old entry.key }
         ensures second { self.new.second ≡ self.old.second ++ entry ∷ [] }
         ensures first { self.new.first ≡ self.old.first }
         ensures first_room { self.new.first_room ≡ self.old.first_room }
         ensures second_room { self.new.second_room ≡ self.old.second_room }
-        ensures places { (key : ℕ) → HasPlace self.old.table key → HasPlace self.new.table key }
+        ensures places { (key : ℕ) → HasPlaces self.old key → HasPlaces self.new key }
     {
-        self.table.set(entry.key, Some(entry.uses));
-        self.second.push(entry.key);
+        self.second.push(entry);
     }
 
     // Makes the first queue the second, and the second the first.
@@ -203,7 +182,7 @@ impl Queues {
         ensures second { self.new.second ≡ self.old.first }
         ensures first_room { self.new.first_room ≡ self.old.second_room }
         ensures second_room { self.new.second_room ≡ self.old.first_room }
-        ensures table { self.new.table ≡ self.old.table }
+        ensures places { (key : ℕ) → HasPlaces self.old key → HasPlaces self.new key }
     {
         mem::swap(&mut self.first, &mut self.second);
     }

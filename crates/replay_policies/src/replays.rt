@@ -3,7 +3,7 @@ ghost use Rattle.std.specs.Prelude.{◌≡◌, ◌+◌, ◌≤◌, true, false, 
 ghost use Rattle.std.specs.List.{IsDistinct};
 ghost use Rattle.replay_policies.specs.Caches.{kept_of};
 ghost use Rattle.replay_policies.specs.Plain.{is_hit};
-ghost use Rattle.replay_policies.specs.Policies.{after_access, keys_of, nothing_kept, policy_of};
+ghost use Rattle.replay_policies.specs.Policies.{after_access, after_removal, keys_of, nothing_kept, policy_of};
 ghost use Rattle.replay_policies.specs.Replays.{ReplayView as TheReplayView, is_size_allowed, policy_fault_of, IsReplay};
 ghost use Rattle.replay_policies.specs.Tallies.{no_accesses, counted_access};
 
@@ -78,6 +78,25 @@ impl Replay {
         let hit = self.cache.access(self.items as usize, key)?;
         self.tally.count(hit);
         Ok(hit)
+    }
+
+    /// Removes a key, as where it is deleted or expires: whether it was in the cache. Its place is free afterwards, all other
+    /// keys keep their order and what the policy has of them, and an access that asks for the key is a miss. A hand that
+    /// stood at the key stands at the next one, and no ghost comes of it. Where the key isn't in the cache nothing is changed.
+    /// It is no access, and isn't counted.
+    #[inline]
+    pub fn remove(&mut self, key: u32) -> bool
+        ensures found { result ≡ is_hit key (keys_of self.old.kept) }
+        ensures keys { self.new.kept ≡ after_removal key self.old.kept }
+        ensures tally { self.new.tally ≡ self.old.tally }
+        ensures gone { is_hit key (keys_of self.new.kept) ≡ false }
+        ensures absent { is_hit key (keys_of self.old.kept) ≡ false → self.new ≡ self.old }
+        ensures policy { policy_of self.new.kept ≡ policy_of self.old.kept }
+        ensures items { self.new.items ≡ self.old.items }
+    {
+        // That no key is in the cache twice is a clause of `len`.
+        let _ = self.cache.len();
+        self.cache.remove(self.items as usize, key)
     }
 
     /// How many keys are in the cache: never more than it has room for, and none of them twice.

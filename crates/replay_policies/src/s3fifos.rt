@@ -4,13 +4,13 @@ ghost use Rattle.replay_policies.specs.Caches.{IsS3Fifo, s3_of};
 ghost use Rattle.replay_policies.specs.Entries.{new_entry};
 ghost use Rattle.replay_policies.specs.Ghosts.{ghost_keys};
 ghost use Rattle.replay_policies.specs.Plain.{is_hit};
-ghost use Rattle.replay_policies.specs.Queues.{all_keys};
-ghost use Rattle.replay_policies.specs.S3Fifo.{after_access_s3fifo, after_s3_evicts, after_small_evicts, main_share, small_share, s3_keys, s3_with_room};
-ghost use Rattle.replay_policies.specs.Tables.{HasPlace};
+ghost use Rattle.replay_policies.specs.Queues.{HasPlaces, all_keys};
+ghost use Rattle.replay_policies.specs.S3Fifo.{after_access_s3fifo, after_removal_s3fifo, after_s3_evicts, after_small_evicts, main_share, small_share, s3_keys, s3_with_room};
 
 use crate::clocks;
+use crate::entries::Entry;
 use crate::ghosts::Ghosts;
-use crate::queues::{Entry, Queues};
+use crate::queues::Queues;
 use std::alloc::{AllocError, Global};
 
 // So many uses of a key are counted at most.
@@ -43,7 +43,7 @@ fn evict_from_small(queues: &mut Queues, ghosts: &mut Ghosts, items: usize)
     ensures first_room { queues.new.first_room ≡ items }
     ensures second_room { queues.new.second_room ≡ items }
     ensures ghost_room { ghosts.new.room ≡ main_share items }
-    ensures places { (key : ℕ) → HasPlace queues.old.table key → HasPlace queues.new.table key }
+    ensures places { (key : ℕ) → HasPlaces queues.old key → HasPlaces queues.new key }
 {
     while let Some(entry) = queues.pop_second() {
         if entry.uses < USES_FOR_MAIN {
@@ -66,7 +66,7 @@ fn evict(queues: &mut Queues, ghosts: &mut Ghosts, items: usize)
     ensures first_room { queues.new.first_room ≡ items }
     ensures second_room { queues.new.second_room ≡ items }
     ensures ghost_room { ghosts.new.room ≡ main_share items }
-    ensures places { (key : ℕ) → HasPlace queues.old.table key → HasPlace queues.new.table key }
+    ensures places { (key : ℕ) → HasPlaces queues.old key → HasPlaces queues.new key }
 {
     if queues.second_len() >= share_of_small(items) {
         evict_from_small(queues, ghosts, items);
@@ -85,7 +85,7 @@ fn make_room(queues: &mut Queues, ghosts: &mut Ghosts, items: usize)
     ensures first_room { queues.new.first_room ≡ items }
     ensures second_room { queues.new.second_room ≡ items }
     ensures ghost_room { ghosts.new.room ≡ main_share items }
-    ensures places { (key : ℕ) → HasPlace queues.old.table key → HasPlace queues.new.table key }
+    ensures places { (key : ℕ) → HasPlaces queues.old key → HasPlaces queues.new key }
 {
     if queues.len() >= items {
         evict(queues, ghosts, items);
@@ -97,7 +97,7 @@ fn put_in(queues: &mut Queues, key: u32, was_ghost: bool)
     requires new { is_hit key (all_keys queues.old) ≡ false }
     requires room_in_main { length queues.old.first < queues.old.first_room }
     requires room_in_small { length queues.old.second < queues.old.second_room }
-    requires place { HasPlace queues.old.table key }
+    requires place { HasPlaces queues.old key }
     ensures first { queues.new.first
         ≡ (if was_ghost then queues.old.first ++ new_entry key ∷ [] else queues.old.first) }
     ensures second { queues.new.second
@@ -137,4 +137,14 @@ pub(crate) fn access(
     make_room(queues, ghosts, items);
     put_in(queues, key, was_ghost);
     Ok(false)
+}
+
+// A removal: whether the key was in the cache. It is no ghost for that.
+pub(crate) fn remove(queues: &mut Queues, ghosts: &mut Ghosts, items: usize, key: u32) -> bool
+    requires queues { IsS3Fifo items queues.old ghosts.old }
+    ensures found { result ≡ is_hit key (s3_keys (s3_of queues.old ghosts.old)) }
+    ensures kept { s3_of queues.new ghosts.new ≡ after_removal_s3fifo key (s3_of queues.old ghosts.old) }
+    ensures queues { IsS3Fifo items queues.new ghosts.new }
+{
+    queues.remove(key)
 }

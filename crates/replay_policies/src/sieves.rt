@@ -2,10 +2,11 @@
 ghost use Rattle.std.specs.Prelude.{◌≡◌, ℕ, ◌+◌, ◌<◌, ◌≤◌, false, length, IfOk, OnOk, OnErr};
 ghost use Rattle.replay_policies.specs.Caches.{IsSieve, sieve_of};
 ghost use Rattle.replay_policies.specs.Plain.{is_hit};
-ghost use Rattle.replay_policies.specs.Sieve.{after_access_sieve, after_sieving, back_to_tail, sieve_keys, sieve_with_room};
-ghost use Rattle.replay_policies.specs.Tables.{HasPlace};
+ghost use Rattle.replay_policies.specs.Sieve.{after_access_sieve, after_removal_sieve, after_sieving, back_to_tail, sieve_keys, sieve_with_room};
+ghost use Rattle.replay_policies.specs.Queues.{HasPlaces};
 
-use crate::queues::{Entry, Queues};
+use crate::entries::Entry;
+use crate::queues::Queues;
 use std::alloc::AllocError;
 
 // Where the hand is past the head, it goes back to the tail.
@@ -14,7 +15,7 @@ fn turn(queues: &mut Queues)
     ensures turned { sieve_of queues.new ≡ back_to_tail queues.old.first queues.old.second }
     ensures first_room { queues.new.first_room ≡ queues.old.first_room }
     ensures second_room { queues.new.second_room ≡ queues.old.second_room }
-    ensures places { (key : ℕ) → HasPlace queues.old.table key → HasPlace queues.new.table key }
+    ensures places { (key : ℕ) → HasPlaces queues.old key → HasPlaces queues.new key }
 {
     if queues.first_len() == 0 {
         queues.swap();
@@ -27,7 +28,7 @@ fn evict(queues: &mut Queues, items: usize)
     ensures evicted { sieve_of queues.new ≡ after_sieving (sieve_of queues.old) }
     ensures first_room { queues.new.first_room ≡ items }
     ensures second_room { queues.new.second_room ≡ items }
-    ensures places { (key : ℕ) → HasPlace queues.old.table key → HasPlace queues.new.table key }
+    ensures places { (key : ℕ) → HasPlaces queues.old key → HasPlaces queues.new key }
 {
     while let Some(entry) = queues.pop_first() {
         if entry.uses == 0 {
@@ -51,7 +52,7 @@ fn make_room(queues: &mut Queues, items: usize)
     ensures fits { length queues.new.first + length queues.new.second < items }
     ensures first_room { queues.new.first_room ≡ items }
     ensures second_room { queues.new.second_room ≡ items }
-    ensures places { (key : ℕ) → HasPlace queues.old.table key → HasPlace queues.new.table key }
+    ensures places { (key : ℕ) → HasPlaces queues.old key → HasPlaces queues.new key }
 {
     if queues.len() >= items {
         evict(queues, items);
@@ -75,4 +76,16 @@ pub(crate) fn access(queues: &mut Queues, items: usize, key: u32) -> Result<bool
     make_room(queues, items);
     queues.push_first(Entry { key, uses: 0 });
     Ok(false)
+}
+
+// A removal: whether the key was in the cache.
+pub(crate) fn remove(queues: &mut Queues, items: usize, key: u32) -> bool
+    requires queues { IsSieve items queues.old }
+    ensures found { result ≡ is_hit key (sieve_keys (sieve_of queues.old)) }
+    ensures kept { sieve_of queues.new ≡ after_removal_sieve key (sieve_of queues.old) }
+    ensures queues { IsSieve items queues.new }
+{
+    let found = queues.remove(key);
+    turn(queues);
+    found
 }

@@ -71,19 +71,19 @@ AddsOrNot line old new = (new ≡ old) ⊎ (new ≡ old ++ with_end line)
 abbrev pub AddsEnd : Tail → List ℕ → List ℕ → Type 0
 AddsEnd tail old new = (key : ℕ) × (new ≡ (old ++ with_end (pull_instruction tail)) ++ with_end (del_instruction key))
 
--- behind a text the last item of HOT was pulled, and ended if there was one
+-- behind a text HOT's last item is pulled, and perhaps an item ends then: whichever it is, and whether there was one, isn't said
 abbrev pub EndsInHot : List ℕ → List ℕ → Type 0
 EndsInHot old new = (new ≡ old ++ with_end (pull_instruction Hot)) ⊎ AddsEnd Hot old new
 
--- behind a text the last item of WARM was pulled and ended, or if there was none, that of HOT
+-- behind a text WARM's last item is pulled and an item ends, or the same of HOT follows that pull: on what it depends isn't said
 abbrev pub EndsInWarm : List ℕ → List ℕ → Type 0
 EndsInWarm old new = AddsEnd Warm old new ⊎ EndsInHot (old ++ with_end (pull_instruction Warm)) new
 
--- behind a text the last item of COLD was evicted, or if there was none, that of WARM or HOT ended
+-- behind a text COLD's last item is evicted, and that is all, or WARM and HOT follow so: on what it depends isn't said
 abbrev pub EndsInCold : List ℕ → List ℕ → Type 0
 EndsInCold old new = let between = old ++ with_end (pull_instruction Evict) in (new ≡ between) ⊎ EndsInWarm between new
 
--- Behind a text the lines of an evict were written: at most so many pulls of COLD, which rescue, and then an item ends.
+-- Behind a text the lines of an evict were written: at most so many pulls of COLD, which rescue, and then those of its end.
 abbrev pub AddsEvict : List ℕ → List ℕ → Type 0
 AddsEvict old new = (between : List ℕ) × Adds (IsPull Cold) most_rescues old between × EndsInCold between new
 

@@ -46,7 +46,7 @@ impl Plan {
         (place % self.config.readers.max(1) as usize) as u32
     }
 
-    // How many chunks the plan's cache has.
+    // How many chunks the plan's cache has, where it has one part.
     pub(crate) fn chunks(&self) -> u64
         ensures { result ≡ self.now.config.items + self.now.config.spare }
     {

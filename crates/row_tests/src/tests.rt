@@ -111,7 +111,8 @@ fn put<N: Name>(
     ensures key { part.new.key_words ≡ 2 }
     ensures value { part.new.value_words ≡ 1 }
 {
-    match part.put(&row, expires, evicted, now) {
+    let mut no_lanes: [RawLane<N>; 0] = [];
+    match part.put(&row, expires, evicted, &mut no_lanes, 0, now) {
         Ok(put) => put,
         Err(_) => panic!(rt; "there is room"),
     }
@@ -354,7 +355,9 @@ fn use_up<N: Name, R: Abort>(
     use_up_one(rt, &mut part, 3);
     use_up_one(rt, &mut part, 4);
     let mut evicted = [0; 4];
-    assert!(rt; part.put(&[5, 5, 5], 0, &mut evicted, 6).is_err());
+    let mut no_lanes: [RawLane<N>; 0] = [];
+    let put = part.put(&[5, 5, 5], 0, &mut evicted, &mut no_lanes, 0, 6);
+    assert!(rt; put.is_err());
     assert!(rt; part.find(&[5, 5]).is_none());
     Ok(())
 }

@@ -1,7 +1,7 @@
 //! The loop that never sleeps ends what has expired, until it is told to stop; the one that sleeps does so once a pause.
 ghost use Rattle.std.specs.Prelude.{◌≡◌};
 
-use crate::stands::{Changer, EXPIRY, KEYS, Stand, config, open_filled};
+use crate::stands::{Changer, EXPIRY, KEYS, LOOKS, Stand, config, open_filled};
 use bump_cache::{Cache, CacheBlank, LogName, Name};
 use std::alloc::{AllocError, Global};
 use std::marker::Brand;
@@ -39,11 +39,12 @@ impl Clock for Sleeper {
 }
 
 // How many entries ended by three turns of the loop that sleeps, how often it slept, how many seconds in all, and how
-// many puts were refused before.
+// many puts were refused before. The clock has this time at the first turn, and one tick more at each next one.
 fn run_each<N: Name + LogName, W: Wait>(
     rt: &W,
     alloc: Global,
     blank: CacheBlank<u64, u64>,
+    first: u64,
 ) -> Result<[u64; 4], AllocError>
     requires table { blank.table ≡ N.table }
     requires book { blank.log.book ≡ N.book }
@@ -56,20 +57,21 @@ fn run_each<N: Name + LogName, W: Wait>(
         tender: Changer { me: mut tender },
         mut other,
     } = stand;
-    let clock = AtomicU64::new(EXPIRY);
+    let mut next = first;
     let sleeper = Sleeper {
         sleeps: AtomicU64::new(0),
         slept: AtomicU64::new(0),
         stop: AtomicBool::new(false),
     };
-    cache.tend_each(
-        rt,
-        &mut tender,
-        &sleeper,
-        Duration::from_secs(7),
-        &clock,
-        &sleeper.stop,
-    );
+    cache.tend_each(rt, &mut tender, &sleeper, Duration::from_secs(7), || {
+        let now = next;
+        next = next.saturating_add(1);
+        if sleeper.stop.load(Ordering::SeqCst) {
+            None
+        } else {
+            Some(now)
+        }
+    });
     Ok([
         other.reclaimed(rt, &cache),
         sleeper.sleeps.load(Ordering::SeqCst),
@@ -81,9 +83,27 @@ fn run_each<N: Name + LogName, W: Wait>(
 #[test]
 fn the_loop_that_sleeps_tends_once_a_pause(rt: HostRuntime) -> Result<(), Fail> {
     let blank = CacheBlank::<u64, u64>::new(rt.alloc(), &config())?;
-    let told = run_each::<Brand, HostRuntime>(&rt, rt.alloc(), blank)?;
+    let told = run_each::<Brand, HostRuntime>(&rt, rt.alloc(), blank, EXPIRY)?;
     // Each tend looks at ten chunks, and the keys are in the first ones.
     assert_eq!(rt; told, [KEYS, 3, 21, 0]);
+    Ok(())
+}
+
+#[test]
+fn what_expires_after_the_clock_outlives_the_loop(rt: HostRuntime) -> Result<(), Fail> {
+    let blank = CacheBlank::<u64, u64>::new(rt.alloc(), &config())?;
+    let told = run_each::<Brand, HostRuntime>(&rt, rt.alloc(), blank, EXPIRY - 3)?;
+    // The third tend is one tick before the entries expire.
+    assert_eq!(rt; told, [0, 3, 21, 0]);
+    Ok(())
+}
+
+#[test]
+fn each_tend_is_at_what_the_clock_has_then(rt: HostRuntime) -> Result<(), Fail> {
+    let blank = CacheBlank::<u64, u64>::new(rt.alloc(), &config())?;
+    let told = run_each::<Brand, HostRuntime>(&rt, rt.alloc(), blank, EXPIRY - 1)?;
+    // The first tend is too early for the ten chunks that it looks at; the second one ends the entries in the next ten.
+    assert_eq!(rt; told, [LOOKS.into(), 3, 21, 0]);
     Ok(())
 }
 
@@ -142,7 +162,13 @@ fn tend<N: Name + LogName, W: Wait>(
     stop: &AtomicBool,
 ) {
     let Changer { mut me } = tender;
-    cache.tend_until(rt, &mut me, clock, stop);
+    cache.tend_until(rt, &mut me, || {
+        if stop.load(Ordering::SeqCst) {
+            None
+        } else {
+            Some(clock.load(Ordering::SeqCst))
+        }
+    });
 }
 
 #[test]

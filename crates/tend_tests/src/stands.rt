@@ -11,7 +11,7 @@ use std::sync::Wait;
 pub const KEYS: u64 = 20;
 
 /// A tend looks at so many chunks, so that one alone doesn't end all entries.
-const LOOKS: u32 = 10;
+pub const LOOKS: u32 = 10;
 
 /// When the entries expire.
 pub const EXPIRY: u64 = 10;

@@ -24,7 +24,8 @@ returns-clause-found g c =
     let is : c.get.new.value ≡ g.V.Packed.as_words c.unpack.result =
     told.2 ∙ ap g.V.Packed.as_words (sym (c.unpack.ensures.value told.0 told.1 told.2)) in
     subst (λ key. Finds (IsPair g.K.Packed.fits g.K.Packed.as_words g.V.Packed.fits g.V.Packed.as_words)
-    c.args.reader.now.config key (g.V.Packed.as_words c.unpack.result) c.args.now c.args.reader.now.worker
-    c.get.new.self.worker) c.requires.words
+    c.args.reader.now.config key (g.V.Packed.as_words c.unpack.result) c.args.now c.args.reader.now.anew
+    c.get.new.self.anew c.args.reader.now.worker c.get.new.self.worker) c.requires.words
     (subst (λ words. Finds (IsPair g.K.Packed.fits g.K.Packed.as_words g.V.Packed.fits g.V.Packed.as_words)
-    c.args.reader.now.config c.args.words.now words c.args.now c.args.reader.now.worker c.get.new.self.worker) is found)
+    c.args.reader.now.config c.args.words.now words c.args.now c.args.reader.now.anew c.get.new.self.anew
+    c.args.reader.now.worker c.get.new.self.worker) is found)

@@ -24,9 +24,10 @@ returns-clause-found g c =
     let is : c.peek.new.value ≡ g.V.Packed.as_words c.unpack.result =
     told.2 ∙ ap g.V.Packed.as_words (sym (c.unpack.ensures.value told.0 told.1 told.2)) in
     subst (λ key. Peeks (IsPair g.K.Packed.fits g.K.Packed.as_words g.V.Packed.fits g.V.Packed.as_words)
-    c.args.reader.now.config key (g.V.Packed.as_words c.unpack.result) c.args.now c.args.reader.now.worker
-    c.peek.new.self.worker)
+    c.args.reader.now.config key (g.V.Packed.as_words c.unpack.result) c.args.now c.args.reader.now.anew
+    c.peek.new.self.anew c.args.reader.now.worker c.peek.new.self.worker)
     c.requires.words
     (subst (λ words. Peeks (IsPair g.K.Packed.fits g.K.Packed.as_words g.V.Packed.fits g.V.Packed.as_words)
-    c.args.reader.now.config c.args.words.now words c.args.now c.args.reader.now.worker c.peek.new.self.worker) is
+    c.args.reader.now.config c.args.words.now words c.args.now c.args.reader.now.anew c.peek.new.self.anew
+    c.args.reader.now.worker c.peek.new.self.worker) is
     found)

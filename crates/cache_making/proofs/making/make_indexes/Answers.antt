@@ -36,3 +36,10 @@ loop-part-preserved c =
                 ∙ ap₂ (λ a b. replicate (a + b) None) so_far.first chunks;
           });
     }
+
+pub overflow_add-first : goal.overflow_add-first
+overflow_add-first c =
+    let room = room_behind c.args.config.now c.loop-part.part c.requires c.loop-part-test.true in
+    let chunks : c.class-chunks.result.chunks ≡ (class_of c.args.config.now c.loop-part.part).chunks =
+    ap (λ (k : ClassConfig). k.chunks) c.class-chunks.ensures in
+    omega (arith, room, chunks, c.loop-part.invariant.first)

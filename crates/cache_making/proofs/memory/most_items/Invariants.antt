@@ -1,6 +1,6 @@
 use Rattle.std.proofs.Common.{ℕ, ◌+◌, ◌-◌, ◌<◌, ◌≤◌}
 use Rattle.bump_rules.specs.Configs.{most_chunks}
-use Rattle.cache_making.specs.Configs.{new_config}
+use Rattle.cache_making.specs.Configs.{new_config, spare_of}
 use Rattle.cache_making.specs.Memory.{bytes_of}
 use Rattle.cache_making.proofs.memory.most_items.Given as goal
 
@@ -8,9 +8,9 @@ use Rattle.cache_making.proofs.memory.most_items.Given as goal
 abbrev pub invariant-loop-fits : goal.invariant-loop-fits
 invariant-loop-fits l = record {
   order : l.fits < l.over;
-  most : l.over ≤ most_chunks + 1;
+  most : l.over + spare_of l.readers ≤ most_chunks + 1;
   fits : 0 < l.fits → bytes_of (new_config l.fits l.readers l.seed) l.key_words l.value_words ≤ l.limit;
-  over : (items : ℕ) → l.over ≤ items → items ≤ most_chunks
+  over : (items : ℕ) → l.over ≤ items → items + spare_of l.readers ≤ most_chunks
       → l.limit < bytes_of (new_config items l.readers l.seed) l.key_words l.value_words;
 }
 

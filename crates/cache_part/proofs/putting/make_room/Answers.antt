@@ -49,7 +49,7 @@ returns g c =
         left = left;
         evicts = evicts.evicts;
         frees = frees.frees;
-        counts = frees.counts;
+        evictions = frees.evictions;
       };
       stay = room_stays items now at evicted before.book between.book seen left found.looks evicts.evicts frees.kept;
       told = told_same _ evicted c.args.told.now c.evict_where_full-evicted.new.told before.book.part seen.book.part

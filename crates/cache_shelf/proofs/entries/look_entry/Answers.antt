@@ -1,5 +1,3 @@
-use Rattle.cache_part.proofs.LookLemmas.{looks_keep}
-use Rattle.cache_shelf.specs.Entries.{OnlyReads}
 use Rattle.cache_shelf.proofs.Keeping.{at_told, moved_lawful}
 use Rattle.cache_shelf.proofs.Moving.{had_read, reads_move, reads_then}
 use Rattle.cache_shelf.proofs.Removing.{found_item}

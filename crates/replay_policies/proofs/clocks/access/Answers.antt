@@ -1,7 +1,7 @@
 use Rattle.std.proofs.Common.{◌≡◌, true, false, List, [], ◌∷◌, ◌++◌, length, sym, ap, ◌∙◌, arith}
 use Rattle.std.proofs.lemmas.List.{length-append}
 use Rattle.std.proofs.lemmas.Result.{err_from_is_err_and}
-use Rattle.replay_policies.specs.declared.queues.Entry.{Entry}
+use Rattle.replay_policies.specs.declared.entries.Entry.{Entry}
 use Rattle.replay_policies.specs.Clock.{with_room}
 use Rattle.replay_policies.specs.Entries.{asked, keys_in, new_entry}
 use Rattle.replay_policies.specs.Plain.{is_hit}

@@ -1,7 +1,7 @@
 use Rattle.std.proofs.Common.{◌≡◌, ℕ, ◌≤◌, length}
 use Rattle.replay_policies.specs.Clock.{after_eviction}
 use Rattle.replay_policies.specs.Entries.{total_uses}
-use Rattle.replay_policies.specs.Tables.{HasPlace}
+use Rattle.replay_policies.specs.Queues.{HasPlaces}
 use Rattle.replay_policies.proofs.clocks.evict.Given as goal
 
 abbrev pub invariant-loop-entry : goal.invariant-loop-entry
@@ -11,7 +11,7 @@ invariant-loop-entry l = record {
   second : l.queues.second ≡ l.initial.queues.second;
   first_room : l.queues.first_room ≡ l.initial.queues.first_room;
   second_room : l.queues.second_room ≡ l.initial.queues.second_room;
-  places : (key : ℕ) → HasPlace l.initial.queues.table key → HasPlace l.queues.table key;
+  places : (key : ℕ) → HasPlaces l.initial.queues key → HasPlaces l.queues key;
 }
 
 abbrev pub decreases-loop-entry : goal.decreases-loop-entry

@@ -1,6 +1,6 @@
 use Rattle.std.proofs.Common.{◌≡◌, ℕ, Bool, false, List, refl, sym, ap, ap₂, ◌∙◌, arith}
 use Rattle.std.proofs.lemmas.Result.{err_from_is_err_and}
-use Rattle.replay_policies.specs.declared.queues.Entry.{Entry}
+use Rattle.replay_policies.specs.declared.entries.Entry.{Entry}
 use Rattle.replay_policies.specs.Caches.{s3_of}
 use Rattle.replay_policies.specs.Ghosts.{ghost_keys}
 use Rattle.replay_policies.specs.Plain.{is_hit, keys_without}

@@ -1,6 +1,6 @@
 use Rattle.std.proofs.Common.{List, [], ◌∷◌, ◌++◌, length, sym, ap, ap₂, ◌∙◌, arith}
 use Rattle.std.proofs.lemmas.List.{length-append}
-use Rattle.replay_policies.specs.declared.queues.Entry.{Entry}
+use Rattle.replay_policies.specs.declared.entries.Entry.{Entry}
 use Rattle.replay_policies.specs.Entries.{keys_in, new_entry, times}
 use Rattle.replay_policies.specs.Ghosts.{ghost_keys}
 use Rattle.replay_policies.specs.S3Fifo.{after_small_evicts, main_share}

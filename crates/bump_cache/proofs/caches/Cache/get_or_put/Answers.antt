@@ -12,49 +12,49 @@ returns-clause-part g c =
     ap number_of c.note.ensures.to ∙ (c.logged.invariant.1 ∙ (guarded ∙ c.lock_of-guard.ensures))
 
 pub returns-clause-got : goal.returns-clause-got
-returns-clause-got g c = ok_known c.get_or_put-got.result (GetsOrPuts g.K.Packed.as_words g.V.Packed.as_words (goal.F-post g c.args.make) (g.K.Packed.as_words c.args.key.now)
+returns-clause-got g c = ok_known c.get_or_put-got.result (GetsOrPuts g.K.Packed.as_words g.V.Packed.as_words (λ value. goal.F-step g c.args.make.now value c.get_or_put-got.new.make) (g.K.Packed.as_words c.args.key.now)
     c.args.expires c.args.now) _ _ _ _ _
     (same_shelf (c.logged.invariant.0 ∙ sym c.note.ensures.from)) (same_shelf (sym c.note.ensures.to)) c.get_or_put-got.ensures.puts
     (λ did gets. got_then did _ _ _ _ (λ value finds. finds.had) (λ value evicted puts. tt) gets)
 
 pub returns-clause-unchanged : goal.returns-clause-unchanged
-returns-clause-unchanged g c = ok_known c.get_or_put-got.result (GetsOrPuts g.K.Packed.as_words g.V.Packed.as_words (goal.F-post g c.args.make) (g.K.Packed.as_words c.args.key.now)
+returns-clause-unchanged g c = ok_known c.get_or_put-got.result (GetsOrPuts g.K.Packed.as_words g.V.Packed.as_words (λ value. goal.F-step g c.args.make.now value c.get_or_put-got.new.make) (g.K.Packed.as_words c.args.key.now)
     c.args.expires c.args.now) _ _ _ _ _
     (same_shelf (c.logged.invariant.0 ∙ sym c.note.ensures.from)) (same_shelf (sym c.note.ensures.to)) c.get_or_put-got.ensures.puts
     (λ did gets. got_then did _ _ _ _ (λ value finds. finds.reads) (λ value evicted puts. tt) gets)
 
 pub returns-clause-made : goal.returns-clause-made
-returns-clause-made g c = ok_known c.get_or_put-got.result (GetsOrPuts g.K.Packed.as_words g.V.Packed.as_words (goal.F-post g c.args.make) (g.K.Packed.as_words c.args.key.now)
+returns-clause-made g c = ok_known c.get_or_put-got.result (GetsOrPuts g.K.Packed.as_words g.V.Packed.as_words (λ value. goal.F-step g c.args.make.now value c.get_or_put-got.new.make) (g.K.Packed.as_words c.args.key.now)
     c.args.expires c.args.now) _ _ _ _ _
     (same_shelf (c.logged.invariant.0 ∙ sym c.note.ensures.from)) (same_shelf (sym c.note.ensures.to)) c.get_or_put-got.ensures.puts
     (λ did gets. got_then did _ _ _ _ (λ value finds. tt) (λ value evicted puts. puts.0) gets)
 
 pub returns-clause-free : goal.returns-clause-free
-returns-clause-free g c = ok_known c.get_or_put-got.result (GetsOrPuts g.K.Packed.as_words g.V.Packed.as_words (goal.F-post g c.args.make) (g.K.Packed.as_words c.args.key.now)
+returns-clause-free g c = ok_known c.get_or_put-got.result (GetsOrPuts g.K.Packed.as_words g.V.Packed.as_words (λ value. goal.F-step g c.args.make.now value c.get_or_put-got.new.make) (g.K.Packed.as_words c.args.key.now)
     c.args.expires c.args.now) _ _ _ _ _
     (same_shelf (c.logged.invariant.0 ∙ sym c.note.ensures.from)) (same_shelf (sym c.note.ensures.to)) c.get_or_put-got.ensures.puts
     (λ did gets. got_then did _ _ _ _ (λ value finds. tt) (λ value evicted puts. puts.1.free) gets)
 
 pub returns-clause-kept : goal.returns-clause-kept
-returns-clause-kept g c = ok_known c.get_or_put-got.result (GetsOrPuts g.K.Packed.as_words g.V.Packed.as_words (goal.F-post g c.args.make) (g.K.Packed.as_words c.args.key.now)
+returns-clause-kept g c = ok_known c.get_or_put-got.result (GetsOrPuts g.K.Packed.as_words g.V.Packed.as_words (λ value. goal.F-step g c.args.make.now value c.get_or_put-got.new.make) (g.K.Packed.as_words c.args.key.now)
     c.args.expires c.args.now) _ _ _ _ _
     (same_shelf (c.logged.invariant.0 ∙ sym c.note.ensures.from)) (same_shelf (sym c.note.ensures.to)) c.get_or_put-got.ensures.puts
     (λ did gets. got_then did _ _ _ _ (λ value finds. tt) (λ value evicted puts. puts.1.kept) gets)
 
 pub returns-clause-evicted : goal.returns-clause-evicted
-returns-clause-evicted g c = ok_known c.get_or_put-got.result (GetsOrPuts g.K.Packed.as_words g.V.Packed.as_words (goal.F-post g c.args.make) (g.K.Packed.as_words c.args.key.now)
+returns-clause-evicted g c = ok_known c.get_or_put-got.result (GetsOrPuts g.K.Packed.as_words g.V.Packed.as_words (λ value. goal.F-step g c.args.make.now value c.get_or_put-got.new.make) (g.K.Packed.as_words c.args.key.now)
     c.args.expires c.args.now) _ _ _ _ _
     (same_shelf (c.logged.invariant.0 ∙ sym c.note.ensures.from)) (same_shelf (sym c.note.ensures.to)) c.get_or_put-got.ensures.puts
     (λ did gets. got_then did _ _ _ _ (λ value finds. tt) (λ value evicted puts. puts.1.told) gets)
 
 pub returns-clause-others : goal.returns-clause-others
-returns-clause-others g c = ok_known c.get_or_put-got.result (GetsOrPuts g.K.Packed.as_words g.V.Packed.as_words (goal.F-post g c.args.make) (g.K.Packed.as_words c.args.key.now)
+returns-clause-others g c = ok_known c.get_or_put-got.result (GetsOrPuts g.K.Packed.as_words g.V.Packed.as_words (λ value. goal.F-step g c.args.make.now value c.get_or_put-got.new.make) (g.K.Packed.as_words c.args.key.now)
     c.args.expires c.args.now) _ _ _ _ _
     (same_shelf (c.logged.invariant.0 ∙ sym c.note.ensures.from)) (same_shelf (sym c.note.ensures.to)) c.get_or_put-got.ensures.puts
     (λ did gets. got_then did _ _ _ _ (λ value finds. tt) (λ value evicted puts. puts.1.others) gets)
 
 pub returns-clause-puts : goal.returns-clause-puts
-returns-clause-puts g c = ok_known c.get_or_put-got.result (GetsOrPuts g.K.Packed.as_words g.V.Packed.as_words (goal.F-post g c.args.make) (g.K.Packed.as_words c.args.key.now)
+returns-clause-puts g c = ok_known c.get_or_put-got.result (GetsOrPuts g.K.Packed.as_words g.V.Packed.as_words (λ value. goal.F-step g c.args.make.now value c.get_or_put-got.new.make) (g.K.Packed.as_words c.args.key.now)
     c.args.expires c.args.now) _ _ _ _ _
     (same_shelf (c.logged.invariant.0 ∙ sym c.note.ensures.from)) (same_shelf (sym c.note.ensures.to)) c.get_or_put-got.ensures.puts
     (λ did gets. got_then did _ _ _ _ (λ value finds. tt) (λ value evicted puts. puts.1.puts) gets)

@@ -1,12 +1,31 @@
-use Rattle.std.proofs.Common.{suc, zero, refl, ◌∙◌}
+use Rattle.std.proofs.Common.{of_calls, suc, zero, refl, subst, ◌∙◌}
 use Rattle.bump_cache.proofs.caches.Cache.tend_until.Goals as goal
 
 pub loop-init : goal.loop-init
-loop-init g c = record { tends = (zero, refl); parts = refl }
+loop-init g c = record { callable = c.requires.callable; tends = (zero, (refl, refl)); parts = refl }
 
 pub loop-preserved : goal.loop-preserved
 loop-preserved g c =
     let so_far = c.loop.invariant in let did = c.tend.ensures in record {
-      tends = (suc so_far.tends.0, (c.loop.me, so_far.tends.1, (c.load-in-loop.result, did.tends)));
+      callable = search of_calls;
+      tends = (
+        suc so_far.tends.0,
+        (
+          c.loop.clock,
+          c.loop.me,
+          c.in-Some-clock.now,
+          so_far.tends.1,
+          subst (λ told. goal.F-step g c.loop.clock told c.clock.new.self) c.in-Some-clock.is c.clock.ensures,
+          did.tends,
+        ),
+      );
       parts = did.parts ∙ so_far.parts;
     }
+
+pub returns-in_default-clause-tends : goal.returns-in_default-clause-tends
+returns-in_default-clause-tends g c = let so_far = c.loop.invariant in record {
+  count = so_far.tends.0;
+  told = c.loop.clock;
+  tends = so_far.tends.1;
+  over = subst (λ told. goal.F-step g c.loop.clock told c.clock.new.self) c.in_default.is c.clock.ensures;
+}

@@ -26,3 +26,7 @@ returns-in-Err-clause-refuses g c =
     refuses_anew g.K.Packed.as_words g.V.Packed.as_words c.args.key.now c.args.now
     c.args.self.now c.look.new.self c.put.new.self
     c.look.ensures.reads c.in-Err.why (_, (_, had.1, had.2)) c.in-Err.ensures.refuses
+
+pub returns-in-Err-clause-called : goal.returns-in-Err-clause-called
+returns-in-Err-clause-called g c = let had = c.in-Some.ensures.had in
+    (c.in-Some.had, c.changed_by-changed.result, (_, had.1, had.2), c.changed_by-changed.ensures)

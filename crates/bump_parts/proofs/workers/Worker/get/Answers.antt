@@ -1,7 +1,7 @@
 use Rattle.std.proofs.Common.{Err, sym, ap, ◌∙◌, subst}
 use Rattle.bump_readers.specs.declared.views.WorkerView.{WorkerView}
 use Rattle.bump_steps.specs.declared.refusals.TakeRefusal.{TakeRefusal}
-use Rattle.bump_steps.specs.Tries.{refusal_of, steps_of, with_more}
+use Rattle.bump_steps.specs.Tries.{of_life, refusal_of, worker_after_asked}
 use Rattle.bump_parts.specs.Gets.{get_refusal}
 use Rattle.bump_parts.specs.StepCounts.{MakesAtMost}
 use Rattle.bump_parts.specs.Workers.{WorkerState}
@@ -25,11 +25,11 @@ returns-clause-got g c = λ near.
       t.1,
       record {
         found = t.2.found;
+        row = t.2.row;
         steps = ap (λ (v : WorkerView). record { part = v.part; sender = c.self.inside.sender }) t.2.steps
             ∙ ap (λ (s : WorkerState). record s {
-              part = with_more (steps_of c.args.heads.now.refs_limit id t.0 t.1) s.part;
+              part = worker_after_asked c.args.heads.now.refs_limit (of_life id) id.chunk t.0 t.1 t.2.row s.part;
             }) c.self.view_is;
-        row = t.2.row;
         answer = elim c.match-take.branch [
           | in-Ok w ↦ w.result-is ∙ got_hold id t.2.row o _ (sym w.in-Ok.is ∙ t.2.answer)
           | in-Err-Stale w ↦ w.result-is ∙ ap (λ (r : TakeRefusal). Err (get_refusal r)) (sym w.in-Err-Stale.field-0-is)

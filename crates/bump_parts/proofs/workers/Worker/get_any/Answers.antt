@@ -1,7 +1,7 @@
 use Rattle.std.proofs.Common.{Err, sym, ap, ◌∙◌, subst}
 use Rattle.bump_readers.specs.declared.views.WorkerView.{WorkerView}
 use Rattle.bump_steps.specs.declared.refusals.AnyRefusal.{AnyRefusal}
-use Rattle.bump_steps.specs.Tries.{of_any, last_found, asked_life, asked_refusal, asked_steps, with_more}
+use Rattle.bump_steps.specs.Tries.{of_any, last_found, asked_life, asked_refusal, worker_after_asked}
 use Rattle.bump_parts.specs.Gets.{get_any_refusal}
 use Rattle.bump_parts.specs.StepCounts.{MakesAtMost}
 use Rattle.bump_parts.specs.Workers.{WorkerState}
@@ -28,11 +28,11 @@ returns-clause-got g c = λ near.
       t.1,
       record {
         found = t.2.found;
+        row = t.2.row;
         steps = ap (λ (v : WorkerView). record { part = v.part; sender = c.self.inside.sender }) t.2.steps
             ∙ ap (λ (s : WorkerState). record s {
-              part = with_more (asked_steps limit of_any chunk t.0 t.1) s.part;
+              part = worker_after_asked limit of_any chunk t.0 t.1 t.2.row s.part;
             }) c.self.view_is;
-        row = t.2.row;
         answer = elim c.match-take_any.branch [
           | in-Ok w ↦ w.result-is ∙ got_any_hold l t.2.row last o _ _ (sym w.in-Ok.is ∙ t.2.answer)
           | in-Err-Gone w ↦ w.result-is ∙ ap (λ (r : AnyRefusal). Err (get_any_refusal r)) (sym w.in-Err-Gone.field-0-is)

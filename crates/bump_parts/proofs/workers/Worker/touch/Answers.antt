@@ -31,6 +31,17 @@ returns-clause-few g c =
     touch_makes c.args.heads.now.refs_limit l now f (length c.self.inside.sender.sent) answered _ _ m.answer
     (λ e. (m.findings.looks e).most) steps
 
+pub returns-clause-taken : goal.returns-clause-taken
+returns-clause-taken g c =
+    let l = c.life-life.result in
+    let now = c.args.now in
+    let answered = c.hit-touch.result in
+    let f = c.hit-touch.ensures.hit.0 in
+    let m = c.hit-touch.ensures.hit.1 in
+    let part = ap (λ (v : WorkerView). v.part) c.hold_out.ensures.worker ∙ ap (λ (v : WorkerView). v.part) m.part
+    ∙ ap (λ (v : WorkerView). touched_part answered l now f v.part) c.hold_in.ensures.worker in
+    ap (λ (p : WorkerPart). p.taken) part ∙ ap (λ (w : WorkerState). w.part.taken) c.self.view_is
+
 pub returns-then-attempted-ge-MOST_ATTEMPTS-clause-exhausted : goal.returns-then-attempted-ge-MOST_ATTEMPTS-clause-exhausted
 returns-then-attempted-ge-MOST_ATTEMPTS-clause-exhausted g c = λ _. (refl, refl)
 

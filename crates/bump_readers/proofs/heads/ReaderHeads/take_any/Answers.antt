@@ -39,11 +39,11 @@ returns-in-Err-clause-took g c = let t = c.take_any.ensures.told in
       subst (λ (n : ℕ). TookAny n c.args.chunk c.args.worker.now (worker_in c.take_any.new.seat.me.0)
           (Err c.in-Err.refusal) t.0 t.1) same record {
             found = t.4;
+            row = t.2;
             steps = refused_view g.N.Name.table c.worker.inside.worker c.worker.inside.seat.table_id
                 c.take_any.new.seat.table_id c.worker.inside.seat.me
                 c.take_any.new.seat.me c.args.worker.now c.worker.invariant (cc c.worker.view_is)
                 c.take_any.ensures.same.0 limit of_any c.args.chunk t.0 t.1 t.2 why.0 c.requires.alone t.5 why.1;
-            row = t.2;
             answer = ap Err why.2
                 ∙ ap (λ (o : Option TakeRefusal). take_any_answer o (asked_life of_any c.args.chunk t.0 t.1) t.2
                 (last_found t.0 t.1)) (sym why.1);
@@ -117,12 +117,12 @@ returns-clause-took g c = let t = c.take_any.ensures.told in
       subst (λ (n : ℕ). TookAny n c.args.chunk c.args.worker.now (worker_in c.part_holds-part.new.seat.me.0)
           (Ok (record { life = l; part = hold_in_views c.into_badge.result.views }, k)) t.0 t.1) same record {
             found = t.4;
+            row = t.2;
             steps = held_view g.N.Name.table c.worker.inside.worker c.worker.inside.seat.table_id
                 c.part_holds-part.new.seat.table_id c.worker.inside.seat.me
                 c.part_holds-part.new.seat.me c.args.worker.now c.worker.invariant (cc c.worker.view_is)
                 (c.part_holds-part.ensures.same.0 ∙ c.take_any.ensures.same.0) limit of_any c.args.chunk t.0 t.1 t.2
                 c.take_any.new.seat.me c.requires.alone t.5 c.part_holds-part.ensures.parts.0;
-            row = t.2;
             answer = answer;
           },
     )

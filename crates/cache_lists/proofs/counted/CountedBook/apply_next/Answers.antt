@@ -17,8 +17,9 @@ returns-clause-applies g c =
     c.apply_next-applied.new.lane) c.self.view_is (record {
       items = did.items;
       ring = did.ring;
-      front = did.front;
+      applies = did.applies;
       grown = did.applied;
       none = did.none;
       kept = did.kept;
+      looks = did.looks;
     })

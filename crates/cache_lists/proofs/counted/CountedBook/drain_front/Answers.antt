@@ -7,10 +7,8 @@ pub loop-applied-preserved : goal.loop-applied-preserved
 loop-applied-preserved g c =
     let so_far = c.loop-applied.invariant in let did = c.apply_next.ensures in let once = c.in-Some.ensures.applies in record {
       applies = applies_more _ _ _ _ _ _ _ _ so_far.applies (record {
-        seen = once.front.0;
-        carrying = once.front.1;
         answer = c.in-Some.field-0;
-        front = once.front.2;
+        applies = once.applies;
         grown = once.grown;
         items = once.items;
       });
@@ -46,7 +44,7 @@ returns-in_default-clause-drains g c =
       between = c.loop-applied.self.book;
       half = c.loop-applied.lane;
       applies = did.applies;
-      ends = inr (record { none = none.none; kept = none.kept; items = none.items });
+      ends = inr (record { none = none.none; kept = none.kept; items = none.items; looks = none.looks });
       grown = ap length none.kept ∙ did.grown;
       ring = none.ring ∙ did.ring;
     }

@@ -14,6 +14,6 @@ returns-in_default-clause-none c =
     let most = c.most_items.ensures in let in_use : 1 ≤ c.most_items.result = omega (arith, c.in_default) in (
       λ no. absurd (let u : ⊥ = cc no in u),
       λ why. absurd (room_for_one c.most_items.result c.args.limit c.args.readers c.args.seed c.args.key_words
-          c.args.value_words in_use most.few (omega (arith, c.if-readers-lt1.false))
+          c.args.value_words in_use (omega (arith, c.if-readers-lt1.false))
           (omega (arith, c.if-readers-gt64.false)) (most.fits in_use) why),
     )

@@ -6,7 +6,8 @@ use Rattle.cache_lists.specs.Linked.{linked_at}
 use Rattle.cache_nests.specs.Views.{IndexView}
 use Rattle.cache_part.specs.Keys.{value_at, HasKey}
 use Rattle.cache_part.specs.Parts.{IsItem, IsPart, counted}
-use Rattle.cache_part.specs.Putting.{MakesRoom, Puts, OthersStay, TellsRow, WasAnother, IsFresh}
+use Rattle.cache_part.specs.Putting.{FindsNone, MakesRoom, Puts, OthersStay, TellsRow, WasAnother, IsFresh}
+use Rattle.cache_part.proofs.HeldLemmas.{finds_none}
 use Rattle.cache_part.proofs.LinkLemmas.{part_linked, links_class, links_under, links_row, links_value, links_ended, links_stay, stay_then, gone_then, first_fact}
 use Rattle.cache_part.proofs.PartLemmas.{class_then, cursor_kept, first_kept, item_linked}
 use Rattle.cache_part.proofs.ViewLemmas.{both_stay}
@@ -63,7 +64,10 @@ returns-in_default g c =
     let from = c.args.evicted.now in let to = c.make_room-room.new.told in
     let none = c.in_default.ensures in let left = c.link.new.lists in
     let row = c.args.row.now in
-    let R : CountedView → Type 0 = λ v. MakesRoom inside.items c.args.now at evicted before v in
+    let lanes = c.args.lanes.now in let drained = c.make_room-room.new.lanes in let most = c.args.most in
+    let R : CountedView → Type 0 = λ v. MakesRoom inside.items c.args.now at evicted most before lanes v drained in
+    let full : first_of left.book.lists.unused ≡ None =
+    ap (λ (v : CountedView). first_of v.book.lists.unused) none.none ∙ none.free in
     let S : CountedView → Type 0 = λ v. OthersStay None None evicted before.book v.book in
     let T : CountedView → Type 0 = λ v. IfSome evicted (λ c. linked_at v.book.part c ≡ None) in
     record {
@@ -79,10 +83,14 @@ returns-in_default g c =
       was = tt;
       gone = tt;
       fresh = tt;
-      no_room = ap (λ (v : CountedView). first_of v.book.lists.unused) none.none ∙ none.free;
+      no_room = full;
       room = subst (λ v. (old : Option ℕ) × IsItem (take v.key_words row) old v
-          × MakesRoom v.items c.args.now old evicted (counted v) left) same
-          (at, made.was, subst R (sym none.none) made.room);
+          × FindsNone v.items c.args.now old evicted most (counted v) lanes left drained) same (
+            at,
+            made.was,
+            finds_none inside.items c.args.now at evicted most before lanes left drained (subst R (sym none.none) made.room)
+                full c.promise.ensures.book,
+          );
       stay = subst (λ v. OthersStay None None evicted v.book left.book) same (subst S (sym none.none) made.stay);
       told_refused = subst (λ v. TellsRow evicted from to v) same made.told;
       was_refused = subst (λ v. IfSome evicted (λ c. IsSome (linked_at v.book.part c))) same
@@ -133,14 +141,15 @@ returns g c =
       ended = links_ended inside.temporary at row expires now id between.book left.book did.links;
       others = subst (λ v. OthersStay (Some id.chunk) at evicted v.book left.book) same
           (stay_then (Some id.chunk) at evicted before.book between.book left.book made.stay stays);
-      puts = subst (λ v. Puts v.items v.temporary at evicted row expires now id.chunk (counted v) left) same (record {
-        between = between;
-        room = made.room;
-        item = id;
-        at = refl;
-        links = did.links;
-        evictions = did.evictions;
-      });
+      puts = subst (λ v. Puts v.items v.temporary at evicted row expires now id.chunk c.args.most (counted v)
+          c.args.lanes.now left c.make_room-room.new.lanes) same (record {
+            between = between;
+            room = made.room;
+            item = id;
+            at = refl;
+            links = did.links;
+            evictions = did.evictions;
+          });
       row = links_row inside.temporary at row expires now id between.book left.book did.links;
       length = search rules;
       told = subst (λ v. TellsRow evicted from to v) same made.told;

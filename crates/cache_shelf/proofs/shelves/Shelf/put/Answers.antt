@@ -1,8 +1,7 @@
-use Rattle.std.proofs.Common.{ap, rules, subst, take}
-use Rattle.cache_shelf.specs.Entries.{FindsNoRoom}
-use Rattle.cache_shelf.specs.Limits.{put_bumps}
+use Rattle.std.proofs.Common.{ap, refl, rules, subst, take}
+use Rattle.cache_shelf.specs.Entries.{FindsNoRoom, PutsEntry}
 use Rattle.cache_shelf.proofs.Keeping.{moved_lawful, where_err, where_ok}
-use Rattle.cache_shelf.proofs.Moving.{all_in_turn, drain_moves, drains_whole, evicted_in_turn, had_in_turn, in_turn, kept_in_turn, only_move, others_in_turn}
+use Rattle.cache_shelf.proofs.Moving.{all_in_turn, drain_moves, evicted_in_turn, had_in_turn, in_turn, kept_in_turn, only_move, others_in_turn}
 use Rattle.cache_shelf.proofs.shelves.Shelf.put.Goals as goal
 
 pub put_entry-put-requires : goal.put_entry-put-requires
@@ -55,10 +54,10 @@ pub returns-clause-puts : goal.returns-clause-puts
 returns-clause-puts g c =
     let moves = drain_moves _ _ c.drain.new.self c.self.view_is c.drain.ensures.items c.drain.ensures.rest in
     where_ok c.put_entry-put.result _ _ (λ did puts.
-    in_turn _ c.args.now _ _ c.drain.new.self c.put_entry-put.new.part _ c.self.view_is
-    (drains_whole put_bumps c.args.now c.self.inside.part.book c.drain.new.self.book c.self.inside.lanes.items _ _
-    c.self.inside.lanes.len c.drain.ensures.drains c.deref_mut.ensures.value c.drain.auto.lanes c.deref_mut.ensures.len)
-    moves puts c.take_turn-self-inside.ensures.turn) c.put_entry-put.ensures.puts
+    in_turn (PutsEntry did.old did.evicted c.args.row.now c.args.expires c.args.now did.chunk) c.args.now _ _
+    c.drain.new.self c.put_entry-put.new.part _ c.drain.new.lanes c.put_entry-put.new.lanes c.self.inside.lanes.len _
+    c.self.view_is c.deref_mut-lanes.ensures.value c.drain.auto.lanes c.put_entry-put.auto.lanes c.deref_mut-lanes.ensures.len refl
+    c.drain.ensures.drains moves puts c.take_turn-self-inside.ensures.turn) c.put_entry-put.ensures.puts
 
 pub returns-clause-evicted_refused : goal.returns-clause-evicted_refused
 returns-clause-evicted_refused g c =
@@ -77,9 +76,10 @@ pub returns-clause-refuses : goal.returns-clause-refuses
 returns-clause-refuses g c =
     let moves = drain_moves _ _ c.drain.new.self c.self.view_is c.drain.ensures.items c.drain.ensures.rest in
     where_err c.put_entry-put.result _ _ (λ why refuses.
-    in_turn _ c.args.now _ _ c.drain.new.self c.put_entry-put.new.part _ c.self.view_is
-    (drains_whole put_bumps c.args.now c.self.inside.part.book c.drain.new.self.book c.self.inside.lanes.items _ _
-    c.self.inside.lanes.len c.drain.ensures.drains c.deref_mut.ensures.value c.drain.auto.lanes c.deref_mut.ensures.len)
-    moves
-    (subst (λ n. FindsNoRoom (take n c.args.row.now) why.evicted c.args.now c.drain.new.self c.put_entry-put.new.part)
-    (ap (λ p. p.key_words) moves.rest) refuses) c.take_turn-self-inside.ensures.turn) c.put_entry-put.ensures.refuses
+    in_turn (FindsNoRoom (take c.args.self.now.part.key_words c.args.row.now) why.evicted c.args.now) c.args.now _ _
+    c.drain.new.self c.put_entry-put.new.part _ c.drain.new.lanes c.put_entry-put.new.lanes c.self.inside.lanes.len _
+    c.self.view_is c.deref_mut-lanes.ensures.value c.drain.auto.lanes c.put_entry-put.auto.lanes c.deref_mut-lanes.ensures.len refl
+    c.drain.ensures.drains moves
+    (subst (λ n. FindsNoRoom (take n c.args.row.now) why.evicted c.args.now c.self.inside.limits.most c.drain.new.self
+    c.drain.new.lanes c.put_entry-put.new.part c.put_entry-put.new.lanes) (ap (λ p. p.key_words) moves.rest) refuses)
+    c.take_turn-self-inside.ensures.turn) c.put_entry-put.ensures.refuses

@@ -1,6 +1,6 @@
 use Rattle.std.proofs.Common.{reverse, sym, ◌∙◌, arith}
 use Rattle.std.proofs.lemmas.List.{length-map, length-reverse}
-use Rattle.replay_policies.specs.declared.queues.Entry.{Entry}
+use Rattle.replay_policies.specs.declared.entries.Entry.{Entry}
 use Rattle.replay_policies.specs.Entries.{keys_in}
 use Rattle.replay_policies.specs.Queues.{all_keys}
 use Rattle.replay_policies.proofs.EntryLemmas.{distinct_from_times, times-reverse}

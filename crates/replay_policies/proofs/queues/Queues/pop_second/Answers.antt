@@ -1,35 +1,7 @@
-use Rattle.std.proofs.Common.{◌<◌, ◌↔◌, length, IsSome, sym, ap, subst, ◌∙◌}
-use Rattle.replay_policies.specs.Queues.{QueuesView}
-use Rattle.replay_policies.proofs.EntryLemmas.{length-entries_from}
-use Rattle.replay_policies.proofs.QueueLemmas.{pops-from, IsQueues-swap, gone-turned}
+use Rattle.replay_policies.proofs.QueueLemmas.{gone-second}
 use Rattle.replay_policies.proofs.queues.Queues.pop_second.Goals as goal
-
-pub returns-clause-second : goal.returns-clause-second
-returns-clause-second c =
-    let q = c.self.inside in
-    let turned = IsQueues-swap q.first.keys q.second.keys q.table c.self.invariant in
-    let popped = pops-from q.table c.take.new.table c.take.result q.second.keys c.take.new.line.keys q.first.keys
-    turned c.take.ensures.keys c.take.ensures.uses c.take.ensures.numbers in
-    sym (ap (λ (v : QueuesView). v.second) c.self.view_is) ∙ popped.front
-
-pub returns-clause-first : goal.returns-clause-first
-returns-clause-first c =
-    let q = c.self.inside in
-    let turned = IsQueues-swap q.first.keys q.second.keys q.table c.self.invariant in
-    let popped = pops-from q.table c.take.new.table c.take.result q.second.keys c.take.new.line.keys q.first.keys
-    turned c.take.ensures.keys c.take.ensures.uses c.take.ensures.numbers in
-    popped.others ∙ ap (λ (v : QueuesView). v.first) c.self.view_is
 
 pub returns-clause-gone : goal.returns-clause-gone
 returns-clause-gone c =
     let q = c.self.inside in
-    let turned = IsQueues-swap q.first.keys q.second.keys q.table c.self.invariant in
-    let popped = pops-from q.table c.take.new.table c.take.result q.second.keys c.take.new.line.keys q.first.keys
-    turned c.take.ensures.keys c.take.ensures.uses c.take.ensures.numbers in
-    gone-turned c.take.new.table c.take.result c.take.new.line.keys q.first.keys popped.gone
-
-pub returns-clause-found : goal.returns-clause-found
-returns-clause-found c =
-    let q = c.self.inside in
-    subst (λ (v : QueuesView). IsSome c.take.result ↔ (0 < length v.second)) c.self.view_is
-    (subst (λ n. IsSome c.take.result ↔ (0 < n)) (sym (length-entries_from q.table q.second.keys)) c.take.ensures.found)
+    gone-second c.pop.result q.first.entries q.second.entries c.pop.new.self.entries c.pop.ensures.entries c.self.invariant.once

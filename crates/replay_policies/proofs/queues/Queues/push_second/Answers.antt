@@ -1,41 +1,30 @@
-use Rattle.std.proofs.Common.{◌≡◌, [], ◌∷◌, ◌++◌, sym, ap, subst, ◌∙◌}
-use Rattle.replay_policies.specs.Entries.{times}
+use Rattle.std.proofs.Common.{◌≡◌, ◌+◌, ◌<◌, ◌≤◌, List, sym, ap, subst, ◌∙◌, arith}
+use Rattle.replay_policies.specs.declared.entries.Entry.{Entry}
+use Rattle.replay_policies.specs.Entries.{keys_in, times}
 use Rattle.replay_policies.specs.Plain.{is_hit}
-use Rattle.replay_policies.specs.Queues.{QueuesView, IsQueues, all_keys, entries_from}
-use Rattle.replay_policies.proofs.QueueLemmas.{absent-view, absent-turned, IsQueues-swap, IsQueues-more, first-more, second-more}
+use Rattle.replay_policies.specs.Queues.{HasPlaces, QueuesView, all_keys, queues_view}
+use Rattle.replay_policies.proofs.QueueLemmas.{absent-both, once-pushed, placed-pushed}
 use Rattle.replay_policies.proofs.queues.Queues.push_second.Goals as goal
 
 pub invariant_of-self : goal.invariant_of-self
 invariant_of-self c =
     let q = c.self.inside in
     let e = c.args.entry in
-    let turned = IsQueues-swap q.first.keys q.second.keys q.table c.self.invariant in
-    let absent : times e.key (q.second.keys ++ q.first.keys) ≡ 0 =
-    absent-turned q.first.keys q.second.keys e.key (absent-view q.first.keys q.second.keys q.table e.key
-    (ap (λ (v : QueuesView). is_hit e.key (all_keys v)) c.self.view_is ∙ c.requires.new)) in
-    subst (λ keys. IsQueues q.first.keys keys c.set.new.self) (sym c.push.ensures.keys)
-    (IsQueues-swap (q.second.keys ++ e.key ∷ []) q.first.keys c.set.new.self
-    (IsQueues-more q.table c.set.new.self e.key e.uses q.second.keys q.first.keys turned absent c.set.ensures.numbers))
-
-pub returns-clause-second : goal.returns-clause-second
-returns-clause-second c =
-    let q = c.self.inside in
-    let e = c.args.entry in
-    let turned = IsQueues-swap q.first.keys q.second.keys q.table c.self.invariant in
-    let absent : times e.key (q.second.keys ++ q.first.keys) ≡ 0 =
-    absent-turned q.first.keys q.second.keys e.key (absent-view q.first.keys q.second.keys q.table e.key
-    (ap (λ (v : QueuesView). is_hit e.key (all_keys v)) c.self.view_is ∙ c.requires.new)) in
-    ap (entries_from c.set.new.self) c.push.ensures.keys
-    ∙ first-more q.table c.set.new.self e.key e.uses q.second.keys q.first.keys turned absent c.set.ensures.numbers
-    ∙ ap (λ (v : QueuesView). v.second ++ e ∷ []) c.self.view_is
-
-pub returns-clause-first : goal.returns-clause-first
-returns-clause-first c =
-    let q = c.self.inside in
-    let e = c.args.entry in
-    let turned = IsQueues-swap q.first.keys q.second.keys q.table c.self.invariant in
-    let absent : times e.key (q.second.keys ++ q.first.keys) ≡ 0 =
-    absent-turned q.first.keys q.second.keys e.key (absent-view q.first.keys q.second.keys q.table e.key
-    (ap (λ (v : QueuesView). is_hit e.key (all_keys v)) c.self.view_is ∙ c.requires.new)) in
-    second-more q.table c.set.new.self e.key e.uses q.second.keys q.first.keys turned absent c.set.ensures.numbers
-    ∙ ap (λ (v : QueuesView). v.first) c.self.view_is
+    let none = absent-both e.key q.first.entries q.second.entries
+    (ap (λ (v : QueuesView). is_hit e.key (all_keys v)) c.self.view_is ∙ c.requires.new) in
+    let absent : times e.key (keys_in q.second.entries) + times e.key (keys_in q.first.entries) ≡ 0 = omega (arith, none) in
+    let here : HasPlaces (queues_view q.first q.second) e.key =
+    subst (λ (v : QueuesView). HasPlaces v e.key) (sym c.self.view_is) c.requires.place in
+    record {
+      once = λ k.
+          let o = subst (λ (es : List Entry). times k (keys_in es) + times k (keys_in q.first.entries) ≤ 1) (sym c.push.ensures.entries)
+          (once-pushed e q.second.entries q.first.entries absent (λ n. let w = c.self.invariant.once n in omega (arith, w)) k) in
+          omega (arith, o);
+      placed = λ k among.
+          let turned : 0 < times k (keys_in c.push.new.self.entries) + times k (keys_in q.first.entries) = omega (arith, among) in
+          let was : HasPlaces (queues_view q.first q.second) k =
+          placed-pushed e q.second.entries q.first.entries absent (HasPlaces (queues_view q.first q.second)) here
+          (λ n some. c.self.invariant.placed n (omega (arith, some))) k
+          (subst (λ (es : List Entry). 0 < times k (keys_in es) + times k (keys_in q.first.entries)) c.push.ensures.entries turned) in
+          record { first = was.first; second = c.push.ensures.places k was.second };
+    }

@@ -1,0 +1,242 @@
+//! Keys that are there can be put anew at any time, whatever readers hold and whatever waits in their rings; and one that
+//! is held by more than the configuration says keeps what it had.
+ghost use Rattle.std.specs.Prelude.{◌≡◌};
+
+use crate::stands::{Changer, Entry, SEED};
+use bump_cache::{
+    Cache, CacheBlank, CacheConfig, CacheFault, CacheReader, HeldItem, LogName, Name, Opened, open,
+};
+use std::alloc::Global;
+use std::marker::Brand;
+use std::process::Abort;
+use std::sync::Wait;
+use std::test::Fail;
+
+// The most items of a small cache.
+const MOST_ITEMS: u32 = 20;
+
+// A ring has room for so many bumps: more than the 16 of each reader that a put applies in any case.
+const RING: u32 = 32;
+
+// Each key is put anew so many times.
+const TIMES: u64 = 3;
+
+// A small cache, and whoever changes it.
+#[derive(Drop)]
+struct Small<N: Name + LogName> {
+    cache: Cache<N, u64, u64>,
+    changer: Changer<N>,
+    refused: u64,
+}
+
+impl<N: Name + LogName> Small<N> {
+    // Puts a value under a key, and counts whether that was refused.
+    fn put<W: Wait>(&mut self, rt: &W, key: u64, value: u64) {
+        let entry = Entry { key, value };
+        if self.changer.put(rt, &self.cache, &entry, 1).is_err() {
+            self.refused = self.refused.saturating_add(1);
+        }
+    }
+
+    // Puts each key anew that a reader finds, and one that wasn't there.
+    fn put_all<W: Wait>(&mut self, rt: &W, keys: &[u64], times: u64) {
+        for time in 0..times {
+            for key in keys {
+                self.put(rt, *key, time.saturating_add(2));
+            }
+        }
+    }
+}
+
+// The keys below this that have something.
+fn keys_there<N: Name + LogName>(
+    alloc: Global,
+    reader: &mut CacheReader<N, u64, u64>,
+    most: u64,
+) -> Result<Vec<u64>, Fail> {
+    let mut keys = Vec::new(alloc);
+    for key in 0..most {
+        if reader.contains(&key, 1) {
+            keys.push(key)?;
+        }
+    }
+    Ok(keys)
+}
+
+// Each reader gets each of these keys twice, so that bumps wait in its rings.
+fn get_all<N: Name + LogName>(readers: &mut [CacheReader<N, u64, u64>], keys: &[u64]) {
+    for reader in readers {
+        for key in keys {
+            reader.get(key, 1);
+            reader.get(key, 1);
+        }
+    }
+}
+
+// A small cache of this configuration is filled, with more keys than it has items; bumps wait, and each reader holds an
+// item. How many puts of keys that are there were refused.
+fn run<N: Name + LogName, R: Wait + Abort>(
+    rt: &R,
+    alloc: Global,
+    blank: CacheBlank<u64, u64>,
+    items: u64,
+) -> Result<u64, Fail>
+    requires table { blank.table ≡ N.table }
+    requires book { blank.log.book ≡ N.book }
+    requires name { blank.log.name ≡ N.name }
+    requires parts { blank.log.parts ≡ N.parts }
+{
+    let Opened {
+        cache,
+        caller,
+        mut readers,
+    } = open::<N, u64, u64, R>(alloc, rt, blank)?;
+    let mut small = Small {
+        cache,
+        changer: Changer::new(caller),
+        refused: 0,
+    };
+    let most = items.saturating_mul(4);
+    for key in 0..most {
+        small.put(rt, key, 1);
+    }
+    let Some(reader) = readers.first_mut() else {
+        panic!(rt; "there is a reader")
+    };
+    let keys = keys_there(alloc, reader, most)?;
+    assert!(rt; !keys.is_empty());
+    get_all(&mut readers, &keys);
+    small.put_all(rt, &keys, TIMES);
+    get_all(&mut readers, &keys);
+    let mut held: Vec<HeldItem<'_, N, u64, u64>> = Vec::new(alloc);
+    for (place, reader) in readers.iter_mut().enumerate() {
+        let key = keys[place % keys.len()];
+        if let Some(item) = reader.get_with(&key, 1) {
+            held.push(item)?;
+        }
+    }
+    small.put_all(rt, &keys, TIMES);
+    for key in most..most.saturating_add(items) {
+        small.put(rt, key, 1);
+    }
+    drop(held);
+    Ok(small.refused)
+}
+
+// How many puts of keys that are there are refused in a cache of so many items, parts and readers.
+fn refused_in<W: Wait + Abort>(
+    rt: &W,
+    alloc: Global,
+    items: u32,
+    parts: u32,
+    readers: u32,
+) -> Result<u64, Fail> {
+    let config = CacheConfig {
+        parts,
+        ring: RING,
+        ..CacheConfig::new(items, readers, SEED)
+    };
+    let blank = CacheBlank::<u64, u64>::new(alloc, &config)?;
+    run::<Brand, W>(rt, alloc, blank, u64::from(items))
+}
+
+#[test]
+fn a_key_that_is_there_can_be_put(rt: HostRuntime) -> Result<(), Fail> {
+    let alloc = rt.alloc();
+    for items in 1..MOST_ITEMS + 1 {
+        for parts in 1..items.min(16) + 1 {
+            for readers in [1, 2, 64 / parts] {
+                let refused = refused_in(&rt, alloc, items, parts, readers)?;
+                assert_eq!(rt;
+                    refused,
+                    0,
+                    "{items} items, {parts} parts, {readers} readers"
+                );
+            }
+        }
+    }
+    assert_eq!(rt; refused_in(&rt, alloc, 100, 4, 1)?, 0);
+    Ok(())
+}
+
+// In a cache of one item and one spare chunk for two readers one holds an item that the key had: as many as there are
+// spare chunks. Then the key can't be put, and keeps what it has, until the item is given back.
+fn hold_too_much<N: Name + LogName, R: Wait + Abort>(
+    rt: &R,
+    alloc: Global,
+    blank: CacheBlank<u64, u64>,
+) -> Result<(), Fail>
+    requires table { blank.table ≡ N.table }
+    requires book { blank.log.book ≡ N.book }
+    requires name { blank.log.name ≡ N.name }
+    requires parts { blank.log.parts ≡ N.parts }
+{
+    let Opened {
+        cache,
+        caller,
+        mut readers,
+    } = open::<N, u64, u64, R>(alloc, rt, blank)?;
+    let mut small = Small {
+        cache,
+        changer: Changer::new(caller),
+        refused: 0,
+    };
+    let [one, other] = &mut readers[..] else {
+        panic!(rt; "there are two readers")
+    };
+    small.put(rt, 1, 10);
+    let Some(mut first) = one.get_with(&1, 1) else {
+        panic!(rt; "the key has a value")
+    };
+    small.put(rt, 1, 11);
+    assert_eq!(rt; small.refused, 0);
+    small.put(rt, 1, 12);
+    assert_eq!(rt; small.refused, 1);
+    assert_eq!(rt; other.get(&1, 1), Some(11));
+    assert_eq!(rt; first.value(), 10);
+    drop(first);
+    small.put(rt, 1, 13);
+    assert_eq!(rt; small.refused, 1);
+    assert_eq!(rt; other.get(&1, 1), Some(13));
+    Ok(())
+}
+
+#[test]
+fn a_key_of_which_too_much_is_held_keeps_its_value(rt: HostRuntime) -> Result<(), Fail> {
+    let alloc = rt.alloc();
+    let config = CacheConfig {
+        spare: 1,
+        ..CacheConfig::new(1, 2, SEED)
+    };
+    let blank = CacheBlank::<u64, u64>::new(alloc, &config)?;
+    hold_too_much::<Brand, _>(&rt, alloc, blank)
+}
+
+// The fault of so many items, parts and readers, as `CacheConfig::new` has the rest.
+fn fault_of(items: u32, parts: u32, readers: u32) -> Option<CacheFault> {
+    let config = CacheConfig {
+        parts,
+        ..CacheConfig::new(items, readers, SEED)
+    };
+    config.fault()
+}
+
+#[test]
+fn a_part_has_a_spare_chunk(rt: HostRuntime) {
+    for parts in [1, 2, 16] {
+        for readers in 1..64 / parts + 1 {
+            let most = 1_000_000 - parts * (readers + 1);
+            assert_eq!(rt; fault_of(most, parts, readers), None);
+            assert_eq!(rt; fault_of(most + 1, parts, readers), Some(CacheFault::Spare));
+            assert_eq!(rt;
+                fault_of(1_000_000, parts, readers),
+                Some(CacheFault::Spare)
+            );
+        }
+    }
+    let none = CacheConfig {
+        spare: 0,
+        ..CacheConfig::new(10, 1, SEED)
+    };
+    assert_eq!(rt; none.fault(), Some(CacheFault::Spare));
+}
