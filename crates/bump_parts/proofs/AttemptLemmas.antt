@@ -192,7 +192,7 @@ module _ (limit : ℕ) (l : ItemId) (v rode_off came_back gave : WorkerView) (fi
 
   pub full : (x : WorkerView) (s t : SenderView) (cleared : Head) → IsHeadOf l given → IsHeadOf l cleared
       → cleared.fetched ≡ true → x ≡ record gave { part = worker_after_unmark l cleared gave.part }
-      → t ≡ s → s.capacity ≤ length s.sent → (f : Findings) × Attempted limit l v x s t (touch.Dropped dropped.Full) f
+      → t ≡ s → s.shown + s.capacity ≤ length s.sent → (f : Findings) × Attempted limit l v x s t (touch.Dropped dropped.Full) f
   full x s t cleared given_head cleared_head fetched cleared_by same room =
       let f : Findings = found_by first more Unknown given cleared in (
         f,

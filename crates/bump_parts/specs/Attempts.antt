@@ -1,5 +1,5 @@
 -- The parts of a touch, made while the hold is joined to the worker's seat.
-use Rattle.std.specs.Prelude.{◌≡◌, ℕ, ◌≤◌, true, ◌++◌, length}
+use Rattle.std.specs.Prelude.{◌≡◌, ℕ, ◌+◌, ◌≤◌, true, ◌++◌, length}
 use Rattle.bump_rules.specs.declared.hands.Hand.TheVariants.{Idle}
 use Rattle.bump_rules.specs.declared.items.ItemId.{ItemId}
 use Rattle.bump_rules.specs.declared.commands.Dropped.{Dropped}
@@ -35,7 +35,7 @@ pub record Attempted (limit : ℕ) (item : ItemId) (before after : WorkerView) (
   pub back : answered ≡ touch.Dropped Full → IsHeadOf item found.back
   pub cleared : (why : Dropped) → answered ≡ touch.Dropped why → IsHeadOf item found.cleared
   pub fetched : (why : Dropped) → answered ≡ touch.Dropped why → found.cleared.fetched ≡ true
-  pub room : found.room ≡ Unknown → sender_before.capacity ≤ length sender_before.sent
+  pub room : found.room ≡ Unknown → sender_before.shown + sender_before.capacity ≤ length sender_before.sent
   pub answer : answered ≡ attempted_of (why_dropped limit found) (length sender_before.sent)
   pub part : after ≡ record before { part = attempted_part answered item found before.part }
   pub sender : sender_after ≡ offered answered item before sender_before
@@ -44,7 +44,7 @@ pub record Attempted (limit : ℕ) (item : ItemId) (before after : WorkerView) (
 pub record Hit (limit : ℕ) (item : ItemId) (now : ℕ) (before after : WorkerView)
     (sender_before sender_after : SenderView) (answered : Touch) (found : Findings) : Type 0 where
   pub findings : AreFindings limit item answered found
-  pub room : found.room ≡ Unknown → sender_before.capacity ≤ length sender_before.sent
+  pub room : found.room ≡ Unknown → sender_before.shown + sender_before.capacity ≤ length sender_before.sent
   pub answer : answered ≡ touch_answer limit found (length sender_before.sent)
   pub part : after ≡ record before { part = touched_part answered item now found before.part }
   pub sender : sender_after ≡ offered answered item before sender_before

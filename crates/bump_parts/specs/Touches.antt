@@ -1,5 +1,5 @@
 -- A touch: what it answers by the words that its own steps found, which steps it makes, and what it leaves.
-use Rattle.std.specs.Prelude.{◌≡◌, ℕ, ◌<◌, ◌≤◌, Bool, true, false, List, [], ◌∷◌, ◌++◌, length, Option, None}
+use Rattle.std.specs.Prelude.{◌≡◌, ℕ, ◌+◌, ◌<◌, ◌≤◌, Bool, true, false, List, [], ◌∷◌, ◌++◌, length, Option, None}
 use Rattle.bump_rules.specs.declared.configs.Config.{Config}
 use Rattle.bump_rules.specs.declared.items.Head.{Head}
 use Rattle.bump_rules.specs.declared.items.ItemId.{ItemId}
@@ -165,8 +165,8 @@ pub record AreFindings (limit : ℕ) (item : ItemId) (answered : Touch) (found :
 pub record Touched (limit : ℕ) (item : ItemId) (now : ℕ) (before after : WorkerState) (answered : Touch)
     (found : Findings) : Type 0 where
   pub findings : AreFindings limit item answered found
-  -- the ring had no room only where it had accepted at least as many bumps as its capacity
-  pub room : found.room ≡ Unknown → before.sender.capacity ≤ length before.sender.sent
+  -- the ring had no room only where it had accepted as many bumps as its capacity behind those known to be taken
+  pub room : found.room ≡ Unknown → before.sender.shown + before.sender.capacity ≤ length before.sender.sent
   pub answer : answered ≡ touch_answer limit found (length before.sender.sent)
   pub state : after ≡ touched answered item now found before
   -- the first hit is of an item that the worker's list did not name

@@ -23,6 +23,8 @@ pub record SenderView : Type 0 where
   pub capacity : ℕ
   -- the bumps that the ring accepted, in order
   pub sent : List Ride
+  -- so many of them had been taken out when the two ends met last: none before they met
+  pub shown : ℕ
 
 pub record ReceiverView : Type 0 where
   -- which ring it is

@@ -1,5 +1,5 @@
 //! The ends of a ring, and what they do. Contracts see plain data.
-ghost use Rattle.std.specs.Prelude.{◌≡◌, ◌+◌, ◌≤◌, ◌<◌, ◌↔◌, length, cond, is_some, true, false, [], ◌∷◌, ◌++◌};
+ghost use Rattle.std.specs.Prelude.{◌≡◌, ◌+◌, ◌-◌, ◌≤◌, ◌<◌, ◌↔◌, length, cond, is_some, true, false, [], ◌∷◌, ◌++◌};
 ghost use Rattle.std.specs.Prelude.{IfSome, IfOk, IfErr, IfNone, IsNone};
 ghost use Rattle.std.specs.Option.{ForSome};
 ghost use mathlib.Core.List.{IsPrefix};
@@ -19,6 +19,10 @@ use std::snapshot::Snapshot;
 pub struct Sender<N: Name> {
     pub(crate) producer: Producer<Rider<N>, Global, Numbered<N>>,
     pub(crate) accepted: u64,
+    // What the ring had accepted when its two ends met last, and how many more it had room for then: before they met,
+    // none and all of its room.
+    pub(crate) met_accepted: u64,
+    pub(crate) met_free: usize,
 }
 
 impl<N: Name> Model for Sender<N> {
@@ -28,11 +32,13 @@ impl<N: Name> Model for Sender<N> {
       ring = ring_of s.producer.end;
       capacity = producer_capacity s.producer;
       sent = sent s.producer;
+      shown = s.met_accepted + s.met_free - producer_capacity s.producer;
     } };
 
-    // There is room for as many bumps as weren't accepted yet, so the ring is full only behind so many.
+    // The room that was seen when the ends met stays until it is taken, so the ring is full only behind so many.
     ghost invariant = { λ s. (s.accepted ≡ length (sent s.producer))
-        × (producer_capacity s.producer ≤ known_free s.producer + length (sent s.producer)) };
+        × (producer_capacity s.producer ≤ s.met_accepted + s.met_free)
+        × (s.met_accepted + s.met_free ≤ known_free s.producer + length (sent s.producer)) };
 }
 
 /// The end of a worker's ring that gives bumps out: the worker's lane has it.
@@ -87,15 +93,16 @@ impl<N: Name> Sender<N> {
     /// Puts a bump behind those in the ring, as memcached's `lru_bump_async` into a worker's bump buffer, and answers
     /// its number. The bump's number is how many the ring accepted before.
     ///
-    /// Where the ring has no room the bump comes back, and nothing is changed. That is so only where the ring
-    /// accepted at least as many bumps before as its capacity is. It waits for nobody.
+    /// Where the ring has no room the bump comes back, and nothing is changed. That is so only while as many bumps as
+    /// its capacity wait in it: of those that it accepted, no more than the others are known to be taken, by the last
+    /// time that its ends met. It waits for nobody.
     pub fn offer(&mut self, rider: Rider<N>) -> Result<u64, Rider<N>>
         requires next { rider.number ≡ length self.old.sent }
         ensures number { IfOk result (λ number. number ≡ length self.old.sent) }
         ensures sent { IfOk result (λ number. self.new ≡ record self.old { sent = self.old.sent ++ rider ∷ [] }) }
         ensures back { IfErr result (λ back. back ≡ rider) }
         ensures unchanged { IfErr result (λ back. self.new ≡ self.old) }
-        ensures full { IfErr result (λ back. self.old.capacity ≤ length self.old.sent) }
+        ensures full { IfErr result (λ back. self.old.shown + self.old.capacity ≤ length self.old.sent) }
     {
         rider.promise();
         let number = self.accepted;
@@ -108,17 +115,20 @@ impl<N: Name> Sender<N> {
         }
     }
 
-    /// Shows the two ends of a ring each other, by one load. It answers nothing, and changes nothing but what is known
-    /// to be left: from then on it is known that the bumps that were taken are the first of those that were accepted,
-    /// and that those which wait in the ring are at most as many as its capacity is.
+    /// Shows the two ends of a ring each other, by a load of each. It answers nothing, and changes nothing but what is
+    /// known to be left, and to be taken: from then on it is known that the bumps that were taken are the first of
+    /// those that were accepted, that those which wait in the ring are at most as many as its capacity is, and that
+    /// there is room for all others.
     pub fn meet(&mut self, receiver: &mut Receiver<N>)
         requires ring { receiver.old.ring ≡ self.old.ring }
-        ensures sender { self.new ≡ self.old }
+        ensures sender { self.new ≡ record self.old { shown = length receiver.old.received } }
         ensures receiver { receiver.new ≡ record receiver.old { known = receiver.new.known } }
         ensures first { IsPrefix receiver.old.received self.old.sent }
         ensures few { length self.old.sent ≤ length receiver.old.received + self.old.capacity }
     {
         receiver.consumer.slots_beside(&mut self.producer);
+        self.met_free = self.producer.slots_beside(&mut receiver.consumer);
+        self.met_accepted = self.accepted;
     }
 
     /// Closes the ring: it accepts no more bumps from then on. Those that it accepted are still to be taken. Whether
@@ -131,7 +141,11 @@ impl<N: Name> Sender<N> {
           shows_end = result.shows_end;
         } }
     {
-        let Sender { producer, accepted } = self;
+        let Sender {
+            producer,
+            accepted,
+            ..
+        } = self;
         let last = Snapshot::of(&producer);
         let finished = producer.finish();
         ClosedSender {

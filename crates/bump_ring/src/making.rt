@@ -10,7 +10,7 @@ use std::alloc::{AllocError, Global};
 /// A new ring, empty, with room for `capacity` bumps: its two ends. It is refused only for want of memory.
 pub fn ring<N: Name>(alloc: Global, capacity: u32) -> Result<(Sender<N>, Receiver<N>), AllocError>
     ensures ring { IfOk result (λ r. r.1.ring ≡ r.0.ring) }
-    ensures empty { IfOk result (λ r. (r.0.sent ≡ []) × (r.1.received ≡ []) × (r.1.known ≡ [])) }
+    ensures empty { IfOk result (λ r. (r.0.sent ≡ []) × (r.0.shown ≡ 0) × (r.1.received ≡ []) × (r.1.known ≡ [])) }
     ensures capacity { IfOk result (λ r. r.0.capacity ≡ capacity) }
 {
     let room = capacity as usize;
@@ -18,6 +18,8 @@ pub fn ring<N: Name>(alloc: Global, capacity: u32) -> Result<(Sender<N>, Receive
     let sender = Sender {
         producer,
         accepted: 0,
+        met_accepted: 0,
+        met_free: room,
     };
     let receiver = Receiver {
         consumer,
