@@ -45,7 +45,8 @@ use Rattle.bump_heads.specs.Applying.{life_aboard, life_of, IsOf, MayClearActive
 use Rattle.bump_readers.specs.Seats.{head_or, listed}
 use Rattle.bump_steps.specs.Riders.{lane_me, applied_by}
 use Rattle.bump_heads.specs.Seats.{class_me, class_in, lane_in, IsLane, IsOfWorker, IsInRange, IsClassPart, aboard_lane, no_class, no_lane}
-use Rattle.bump_steps.proofs.Applications.{try_going, try_refers, clear_active_refers, alight_refers}
+use Rattle.bump_steps.proofs.Applications.{try_going, try_refers, clear_active_refers}
+use Rattle.bump_steps.proofs.Alightings.{alight_refers}
 use Rattle.bump_heads.proofs.ClassParts.{entered_part, noted_part, named_part}
 use Rattle.bump_heads.proofs.ClassSeats.{class_in_me, found_is}
 use Rattle.bump_heads.proofs.Joining.{active_found, noted_joined, joined_cleared, joined_moved, tried_joined, Ending}

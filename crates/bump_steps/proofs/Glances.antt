@@ -232,7 +232,7 @@ module _ (key : Config) (slots id : ℕ) (m : Sat) (c : ℕ) (near : c < chunks 
 
       first_agrees : o.head.linked ≡ true → o.head.generation ≡ has.glance.life.generation → has.glance.agrees ≡ true
       first_agrees lit same = found_none (one_if (life c o.head.generation) has.glance.life)
-          (eqb (get_or has.glance.row 0 0) (x 0)) has.glance.agrees
+          (let words : List ℕ = has.glance.row in eqb (get_or words 0 0) (x 0)) has.glance.agrees
           (ap (λ (g : ℕ). one_if (life c g) has.glance.life) same
           ∙ (ap (λ (d : ℕ). one_if (life d has.glance.life.generation) has.glance.life) (sym has.of)
           ∙ one_life has.glance.life)) (none_of lit 0)

@@ -20,6 +20,7 @@ pub mod Glances
 pub mod Tries
 pub mod Marking
 pub mod Applications
+pub mod Alightings
 pub mod Starts
 pub mod Boardings
 pub mod RideSteps

@@ -5,7 +5,7 @@ use Rattle.atomic_table.specs.Table.{step, Allows}
 use Rattle.bump_steps.specs.Rule.{Kept}
 use Rattle.bump_steps.specs.Plays.{on_chunk}
 use Rattle.bump_steps.specs.Applications.{alight_tells}
-use Rattle.bump_steps.proofs.Applications.{may_alight}
+use Rattle.bump_steps.proofs.Alightings.{may_alight}
 use Rattle.bump_steps.specs.Places.{head_place}
 use Rattle.bump_steps.proofs.words.Words.alight_by.Goals as goal
 
