@@ -121,16 +121,17 @@ pub finds_took : (law : RowPredicate) (config : Config) (key value : List ℕ) (
     (before after : WorkerState) → Finds law config key value now from to before after → TookBetween key value before after
 finds_took law config key value now from to before after finds =
     let takes = finds.hits.takes in
-    let older : TookMore before takes.last = took_then before takes.start takes.last
+    let search = takes.search in
+    let older : TookMore before search.last = took_then before takes.start search.last
     (anew_more config key now takes.turns before takes.start takes.anew)
-    (others_more config key now takes.looks takes.start takes.last takes.others) in
+    (others_more config key now search.looks takes.start search.last search.others) in
     record {
       hold = finds.hold;
       newer = [];
       older = older.0;
       taken = hits_first law config key now from to before after finds.hold finds.hits
           ∙ ap (λ (t : List HoldPart). finds.hold ∷ t) older.1;
-      has_key = takes.has_key;
+      has_key = search.has_key;
       has_value = finds.has_value;
     }
 

@@ -113,15 +113,7 @@ takes_in_turn law config key now turns from to before start after hold found low
   few_turns = low;
   start = start;
   anew = anew;
-  looks = takes.looks;
-  last = takes.last;
-  others = takes.others;
-  chunk = takes.chunk;
-  gets = takes.gets;
-  has_key = takes.has_key;
-  stays = takes.stays;
-  lawful = takes.lawful;
-  few = takes.few;
+  search = takes;
 }
 
 -- a search that found nothing, behind those that began anew

@@ -42,9 +42,9 @@ gets_first config chunk before after hold found gets = by (nat_lt chunk (all_chu
 -- a hit's hold is the one that the worker took last
 pub hits_first : (law : RowPredicate) (config : Config) (key : List ℕ) (now from to : ℕ) (before after : WorkerState)
     (hold : HoldPart) → (hits : Hits law config key now from to before after hold)
-    → after.part.taken ≡ hold ∷ hits.takes.last.part.taken
+    → after.part.taken ≡ hold ∷ hits.takes.search.last.part.taken
 hits_first law config key now from to before after hold hits = hits.touches.taken
-    ∙ gets_first config hits.takes.chunk hits.takes.last hits.between hold hits.found hits.takes.gets
+    ∙ gets_first config hits.takes.search.chunk hits.takes.search.last hits.between hold hits.found hits.takes.search.gets
 
 -- where two holds are the first of one list they are one
 one_first : (hold other : HoldPart) (taken holds others : List HoldPart) → taken ≡ hold ∷ holds
@@ -74,8 +74,8 @@ found_of_one_key law rule config other key asked value told now then from to pas
     let same : finds.hold ≡ tells.hold = one_first finds.hold tells.hold after.part.taken _ _
     (hits_first law config key now from to before after finds.hold finds.hits)
     (hits_first rule other asked then past next start after tells.hold tells.hits) in
-    sym (finds.hits.takes.has_key i low) ∙ ap (λ (h : HoldPart). word_of_row h.row (0 + i)) same
-    ∙ tells.hits.takes.has_key i near
+    sym (finds.hits.takes.search.has_key i low) ∙ ap (λ (h : HoldPart). word_of_row h.row (0 + i)) same
+    ∙ tells.hits.takes.search.has_key i near
 
 -- the same of a peek
 pub peeked_once : (law rule : RowPredicate) (config other : Config) (key value told : List ℕ) (now then from to past next : ℕ)
@@ -85,8 +85,10 @@ pub peeked_once : (law rule : RowPredicate) (config other : Config) (key value t
 peeked_once law rule config other key value told now then from to past next before start after peeks tells i low near =
     let one = peeks.sees in
     let two = tells.sees in
+    let took = one.takes.search in
+    let told_took = two.takes.search in
     let same : one.hold ≡ two.hold = one_first one.hold two.hold after.part.taken _ _
-    (gets_first config one.takes.chunk one.takes.last after one.hold one.found one.takes.gets)
-    (gets_first other two.takes.chunk two.takes.last after two.hold two.found two.takes.gets) in
+    (gets_first config took.chunk took.last after one.hold one.found took.gets)
+    (gets_first other told_took.chunk told_took.last after two.hold two.found told_took.gets) in
     sym (peeks.has_value i low) ∙ ap (λ (h : HoldPart). word_of_row h.row (length key + i)) same
     ∙ tells.has_value i near

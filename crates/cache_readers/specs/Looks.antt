@@ -94,7 +94,8 @@ many_more (suc more) count = one_more (many_more more count)
 
 -- A search ended with a hold of an item that has the key and hasn't expired, with the words that stood in its chunk when
 -- the hold was taken, of which the table's law holds: so many looks held items with other keys, and the next one gave
--- this hold, by this head.
+-- this hold, by this head. By `gets` it is the first of the holds that the worker took, so that its row is no other than
+-- that which the exchange found.
 pub record SearchTakes (law : RowPredicate) (config : Config) (key : List ℕ) (now : ℕ) (before after : WorkerState)
     (hold : HoldPart) (found : Head) : Type 0 where
   pub looks : ℕ
@@ -107,11 +108,9 @@ pub record SearchTakes (law : RowPredicate) (config : Config) (key : List ℕ) (
   pub lawful : law (words_in hold.row)
   pub few : MakesAtMost 1 8 0 last.part.steps after.part.steps
 
--- Looks for a key ended with a hold of an item that has it and hasn't expired, with the words that stood in its chunk when
--- the hold was taken, of which the table's law holds: so many searches ended at lives that had ended, so many looks of the
--- next one held items with other keys, and the next look gave this hold, by this head. By `gets` it is the first of the
--- holds that the worker took, so that its row is no other than that which the exchange found. The searches that ended so
--- are counted: the count was one number before, and is the other.
+-- Looks for a key ended with a hold of an item that has it and hasn't expired, by this head: so many searches ended at
+-- lives that had ended, and the next one took the hold. The searches that ended so are counted: the count was one number
+-- before, and is the other.
 pub record TakesKey (law : RowPredicate) (config : Config) (key : List ℕ) (now from to : ℕ)
     (before after : WorkerState) (hold : HoldPart) (found : Head) : Type 0 where
   pub turns : ℕ
@@ -119,15 +118,7 @@ pub record TakesKey (law : RowPredicate) (config : Config) (key : List ℕ) (now
   pub few_turns : turns < most_searches
   pub start : WorkerState
   pub anew : SearchesAnew config key now turns before start
-  pub looks : ℕ
-  pub last : WorkerState
-  pub others : AreOther config key now looks start last
-  pub chunk : ℕ
-  pub gets : WorkerGetsAny config chunk last after (Ok (hold, found))
-  pub has_key : HasWords key 0 hold.row
-  pub stays : has_expired (label_of_row hold.row) now ≡ false
-  pub lawful : law (words_in hold.row)
-  pub few : MakesAtMost 1 8 0 last.part.steps after.part.steps
+  pub search : SearchTakes law config key now start after hold found
 
 -- the item of a hold is touched where the head by which the hold was taken hadn't both marks
 pub record TouchesUnmarked (config : Config) (hold : HoldPart) (found : Head) (now : ℕ) (before after : WorkerState)

@@ -9,7 +9,7 @@ unpack-requires g c =
     let found = c.if-not-peek.ensures.found refl in
     let told = value_read g.K.Packed.fits g.K.Packed.as_words g.V.Packed.fits g.V.Packed.as_words g.K.Packed.width
     g.V.Packed.width
-    g.met.K.Packed.length_is g.met.V.Packed.length_is found.sees.hold.row _ _ found.sees.takes.lawful
+    g.met.K.Packed.length_is g.met.V.Packed.length_is found.sees.hold.row _ _ found.sees.takes.search.lawful
     c.requires.length
     (c.peek.ensures.length ∙ c.requires.value) found.has_value in
     (told.0, (told.1, told.2))
@@ -18,7 +18,7 @@ pub returns-clause-found : goal.returns-clause-found
 returns-clause-found g c =
     let found = c.if-not-peek.ensures.found refl in
     let told = value_read g.K.Packed.fits g.K.Packed.as_words g.V.Packed.fits g.V.Packed.as_words g.K.Packed.width
-    g.V.Packed.width g.met.K.Packed.length_is g.met.V.Packed.length_is found.sees.hold.row _ _ found.sees.takes.lawful
+    g.V.Packed.width g.met.K.Packed.length_is g.met.V.Packed.length_is found.sees.hold.row _ _ found.sees.takes.search.lawful
     c.requires.length
     (c.peek.ensures.length ∙ c.requires.value) found.has_value in
     let is : c.peek.new.value ≡ g.V.Packed.as_words c.unpack.result =
