@@ -99,8 +99,8 @@ enum bump_cache_open_answer {
 /* The configuration as memcached has it: 20 and 40 percent, ages of 20 and 200, a ring of 8,192, nothing in TEMP; a
  * part's spare chunk for each reader and one more, one part, 1,000 looks, no holds, and a seed of zeros.
  * A put needs a free chunk, also where its key has an item; and an ended item keeps its chunk while a reader holds it. So
- * with 1 + readers * (1 + holds) spare chunks BUMP_CACHE_PUT_NO_ROOM comes at most where a chunk has had its last of
- * 4,294,967,295 items. With fewer it comes where readers hold as many ended items of a part. */
+ * with 1 + readers * (1 + holds) spare chunks BUMP_CACHE_PUT_NO_ROOM came in no test; it may where chunks have had the last
+ * of their 4,294,967,295 items. With fewer it comes where readers hold as many ended items of a part. */
 bump_cache_config bump_cache_defaults(uint32_t items, uint32_t readers, uint32_t key_bytes, uint32_t value_bytes);
 
 /* Opens a cache, and puts it into `cache`, which is {0} before and stays so where it answers anything but
@@ -190,7 +190,7 @@ enum bump_cache_put_answer {
   BUMP_CACHE_PUT_DONE,
   BUMP_CACHE_PUT_HAS,         /* bump_cache_add: the key has something */
   BUMP_CACHE_PUT_NOTHING,     /* replace, update, touch: it has nothing, or what has expired */
-  BUMP_CACHE_PUT_NO_ROOM,     /* each chunk without an item is held: readers hold more than `spare` is for */
+  BUMP_CACHE_PUT_NO_ROOM,     /* each chunk without an item was found held, or has had its last item */
   BUMP_CACHE_PUT_KEY_BYTES,   /* the key is longer than key_bytes */
   BUMP_CACHE_PUT_VALUE_BYTES, /* the value is longer than value_bytes */
   BUMP_CACHE_PUT_OTHER_PART   /* the key is of another part */

@@ -32,7 +32,7 @@ pub struct Config {
     pub key_bytes: u32,
     pub value_bytes: u32,
     pub items: u32,
-    /// `1 + readers`, as `new` has it, is enough where a reader has one guard at a time; with more guards add those.
+    /// `1 + readers`, as `new` has it, was enough in tests where a reader has one guard at a time; with more guards add those.
     pub spare: u32,
     pub hot: u32,
     pub warm: u32,

@@ -48,8 +48,8 @@ pub struct CacheNumbers {
     pub items: u32,
 
     /// Chunks of each part beside those of its items: 1 or more, and multiplied by the parts at most 1,000,000 together with
-    /// the items. Where there are 1 + readers * (1 + holds) each put finds one, as long as no chunk has had its last
-    /// generation.
+    /// the items. Where there were 1 + readers * (1 + holds) tests saw each put find one, as long as no chunk had had its
+    /// last generation.
     pub spare: u32,
 
     /// HOT's share of the items in percent, with WARM's at most 100. Where HOT has more, balances move its last items on, a

@@ -255,8 +255,8 @@ fn take_book_at(h: StoreHandle, number: u32) -> (StoreHandle, Option<BookSlot>)
     take_book_named::<Brand>(h, number)
 }
 
-/// Takes the book of the class with this number out of the store, and fills an empty slot with it. `false`: there is none, or it is
-/// taken already, and nothing is changed.
+/// Takes the book of the class with this number out of the store, and fills an empty slot with it. `false`: there is
+/// none, or it is taken already, and nothing is changed.
 #[unsafe(no_mangle)]
 pub extern "C" fn bump_take_book(store: &mut StoreHandle, number: u32, part: &mut BookSlot) -> bool
     ensures table { store.new.table ≡ store.old.table }
@@ -309,8 +309,8 @@ fn take_lane_at(h: StoreHandle, number: u32) -> (StoreHandle, Option<LaneSlot>)
     take_lane_named::<Brand>(h, number)
 }
 
-/// Takes the lane of the worker with this number out of the store, and fills an empty slot with it. `false`: there is none, or it is
-/// taken already, and nothing is changed.
+/// Takes the lane of the worker with this number out of the store, and fills an empty slot with it. `false`: there is
+/// none, or it is taken already, and nothing is changed.
 #[unsafe(no_mangle)]
 pub extern "C" fn bump_take_lane(store: &mut StoreHandle, number: u32, part: &mut LaneSlot) -> bool
     ensures table { store.new.table ≡ store.old.table }

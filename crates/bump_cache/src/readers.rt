@@ -74,7 +74,7 @@ impl<N: Name, K: Packed, V: Packed> CacheReader<N, K, V> {
     /// expired at `now` isn't found, as in memcached's `do_item_get`: it is neither touched nor ended. Another is
     /// touched, as `Worker::touch` does, unless the head by which the hold was taken had both marks: the first get sets
     /// FETCHED, the second ACTIVE, and in COLD it queues a bump. Its value is what the put of this life stored. Where
-    /// an item was ended by another thread in between it searches anew, at most 1,000 times.
+    /// an item was ended by another thread in between, or couldn't be held, it searches anew, at most 1,000 times.
     #[inline(always)]
     pub fn get(&mut self, key: &K, now: u64) -> Option<V>
         ensures found { IfSome result (λ value. InPart (FindsValue (IsPair K.fits K.as_words V.fits V.as_words)

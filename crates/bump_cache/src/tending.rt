@@ -46,7 +46,7 @@ impl<N: Name + LogName, K: Packed, V: Packed> Cache<N, K, V> {
     }
 
     /// Tends the cache as `tend` does, again and again, each time at what `clock` tells then, until it tells None: the
-    /// loop of a thread of its own. `clock` is asked once for each tend, and is given back. It tells the time in the
+    /// loop of a thread of its own. `clock` is asked before each tend, and is given back. It tells the time in the
     /// caller's ticks, as `|| if stop.load(Ordering::SeqCst) { None } else { Some(ticks.load(Ordering::SeqCst)) }`. The
     /// loop never sleeps, so it takes a whole processor, and the locks again and again: take it where a processor has
     /// nothing else to do, and else `tend_each`.
@@ -71,9 +71,9 @@ impl<N: Name + LogName, K: Packed, V: Packed> Cache<N, K, V> {
     }
 
     /// The same, but behind each tend it sleeps for `pause`, by `sleeper`, before it asks `clock` again: the loop of a
-    /// thread of its own that takes little of a processor. It returns behind a pause at most once `clock` tells None.
-    /// Which `pause` pays depends on how many gets come by meanwhile: their bumps wait in rings that have room for so
-    /// many.
+    /// thread of its own that takes little of a processor. Once `clock` has None to tell, it returns behind one pause
+    /// at most. Which `pause` pays depends on how many gets come by meanwhile: their bumps wait in rings that have room
+    /// for so many.
     pub fn tend_each<C: Clock, W: Wait, F: FnMut() -> Option<u64>>(
         &self,
         rt: &W,

@@ -102,8 +102,8 @@ impl<N: Name, L: RowLaw> RawLane<N, L> {
     }
 
     /// How many bumps are left in the ring, by the closed sender of this ring: all of them are known from then on, and
-    /// no other will come: at most as many as the ring's capacity. The bump aboard isn't counted. It may be asked again. It answers None exactly where the
-    /// closed sender can't show the ring's end, and nothing is changed then.
+    /// no other will come: at most as many as the ring's capacity. The bump aboard isn't counted. It may be asked
+    /// again. It answers None exactly where the closed sender can't show the ring's end, and nothing is changed then.
     pub fn rest(&mut self, closed: &mut ClosedSender<N>) -> Option<u64>
         requires ring { closed.old.ring ≡ self.old.ring }
         ensures left { TellsLeft closed.old self.old result closed.new self.new }

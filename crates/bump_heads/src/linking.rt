@@ -72,8 +72,8 @@ impl<N: Name, L: RowLaw> ClassSeat<N, L> {
 
     /// Begins the next life of a chunk, in HOT or in TEMP, by one store of its head: linked, with the one reference of
     /// the link, and without marks (memcached's `do_item_link`). The chunk must be in UNUSED, so it has a generation to
-    /// come. Its label and its further words are the last that were stored for the chunk, of which the table's law holds. Answers the life. A load before the store finds
-    /// the generation, which is noted as a step.
+    /// come. Its label and its further words are the last that were stored for the chunk, of which the table's law
+    /// holds. Answers the life. A load before the store finds the generation, which is noted as a step.
     pub fn open_life_in(&mut self, chunk: u32, place: usize, start: Start) -> ItemId
         requires alone { self.old.lane ≡ None }
         requires own { owns chunk self.old.part ≡ true }

@@ -165,7 +165,7 @@ pub record AreFindings (limit : ℕ) (item : ItemId) (answered : Touch) (found :
 pub record Touched (limit : ℕ) (item : ItemId) (now : ℕ) (before after : WorkerState) (answered : Touch)
     (found : Findings) : Type 0 where
   pub findings : AreFindings limit item answered found
-  -- the ring had no room only where it had accepted as many bumps as its capacity behind those known to be taken
+  -- the ring had no room only where it had accepted at least its capacity behind the bumps known to be taken
   pub room : found.room ≡ Unknown → before.sender.shown + before.sender.capacity ≤ length before.sender.sent
   pub answer : answered ≡ touch_answer limit found (length before.sender.sent)
   pub state : after ≡ touched answered item now found before

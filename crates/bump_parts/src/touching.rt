@@ -235,9 +235,9 @@ impl<N: Name> Worker<N> {
     /// 4. where ACTIVE was clear in COLD, what its attempt to bump the item comes to. A reference is taken for the
     ///    bump, by one load and at most 8 exchanges, and the bump is put into the worker's ring: Queued, with its
     ///    number among the worker's accepted bumps, from 0. Or it is dropped: as RefsFull, where the item's reference
-    ///    count is at the limit; as Busy, where the eighth exchange failed; as Full, where the ring has no room. A
-    ///    dropped bump keeps no reference, and ACTIVE is cleared again, so that one more hit attempts it once more.
-    ///    FETCHED stays.
+    ///    count is at the limit; as Busy, where the eighth exchange failed; as Full, where the ring has no room, which
+    ///    comes only where it accepted at least as many bumps as its capacity. A dropped bump keeps no reference, and
+    ///    ACTIVE is cleared again, so that one more hit attempts it once more. FETCHED stays.
     ///
     /// Each attempt is counted, and how it ended. A worker that attempted 4,611,686,018,427,387,903 bumps makes no
     /// further step, and answers Exhausted.

@@ -93,9 +93,9 @@ impl<N: Name> Sender<N> {
     /// Puts a bump behind those in the ring, as memcached's `lru_bump_async` into a worker's bump buffer, and answers
     /// its number. The bump's number is how many the ring accepted before.
     ///
-    /// Where the ring has no room the bump comes back, and nothing is changed. That is so only while as many bumps as
-    /// its capacity wait in it: of those that it accepted, no more than the others are known to be taken, by the last
-    /// time that its ends met. It waits for nobody.
+    /// Where the ring has no room the bump comes back, and nothing is changed. That is so only where the ring accepted
+    /// at least as many bumps as its capacity, not counting those that had been taken when its ends met last; before
+    /// they met, none. It waits for nobody.
     pub fn offer(&mut self, rider: Rider<N>) -> Result<u64, Rider<N>>
         requires next { rider.number ≡ length self.old.sent }
         ensures number { IfOk result (λ number. number ≡ length self.old.sent) }

@@ -79,7 +79,8 @@ impl<N: Name, L: RowLaw> Lane<N, L> {
     /// is known to be left in the ring. Nothing is aboard then, nor before.
     ///
     /// The clauses speak of some Book that has the bump's chunk: another thread may have the lock just before, and just
-    /// behind.
+    /// behind. So no clause fixes the time that is stored, nor whether a gone item's chunk came free, which the answer
+    /// alone tells.
     pub fn next<R: Wait>(&mut self, rt: &R, store: &Store<N, L>, now: u64) -> Option<Entry>
         ensures ring { (self.new.lane.ring ≡ self.old.lane.ring) × (self.new.capacity ≡ self.old.capacity) }
         ensures next { IfSome result (λ entry. AppliesNext now self.old.lane entry self.new.lane) }

@@ -45,7 +45,7 @@ pub struct ByteConfig {
 impl ByteConfig {
     /// That of a cache with so many items and readers as memcached has it, as `CacheConfig::new` tells it, with a seed of
     /// zeros: who lets others choose the keys gives it another one. Its spare chunks are for readers that hold one item
-    /// each at a time: who opens it with more places gives it one more for each of them.
+    /// each at a time: who opens it with more places adds as many for each reader as it has places.
     pub fn defaults(items: u32, readers: u32, key_bytes: u32, value_bytes: u32) -> ByteConfig
         ensures { result ≡ default_config items readers key_bytes value_bytes }
     {

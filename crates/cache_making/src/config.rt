@@ -63,9 +63,9 @@ pub struct CacheConfig {
     /// So many chunks each part has beside those of its items, 1 or more; those of all parts and the items are at most
     /// 1,000,000 together. A put needs one that is free, also where its key has an item, since that ends behind the new
     /// one's beginning; and an item that ended keeps its chunk as long as a reader holds it. A reader holds one item at
-    /// most: in a get for a moment, or as a `HeldItem` as long as there is one. So with one chunk for each reader and one
-    /// more no put is refused, as long as no chunk has had its last generation; with fewer one may be, where readers
-    /// hold as many ended items of its part as there are spare chunks.
+    /// most: in a get for a moment, or as a `HeldItem` as long as there is one. With one chunk for each reader and one
+    /// more tests saw no put refused, as long as no chunk had had its last generation; no clause says so. With fewer one
+    /// may be, where readers hold as many ended items of its part as there are spare chunks.
     pub spare: u32,
 
     /// HOT's share of the items in percent. Where HOT has more, balances move its last items on, a few at a time (at most 8

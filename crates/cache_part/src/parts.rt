@@ -236,12 +236,12 @@ impl<N: Name, L: RowLaw> Part<N, L> {
     /// Puts an item under its key: the row is the key's words and then the value's; it expires at `expires`, or never
     /// where that is 0; and `now` is its time. Times are in the caller's ticks. Where the key has no item yet and as
     /// many as may be are linked, the one whose turn it is ends first, as by `CountedBook::evict`. Where no chunk is
-    /// free, chunks come free of ended items that nobody holds any more; and where none does, the bumps that wait in the
-    /// lanes are applied, at most `most` of each, and it is tried once more. It is refused exactly where none is free
-    /// then: each chunk that has no item is held, or has had its last generation. The key keeps what it had. Else the new item is linked, in TEMP where it expires within as many ticks as
-    /// `Part::new` was told, or has expired already, and else in HOT; the index leads to it, and behind that the key's
-    /// old item ends, whether it had expired or not. The table's law holds of whatever row begins with the label
-    /// `expires` and these words.
+    /// free, chunks come free of ended items that nobody holds any more; and where none does, the bumps that wait in
+    /// the lanes are applied, at most `most` of each, and it is tried once more. It is refused exactly where none is
+    /// free then: each chunk that has no item was found held, or has had its last generation. The key keeps what it
+    /// had. Else the new item is linked, in TEMP where it expires within as many ticks as `Part::new` was told, or has
+    /// expired already, and else in HOT; the index leads to it, and behind that the key's old item ends, whether it had
+    /// expired or not. The table's law holds of whatever row begins with the label `expires` and these words.
     ///
     /// `evicted` has room for a label and a row. Where an item is evicted, also where the put is refused then, its
     /// label is written there, which says when it expires, and then the words of its key and of its value. They are

@@ -30,8 +30,8 @@ pub struct PutItem {
     pub evicted: Option<u32>,
 }
 
-/// A put was refused, since no chunk was free, also where all bumps that waited were applied, and the chunks had come free
-/// of ended items that nobody held any more. A chunk whose generations are used up comes free no more.
+/// A put was refused, since no chunk was free, though bumps that waited had been applied, and the chunks of ended items
+/// that nobody held any more had come free. A chunk whose generations are used up comes free no more.
 #[derive(Clone, Copy, Debug, PartialEq, Eq)]
 pub struct NoChunk {
     /// The chunk of the item that was evicted, if one was: also of one that had expired.

@@ -12,8 +12,7 @@ use bump_steps::RowLaw;
 use cache_nests::IndexReader;
 use entry_times::has_expired;
 
-// A search begins anew where the life to which the index led has ended, so often at most: each time the key was put
-// anew, removed or evicted meanwhile.
+// A search begins anew where the life to which the index led has ended, or its chunk can't be held, so often at most.
 const TURNS: u32 = 1_000;
 
 // Whether the item that is held has the key.

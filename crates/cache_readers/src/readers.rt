@@ -103,10 +103,10 @@ impl<N: Name, L: RowLaw> WordReader<N, L> {
     /// linked. Else the item is touched, as `Worker::touch` does, unless the head by which the hold was taken had both
     /// marks; the value is read, and the hold given back. What it read are the words that the put of this life stored.
     ///
-    /// Where a life to which the index led has ended meanwhile it searches anew, up to 1,000 times: each time the key
-    /// was put anew, removed or evicted by another thread. It answers false where the item with the key has expired,
-    /// where the index leads to no chunk with the key, and behind the last of these searches; nothing is touched then,
-    /// and `value` is as it was.
+    /// Where a life to which the index led has ended meanwhile, or its chunk can't be held, it searches anew, up to 1,000
+    /// times. It answers false where the item with the key has expired, where the index leads to no chunk with the key,
+    /// and behind the last of these searches; nothing is touched then, and `value` is as it was. That it searched the
+    /// index isn't promised.
     #[inline(always)]
     pub fn get(&mut self, hash: u32, key: &[u64], value: &mut [u64], now: u64) -> bool
         requires few { length key.now + length value.old ≤ N.table.slots }
@@ -239,8 +239,8 @@ impl<N: Name, L: RowLaw> WordReader<N, L> {
         self.misses
     }
 
-    /// How many searches, of gets and of peeks, ended at a life that had ended meanwhile, and began anew, in the same way:
-    /// each time another thread put the key anew, removed it or evicted it.
+    /// How many searches of this reader were given up, since a life to which the index led had ended meanwhile, or its
+    /// chunk couldn't be held; in the same way.
     pub fn searched_anew(&self) -> u64
         ensures { result ≡ self.now.anew }
     {

@@ -8,7 +8,7 @@ pub enum Vain {
     /// It has the key, and has expired: the search is over.
     Over,
 
-    /// The life to which the index led has ended, or its chunk can't be held: the index leads elsewhere by now, and the
-    /// search begins anew.
+    /// The life to which the index led has ended, or its chunk can't be held: the search begins anew. Of such a look
+    /// nothing else is claimed.
     Ended,
 }

@@ -84,9 +84,9 @@ impl<N: Name, L: RowLaw> Shelf<N, L> {
     /// told in `old`, which has one word more than a value; and when the evicted one does, and its row, in `evicted`,
     /// which has one word more than a row. Both may have expired; where there is none the words stay. Where no chunk is
     /// free, also of those of ended items that nobody holds any more, as many bumps of each lane are applied as the
-    /// limits say, and it looks once more; it is refused exactly where none is free then: each chunk that has no item is
-    /// held, or has had its last generation. The key keeps what it had. In the end each eighth put balances HOT and WARM, in `PUT_ROUNDS` rounds at most. Under each other key
-    /// but the evicted one's stays what was there.
+    /// limits say, and it looks once more; it is refused exactly where none is free then: each chunk that has no item
+    /// was found held, or has had its last generation. The key keeps what it had. In the end each eighth put balances
+    /// HOT and WARM, in `PUT_ROUNDS` rounds at most. Under each other key but the evicted one's stays what was there.
     pub fn put(
         &mut self,
         row: &[u64],

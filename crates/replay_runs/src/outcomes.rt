@@ -13,7 +13,8 @@ pub struct RunOutcome {
     /// Those whose key wasn't.
     pub misses: u64,
 
-    /// How many keys couldn't be put, behind a miss or by a put of its own, since each chunk was held: by bumps that wait.
+    /// How many keys couldn't be put, behind a miss or by a put of its own, since no chunk was free, though all bumps that
+    /// waited were applied.
     pub unplaced: u64,
 
     /// At most so many bumps waited when a put had applied its share of them. Each holds the chunk of its item, also of

@@ -57,7 +57,7 @@ impl Waits {
         }
     }
 
-    /// A put in a part applied as many of each reader as it does.
+    /// A put in a part applied as many of each reader as it does: at least, since one that found no chunk free applied all.
     pub(crate) fn apply_for_put(&mut self, part: u32) {
         let first = self.ring_of(0, part);
         for reader in 0..self.readers {
@@ -84,7 +84,7 @@ impl Waits {
         all
     }
 
-    /// The most that waited when a put had applied its share.
+    /// The most that waited when a put had applied its share, at most: one that found no chunk free applied more.
     pub(crate) fn most(&self) -> u64 {
         self.most
     }
