@@ -254,6 +254,7 @@ impl<N: Name> Worker<N> {
             × Touched heads.now.refs_limit hold.old.life now self.old self.new result found }
         ensures few { MakesAtMost 1 8 4 self.old.part.steps self.new.part.steps }
         ensures taken { self.new.part.taken ≡ self.old.part.taken }
+        ensures glances { self.new.part.glances ≡ self.old.part.glances }
         ensures hold { hold.new ≡ hold.old }
         ensures ring { self.new.sender.ring ≡ self.old.sender.ring }
     {

@@ -42,6 +42,17 @@ returns-clause-taken g c =
     ∙ ap (λ (v : WorkerView). touched_part answered l now f v.part) c.hold_in.ensures.worker in
     ap (λ (p : WorkerPart). p.taken) part ∙ ap (λ (w : WorkerState). w.part.taken) c.self.view_is
 
+pub returns-clause-glances : goal.returns-clause-glances
+returns-clause-glances g c =
+    let l = c.life-life.result in
+    let now = c.args.now in
+    let answered = c.hit-touch.result in
+    let f = c.hit-touch.ensures.hit.0 in
+    let m = c.hit-touch.ensures.hit.1 in
+    let part = ap (λ (v : WorkerView). v.part) c.hold_out.ensures.worker ∙ ap (λ (v : WorkerView). v.part) m.part
+    ∙ ap (λ (v : WorkerView). touched_part answered l now f v.part) c.hold_in.ensures.worker in
+    ap (λ (p : WorkerPart). p.glances) part ∙ ap (λ (w : WorkerState). w.part.glances) c.self.view_is
+
 pub returns-then-attempted-ge-MOST_ATTEMPTS-clause-exhausted : goal.returns-then-attempted-ge-MOST_ATTEMPTS-clause-exhausted
 returns-then-attempted-ge-MOST_ATTEMPTS-clause-exhausted g c = λ _. (refl, refl)
 
