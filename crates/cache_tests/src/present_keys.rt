@@ -21,6 +21,9 @@ const RING: u32 = 32;
 // Each key is put anew so many times.
 const TIMES: u64 = 3;
 
+// Keys are below this, but those that are new at the end.
+const MOST_KEYS: u64 = 1_000;
+
 // A small cache, and whoever changes it.
 #[derive(Drop)]
 struct Small<N: Name + LogName> {
@@ -73,6 +76,28 @@ fn get_all<N: Name + LogName>(readers: &mut [CacheReader<N, u64, u64>], keys: &[
     }
 }
 
+// Each reader holds an item of one of these keys.
+fn hold_each<'a, N: Name + LogName>(
+    alloc: Global,
+    readers: &'a mut [CacheReader<N, u64, u64>],
+    keys: &[u64],
+) -> Result<Vec<HeldItem<'a, N, u64, u64>>, Fail> {
+    let mut held = Vec::new(alloc);
+    let mut place = 0usize;
+    for reader in &mut *readers {
+        if place >= keys.len() {
+            place = 0;
+        }
+        if let Some(key) = keys.get(place) {
+            if let Some(item) = reader.get_with(key, 1) {
+                held.push(item)?;
+            }
+        }
+        place = place.wrapping_add(1);
+    }
+    Ok(held)
+}
+
 // A small cache of this configuration is filled, with more keys than it has items; bumps wait, and each reader holds an
 // item. How many puts of keys that are there were refused.
 fn run<N: Name + LogName, R: Wait + Abort>(
@@ -96,28 +121,21 @@ fn run<N: Name + LogName, R: Wait + Abort>(
         changer: Changer::new(caller),
         refused: 0,
     };
-    let most = items.saturating_mul(4);
-    for key in 0..most {
+    for key in 0..items.saturating_mul(4) {
         small.put(rt, key, 1);
     }
     let Some(reader) = readers.first_mut() else {
         panic!(rt; "there is a reader")
     };
-    let keys = keys_there(alloc, reader, most)?;
+    let keys = keys_there(alloc, reader, MOST_KEYS)?;
     assert!(rt; !keys.is_empty());
     get_all(&mut readers, &keys);
     small.put_all(rt, &keys, TIMES);
     get_all(&mut readers, &keys);
-    let mut held: Vec<HeldItem<'_, N, u64, u64>> = Vec::new(alloc);
-    for (place, reader) in readers.iter_mut().enumerate() {
-        let key = keys[place % keys.len()];
-        if let Some(item) = reader.get_with(&key, 1) {
-            held.push(item)?;
-        }
-    }
+    let held = hold_each(alloc, &mut readers, &keys)?;
     small.put_all(rt, &keys, TIMES);
-    for key in most..most.saturating_add(items) {
-        small.put(rt, key, 1);
+    for key in 0..items {
+        small.put(rt, MOST_KEYS.saturating_add(key), 1);
     }
     drop(held);
     Ok(small.refused)
@@ -181,7 +199,7 @@ fn hold_too_much<N: Name + LogName, R: Wait + Abort>(
         changer: Changer::new(caller),
         refused: 0,
     };
-    let [one, other] = &mut readers[..] else {
+    let (Some(mut other), Some(mut one)) = (readers.pop(), readers.pop()) else {
         panic!(rt; "there are two readers")
     };
     small.put(rt, 1, 10);
