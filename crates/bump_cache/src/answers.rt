@@ -63,9 +63,9 @@ pub enum GotOrPut<K, V> {
     },
 }
 
-/// A put was refused: behind all bumps that waited each chunk that has no item was found held, by a reader or by a bump
-/// that came since, or has had its last generation, and is used no more. As a rule readers then hold as many ended items
-/// as the part has spare chunks (`CacheConfig::spare`), or some chunks are used up.
+/// A put was refused: behind all bumps that it saw waiting each chunk that has no item was found held, by a reader or
+/// by a bump that came since, or has had its last generation, and is used no more. As a rule readers then hold as many
+/// ended items as the part has spare chunks (`CacheConfig::spare`), or some chunks are used up.
 #[derive(Clone, Copy, Debug, PartialEq, Eq, Drop)]
 pub struct NoRoom<K, V> {
     /// What was evicted to make room, if something was.
