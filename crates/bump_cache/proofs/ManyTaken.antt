@@ -1,6 +1,6 @@
--- Each value that gets of many keys found stands in a hold that the worker of its key's part took meanwhile, behind that
--- key. So no other value can be claimed of them than one that was read there.
-use Rattle.std.proofs.Common.{◌≡◌, ℕ, zero, suc, ◌+◌, ◌<◌, List, [], ◌∷◌, length, Option, Some, None, set, refl, sym, ap, ◌∙◌, subst, arith}
+-- Each value that gets of many keys found stands, behind its key, in the row of a hold that the worker of the key's part
+-- took meanwhile, or of a glance that it made. So no other value can be claimed of them than one that was read there.
+use Rattle.std.proofs.Common.{◌≡◌, ℕ, zero, suc, List, [], ◌∷◌, length, Option, Some, None, set, refl, sym, ap, ◌∙◌, subst}
 use Rattle.std.proofs.lemmas.List.{length-set}
 use Rattle.std.proofs.lemmas.Option.{slice_get_within}
 use Rattle.std.specs.List.{slice_get}
@@ -12,9 +12,9 @@ use Rattle.cache_making.specs.Choosing.{part_of}
 use Rattle.cache_readers.specs.Readers.{ReaderView}
 use Rattle.cache_readers.proofs.GrownLemmas.{TookBetween, TookMore, finds_more, finds_took, nothing_more, took_none, took_since, took_still, took_then}
 use Rattle.bump_cache.specs.Many.{GetsEach, GetsOne}
-use Rattle.bump_cache.specs.Readers.{CacheReaderView, FindsValue, InPart, part_for}
+use Rattle.bump_cache.specs.Readers.{CacheReaderView, InPart, part_for}
 
--- In each part the worker has all holds that it had taken; the parts stay as many, and the seed stays.
+-- In each part the worker has all holds that it had taken, and all its glances; the parts stay as many, and the seed stays.
 pub record TooksMore (before after : CacheReaderView) : Type 0 where
   pub seed : after.seed ≡ before.seed
   pub count : length after.parts ≡ length before.parts
@@ -48,7 +48,7 @@ took_all_then before between after one other = record {
       (whole.0, whole.1, took_then whole.0.worker half.0.worker to.worker whole.2 half.2);
 }
 
--- the worker of one part took holds, or none
+-- the worker of one part took holds and glanced, or didn't
 in_part_more : (Does : ReaderView → ReaderView → Type 0) (key : List ℕ) (before after : CacheReaderView)
     → ((from to : ReaderView) → Does from to → TookMore from.worker to.worker) → InPart Does key before after
     → TooksMore before after
@@ -98,7 +98,7 @@ in_part_more Does key before after does one = subst (TooksMore before) (sym one.
       took_none to.worker to.worker refl,
     )
 
--- The worker of the key's part took a hold meanwhile that has the key, and behind it the value.
+-- The worker of the key's part took a hold meanwhile that has the key, and behind it the value, or glanced at such a row.
 pub record TookIn (key value : List ℕ) (before after : CacheReaderView) : Type 0 where
   pub from : ReaderView
   pub to : ReaderView
@@ -107,7 +107,7 @@ pub record TookIn (key value : List ℕ) (before after : CacheReaderView) : Type
   pub took : TookBetween key value from.worker to.worker
 
 module _ {K V : Type 0} (law : RowPredicate) (key_words : K → List ℕ) (value_words : V → List ℕ) (now : ℕ) where
-  -- one get takes holds, or none
+  -- one get takes holds and glances, or doesn't
   one_more : (key : K) (answer : Option V) (before after : CacheReaderView)
       → GetsOne law key_words value_words now key answer before after → TooksMore before after
   one_more key None before after one = in_part_more _ (key_words key) before after
@@ -165,7 +165,8 @@ module _ {K V : Type 0} (law : RowPredicate) (key_words : K → List ℕ) (value
         took = took_since key value first.0.worker took.from.worker took.to.worker first.2 took.took;
       }
 
-  -- Each value that was found is that of a hold which its part's worker took between the first state and the last.
+  -- Each value that was found is that of a hold which its part's worker took between the first state and the last, or of a
+  -- glance that it made between them.
   pub each_took : (keys : List K) (answers : List (Option V)) (before after : CacheReaderView)
       → GetsEach law key_words value_words now keys answers before after → (place : ℕ) (key : K) (value : V)
       → slice_get keys place ≡ Some key → slice_get answers place ≡ Some (Some value)

@@ -58,7 +58,7 @@ abbrev pub PeeksValue : RowPredicate → List ℕ → List ℕ → ℕ → Reade
 PeeksValue law key value now before after =
     Peeks law before.config key value now before.anew after.anew before.worker after.worker
 
--- an item with the key that hadn't expired was held, and nothing else was done
+-- an item with the key that hadn't expired was held, or a glance found it, and nothing else was done
 abbrev pub SeesItem : RowPredicate → List ℕ → ℕ → ReaderView → ReaderView → Type 0
 SeesItem law key now before after =
     Sees law before.config key now before.anew after.anew before.worker after.worker

@@ -69,12 +69,17 @@ impl<N: Name, K: Packed, V: Packed> CacheReader<N, K, V> {
     /// item has expired, and that which a touch stores, in the caller's ticks. It takes no lock and no memory, and
     /// waits for nobody.
     ///
-    /// It looks at the chunks to which the index leads for the key's hash. There it takes a hold of the item that is
-    /// linked then, compares its key, and gives the hold back where that is another one. An item with the key that has
-    /// expired at `now` isn't found, as in memcached's `do_item_get`: it is neither touched nor ended. Another is
-    /// touched, as `Worker::touch` does, unless the head by which the hold was taken had both marks: the first get sets
-    /// FETCHED, the second ACTIVE, and in COLD it queues a bump. Its value is what the put of this life stored. Where
-    /// an item was ended by another thread in between, or couldn't be held, it searches anew, at most 1,000 times.
+    /// It looks at the chunks to which the index leads for the key's hash. At each it glances first: it loads the head,
+    /// the words and the head again of the item that is linked there. Where that has both marks and the key, hasn't
+    /// expired at `now`, and is linked as ever by the second load, its value is answered, and nothing was written but
+    /// the count of hits: gets of one item needn't wait for each other.
+    ///
+    /// Else it takes a hold of the item that is linked there, compares its key, and gives the hold back where that is
+    /// another one. An item with the key that has expired isn't found, as in memcached's `do_item_get`: it is neither
+    /// touched nor ended. Another is touched, as `Worker::touch` does, unless the head by which the hold was taken had
+    /// both marks: the first get sets FETCHED, the second ACTIVE, and in COLD it queues a bump. Its value is what the
+    /// put of this life stored. Where an item was ended by another thread in between, or couldn't be held, it
+    /// searches anew, at most 1,000 times.
     #[inline(always)]
     pub fn get(&mut self, key: &K, now: u64) -> Option<V>
         ensures found { IfSome result (λ value. InPart (FindsValue (IsPair K.fits K.as_words V.fits V.as_words)

@@ -5,7 +5,7 @@ use Rattle.std.specs.Prelude.{slice_get, slice_set, slice_index_or}
 use Rattle.bump_steps.specs.declared.views.HoldPart.{HoldPart}
 use Rattle.bump_handles.proofs.PlaceLemmas.{busy_there, none_of, put_back}
 use Rattle.byte_words.specs.Strings.{long_string}
-use Rattle.cache_readers.specs.Readers.{Misses, ReaderView}
+use Rattle.cache_readers.specs.Readers.{Misses}
 use Rattle.bump_cache.specs.Readers.{CacheReaderView, InPart}
 use Rattle.bump_cache.proofs.Choices.{in_same}
 use Rattle.cache_handles.specs.declared.reading.GetTold.{GetTold}
@@ -34,28 +34,20 @@ rest_of : (v after : ByteReaderView) (reader : CacheReaderView) (holds : List (O
 rest_of v after reader holds left =
     left ∙ ap (λ (a : ByteReaderView). record v { reader = a.reader; holds = a.holds }) (sym left)
 
--- what a get did with words, which are those of a key
-pub gets_row : (words row : List ℕ) (count value_words now : ℕ) (answer : GetTold) (before after : ReaderView)
-    → words ≡ row → length words ≡ count → Gets words (length words) value_words now answer before after
-    → Gets row count value_words now answer before after
-gets_row words row count value_words now answer before after is long did =
-    subst (λ (n : ℕ). Gets row n value_words now answer before after) long
-    (subst (λ (ws : List ℕ). Gets ws (length words) value_words now answer before after) is did)
-
 -- what was done with the words of a key, which are as many as they are to be
 pub got_spelled : (bytes : List ℕ) (long width value_words now : ℕ) (answer : GetTold)
     (before from to after : CacheReaderView) → long ≡ width → from ≡ before → to ≡ after
-    → InPart (Gets (long_string long bytes) long value_words now answer) (long_string long bytes) from to
-    → InPart (Gets (long_string width bytes) width value_words now answer) (long_string width bytes) before after
+    → InPart (Gets (long_string long bytes) value_words now answer) (long_string long bytes) from to
+    → InPart (Gets (long_string width bytes) value_words now answer) (long_string width bytes) before after
 got_spelled bytes long width value_words now answer before from to after wide start end did =
-    in_same (Gets (long_string width bytes) width value_words now answer) (long_string width bytes) before from to after
-    start end (subst (λ (n : ℕ). InPart (Gets (long_string n bytes) n value_words now answer) (long_string n bytes) from
+    in_same (Gets (long_string width bytes) value_words now answer) (long_string width bytes) before from to after
+    start end (subst (λ (n : ℕ). InPart (Gets (long_string n bytes) value_words now answer) (long_string n bytes) from
     to) wide did)
 
 -- a get of a key that isn't too long
 pub tells_got : (key : List ℕ) (now : ℕ) (v before after : ByteReaderView) (answer : GetTold) → v ≡ before
     → length key ≤ v.key_bytes
-    → InPart (Gets (key_of v key) v.key_words v.value_words now answer) (key_of v key) v.reader after.reader
+    → InPart (Gets (key_of v key) v.value_words now answer) (key_of v key) v.reader after.reader
     → after ≡ record v { reader = after.reader } → TellsGet Gets key now before after answer
 tells_got key now v before after answer same short did left =
     subst (λ (b : ByteReaderView). TellsGet Gets key now b after answer) same (record {

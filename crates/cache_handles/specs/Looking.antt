@@ -1,5 +1,5 @@
 -- What looks at a part of byte strings come to, and removals.
-use Rattle.std.specs.Prelude.{◌≡◌, ℕ, Bool, true, false, List, ◌∷◌, length, slice_index, None, Some, IfNone, IfSome}
+use Rattle.std.specs.Prelude.{◌≡◌, ℕ, Bool, true, false, List, ◌∷◌, slice_index, None, Some, IfNone, IfSome}
 use Rattle.cache_part.specs.Parts.{PartView, IsUnknown}
 use Rattle.cache_shelf.specs.Entries.{Keeps, OthersKept, ReadsShelf}
 use Rattle.cache_shelf.specs.Shelves.{ShelfView, with_ended}

@@ -1,10 +1,10 @@
 -- What a reader of a cache of byte strings does.
-use Rattle.std.specs.Prelude.{◌≡◌, ◌≢◌, ℕ, ◌+◌, ◌<◌, ◌≤◌, Bool, true, false, List, length, replicate, slice_get, slice_set, None, Some}
+use Rattle.std.specs.Prelude.{◌≡◌, ◌≢◌, ℕ, ◌+◌, ◌<◌, ◌≤◌, Bool, true, false, List, length, min, replicate, slice_get, slice_index, slice_set, None, Some}
 use Rattle.bump_steps.specs.declared.views.HoldPart.{HoldPart}
 use Rattle.bump_steps.specs.References.{word_of_row}
 use Rattle.cache_readers.specs.Readers.{ReaderView, CountsHit, Misses}
 use Rattle.byte_words.specs.Strings.{long_string}
-use Rattle.bump_cache.specs.Readers.{HitsItem, InPart}
+use Rattle.bump_cache.specs.Readers.{FindsValue, HitsItem, InPart}
 use Rattle.cache_handles.specs.declared.reading.GetTold.{GetTold}
 use Rattle.cache_handles.specs.declared.reading.GetTold.TheVariants as got
 use Rattle.cache_handles.specs.declared.reading.HeldTold.{HeldTold}
@@ -25,26 +25,35 @@ pub record HitsHeld (key : List ℕ) (now : ℕ) (hold : HoldPart) (before after
   pub hits : HitsItem any_row key now hold before after
   pub counted : CountsHit before after
 
--- The flags and the length of the value of a hold are told, and its first eight words behind these two.
-pub record TellsHeld (key_words value_words : ℕ) (hold : HoldPart) (flags value_length : ℕ) (told : List ℕ) : Type 0
-  where
-    pub value : TellsValue (value_word key_words hold) flags value_length
-    pub words : told ≡ eight_words (value_word key_words hold) 2 value_words
+-- so many words of a value a get reads: its flags, its length, and eight of its bytes' words, or fewer where it has fewer
+abbrev pub first_words : ℕ → ℕ
+first_words value_words = min 10 value_words
+
+-- A get found a value with these first words, by a hold or by a glance, and counted a hit. Its flags and its length are
+-- told, and the words behind these two.
+pub record ReadsFirst (key : List ℕ) (value_words now flags value_length : ℕ) (told : List ℕ)
+    (before after : ReaderView) : Type 0 where
+  pub read : List ℕ
+  pub many : length read ≡ first_words value_words
+  pub found : FindsValue any_row key read now before after
+  pub counted : CountsHit before after
+  pub value : TellsValue (slice_index read) flags value_length
+  pub words : told ≡ eight_words (slice_index read) 2 (length read)
 
 -- what a get comes to, in the reader of the key's part
-abbrev pub Gets : List ℕ → ℕ → ℕ → ℕ → GetTold → ReaderView → ReaderView → Type 0
-Gets key key_words value_words now (got.Found value words) before after = (hold : HoldPart)
-    × HitsHeld key now hold before after × TellsHeld key_words value_words hold value.flags value.length words
-Gets key key_words value_words now got.Nothing before after = Misses key now before after
-Gets key key_words value_words now got.KeyBytes before after = ⊥
+abbrev pub Gets : List ℕ → ℕ → ℕ → GetTold → ReaderView → ReaderView → Type 0
+Gets key value_words now (got.Found value words) before after =
+    ReadsFirst key value_words now value.flags value.length words before after
+Gets key value_words now got.Nothing before after = Misses key now before after
+Gets key value_words now got.KeyBytes before after = ⊥
 
 -- What reading a value comes to: exactly where the key is too long that is told, and nothing is changed; else the reader
 -- of the key's part does this.
-pub record TellsGet (Does : List ℕ → ℕ → ℕ → ℕ → GetTold → ReaderView → ReaderView → Type 0) (key : List ℕ) (now : ℕ)
+pub record TellsGet (Does : List ℕ → ℕ → ℕ → GetTold → ReaderView → ReaderView → Type 0) (key : List ℕ) (now : ℕ)
     (before after : ByteReaderView) (answer : GetTold) : Type 0 where
   pub too_long : before.key_bytes < length key → (answer ≡ got.KeyBytes) × (after ≡ before)
-  pub does : length key ≤ before.key_bytes → InPart (Does (key_of before key) before.key_words before.value_words now
-      answer) (key_of before key) before.reader after.reader
+  pub does : length key ≤ before.key_bytes → InPart (Does (key_of before key) before.value_words now answer)
+      (key_of before key) before.reader after.reader
   pub rest : after ≡ record before { reader = after.reader }
 
 -- What a get comes to that holds: the hold that it took stands in the place.

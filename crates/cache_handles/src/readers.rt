@@ -11,7 +11,7 @@ ghost use Rattle.cache_handles.specs.Reading.{Gets, HitsHeld, TellsGet, TellsHol
 
 use crate::config::ByteConfig;
 use crate::reading::{GetTold, HeldTold, held_value, held_words};
-use crate::values::TOLD_WORDS;
+use crate::values::{FIRST_WORDS, TOLD_WORDS, ValueTold, eight_from, flags_in};
 use bump_handles::{no_holds, put_hold};
 use bump_heads::Name;
 use bump_steps::AnyRow;
@@ -57,7 +57,7 @@ impl<N: Name> Model for ByteReader<N> {
         × (length r.key.items ≡ words_for r.key_bytes) };
 }
 
-// Gets a value by the reader of a part, with the words of the key.
+// Gets the first words of a value by the reader of a part, with the words of the key.
 #[inline(always)]
 fn get_by<N: Name>(
     reader: &mut WordReader<N, AnyRow>,
@@ -67,18 +67,19 @@ fn get_by<N: Name>(
     now: u64,
 ) -> GetTold
     requires row { length key.now + value_words ≤ N.table.slots }
-    requires few { length key.now + value_words < 2 ^ 31 }
     requires two { 2 ≤ value_words }
-    ensures { Gets key.now (length key.now) value_words now result reader.old reader.new }
+    ensures { Gets key.now value_words now result reader.old reader.new }
 {
-    let Some(mut hold) = reader.hold(hash, key, now) else {
+    let mut room = [0; FIRST_WORDS];
+    let first = &mut room[..FIRST_WORDS.min(value_words as usize)];
+    if !reader.get(hash, key, first, now) {
         return GetTold::Nothing;
+    }
+    let value = ValueTold {
+        flags: flags_in(first[0]),
+        length: first[1],
     };
-    let heads = reader.heads();
-    let key_words = key.len() as u32;
-    let value = held_value(&mut hold, heads, key_words);
-    let words = held_words(&mut hold, heads, key_words, value_words, 2);
-    hold.release(heads);
+    let words = eight_from(first, 2, first.len());
     GetTold::Found { value, words }
 }
 
@@ -110,9 +111,8 @@ fn get_in<N: Name>(
     requires parts { IsPartCount (length parts.old) }
     requires room { words_for (length key.now) ≤ length words.old }
     requires row { length words.old + value_words ≤ N.table.slots }
-    requires few { length words.old + value_words < 2 ^ 31 }
     requires two { 2 ≤ value_words }
-    ensures { InPart (Gets (long_string (length words.old) key.now) (length words.old) value_words now result)
+    ensures { InPart (Gets (long_string (length words.old) key.now) value_words now result)
         (long_string (length words.old) key.now) (readers_by seed parts.old) (readers_by seed parts.new) }
 {
     spell(key, words);
@@ -168,8 +168,8 @@ impl<N: Name> ByteReader<N> {
     }
 
     /// Reads what a key has that hasn't expired at `now`, in the caller's ticks, as memcached's `get`: its flags, its
-    /// length, and the first 64 of its bytes, eight a word, the lowest first. The item is touched and counted as
-    /// `WordReader::get` does. It takes no lock and no memory, and waits for nobody.
+    /// length, and the first 64 of its bytes, eight a word, the lowest first. The item is glanced at, or touched, and
+    /// counted as `WordReader::get` does. It takes no lock and no memory, and waits for nobody.
     #[inline(always)]
     pub fn get(&mut self, key: &[u8], now: u64) -> GetTold
         ensures { TellsGet Gets key.now now self.old self.new result }

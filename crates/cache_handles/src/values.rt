@@ -8,6 +8,9 @@ use byte_words::spell;
 /// So many words are told at a time.
 pub const TOLD_WORDS: usize = 8;
 
+/// So many words of a value a get reads: its flags, its length, and as many words of its bytes as are told.
+pub(crate) const FIRST_WORDS: usize = 2 + TOLD_WORDS;
+
 /// What is told of a value beside its bytes.
 #[derive(Clone, Copy, Debug, PartialEq, Eq)]
 pub struct ValueTold {
@@ -46,6 +49,7 @@ fn word_at(words: &[u64], number: usize, count: usize) -> u64
 }
 
 /// Eight of the first so many of these words, from the one with this number on, and 0 behind the last of them.
+#[inline(always)]
 pub(crate) fn eight_from(words: &[u64], from: usize, count: usize) -> [u64; TOLD_WORDS]
     requires count { count ≤ length words.now }
     requires from { from < 2 ^ 33 }

@@ -1,28 +1,36 @@
 -- Looks at chunks: what they come to.
-use Rattle.std.proofs.Common.{◌≡◌, ℕ, zero, suc, ◌+◌, ◌<◌, false, List, Ok, refl, sym, ap, ◌∙◌, subst, inl, inr, arith}
+use Rattle.std.proofs.Common.{◌≡◌, ℕ, suc, ◌+◌, ◌<◌, false, List, [], Option, Some, None, Result, Ok, refl, sym, ap, ◌∙◌, subst, inl, inr, arith}
 use Rattle.bump_rules.specs.declared.configs.Config.{Config}
 use Rattle.bump_rules.specs.declared.items.Head.{Head}
 use Rattle.bump_steps.specs.declared.views.HoldPart.{HoldPart}
+use Rattle.bump_parts.specs.declared.refusals.GetAnyRefusal.{GetAnyRefusal}
 use Rattle.bump_parts.specs.StepCounts.{MakesAtMost}
 use Rattle.bump_parts.specs.Workers.{WorkerState}
 use Rattle.cache_readers.specs.declared.vain.Vain.{Vain}
 use Rattle.cache_readers.specs.declared.vain.Vain.TheVariants as vain
-use Rattle.cache_readers.specs.Looks.{AreOther, FindsNothing, FindsOthers, HasWords, IsInVain, LooksInVain, SearchEnds, SearchTakes, SearchesAnew, TakesKey, WorkerGetsAny, many_more, most_searches, one_more}
+use Rattle.cache_readers.specs.Glances.{GlanceFinds, GlancesInVain}
+use Rattle.cache_readers.specs.Looks.{FindsNothing, FindsOthers, FoundBy, GlancesKey, HasWords, IsInVain, LookFinds, LookTakes, LooksAt, LooksInVain, SearchBy, SearchEnds, SearchesAnew, TakesKey, WorkerGetsAny, many_more, most_searches, one_more}
 use Rattle.bump_steps.specs.References.{label_of_row, words_in}
 use Rattle.bump_steps.specs.Rule.{RowPredicate}
 use Rattle.entry_times.specs.Times.{has_expired}
 
--- a hold of an item that isn't what is looked for
-pub vain_of_hold : (why : Vain) (config : Config) (key : List ℕ) (now chunk : ℕ) (before after : WorkerState)
-    (hold : HoldPart) (found : Head) → WorkerGetsAny config chunk before after (Ok (hold, found))
-    → IsInVain why key now (Ok (hold, found))
-    → MakesAtMost 1 8 0 before.part.steps after.part.steps → LooksInVain why config key now before after
-vain_of_hold why config key now chunk before after hold found gets is few = record {
+-- a glance that told nothing, and a get
+pub looked : (config : Config) (chunk : ℕ) (before between after : WorkerState)
+    (took : Result (HoldPart × Head) GetAnyRefusal) → GlancesInVain chunk before between
+    → WorkerGetsAny config chunk between after took
+    → MakesAtMost 1 8 0 between.part.steps after.part.steps → LooksAt config chunk before after took
+looked config chunk before between after took glances gets few =
+    record { between = between; glances = glances; gets = gets; few = few }
+
+-- a get that isn't what is looked for
+pub vain_of : (why : Vain) (config : Config) (key : List ℕ) (now chunk : ℕ) (before after : WorkerState)
+    (took : Result (HoldPart × Head) GetAnyRefusal) → LooksAt config chunk before after took
+    → IsInVain why key now took → LooksInVain why config key now before after
+vain_of why config key now chunk before after took gets is = record {
   chunk = chunk;
-  took = Ok (hold, found);
+  took = took;
   gets = gets;
   is = is;
-  few = few;
 }
 
 -- one look more held an item with another key
@@ -32,59 +40,31 @@ pub one_more_other : (config : Config) (key : List ℕ) (now : ℕ) (before betw
 one_more_other config key now before between after first look =
     record { looks = suc first.looks; others = (between, first.others, look) }
 
--- and more of them
-others_then : (config : Config) (key : List ℕ) (now count more : ℕ) (before between after : WorkerState)
-    → AreOther config key now count before between → AreOther config key now more between after
-    → FindsOthers config key now before after
-others_then config key now count zero before between after first same =
-    subst (λ (w : WorkerState). FindsOthers config key now before w) (sym same)
-    (record { looks = count; others = first })
-others_then config key now count (suc more) before between after first (last, others, look) =
-    let rest = others_then config key now count more before between last first others in
-    record { looks = suc rest.looks; others = (last, rest.others, look) }
-
 -- a search that led to no further life
 pub search_over : (config : Config) (key : List ℕ) (now : ℕ) (before after : WorkerState)
     → FindsOthers config key now before after → SearchEnds vain.Other config key now before after
 search_over config key now before after others = record { between = after; others = others; last = refl }
 
--- the first look took a hold of an item with the key that hasn't expired, which is unchanged since
-pub takes_first : (law : RowPredicate) (config : Config) (key : List ℕ) (now chunk : ℕ) (before after : WorkerState)
-    (taken hold : HoldPart) (found : Head) → hold ≡ taken → WorkerGetsAny config chunk before after (Ok (taken, found))
+-- a look took a hold of an item with the key that hasn't expired, which is unchanged since
+pub look_takes : (law : RowPredicate) (config : Config) (key : List ℕ) (now chunk : ℕ) (before after : WorkerState)
+    (taken hold : HoldPart) (found : Head) → hold ≡ taken → LooksAt config chunk before after (Ok (taken, found))
     → HasWords key 0 taken.row → has_expired (label_of_row taken.row) now ≡ false → law (words_in taken.row)
-    → MakesAtMost 1 8 0 before.part.steps after.part.steps
-    → SearchTakes law config key now before after hold found
-takes_first law config key now chunk before after taken hold found same gets has_key stays lawful few =
-    subst (λ (h : HoldPart). SearchTakes law config key now before after h found) (sym same) (record {
-      looks = 0;
-      last = before;
-      others = refl;
+    → LookTakes law config key now hold found before after
+look_takes law config key now chunk before after taken hold found same gets has_key stays lawful =
+    subst (λ (h : HoldPart). LookTakes law config key now h found before after) (sym same) (record {
       chunk = chunk;
       gets = gets;
       has_key = has_key;
       stays = stays;
       lawful = lawful;
-      few = few;
     })
 
--- looks that took a hold, behind others
-pub takes_behind : (law : RowPredicate) (config : Config) (key : List ℕ) (now : ℕ)
-    (before between after : WorkerState) (hold : HoldPart) (found : Head) → FindsOthers config key now before between
-    → SearchTakes law config key now between after hold found
-    → SearchTakes law config key now before after hold found
-takes_behind law config key now before between after hold found first takes =
-    let rest = others_then config key now first.looks takes.looks before between takes.last first.others takes.others in
-    record {
-      looks = rest.looks;
-      last = takes.last;
-      others = rest.others;
-      chunk = takes.chunk;
-      gets = takes.gets;
-      has_key = takes.has_key;
-      stays = takes.stays;
-      lawful = takes.lawful;
-      few = takes.few;
-    }
+-- a search ended with a look that came to something, behind others
+pub ends_behind : (Ends : WorkerState → WorkerState → Type 0) (config : Config) (key : List ℕ) (now : ℕ)
+    (before between after : WorkerState) → FindsOthers config key now before between → Ends between after
+    → SearchBy Ends config key now before after
+ends_behind Ends config key now before between after others ends =
+    record { last = between; others = others; ends = ends }
 
 -- one search more ended at a life that had ended
 pub one_more_search : (config : Config) (key : List ℕ) (now turns : ℕ) (before between after : WorkerState)
@@ -101,19 +81,18 @@ counts_one turns from before after so_far one =
     let next : suc turns ≡ turns + 1 = omega arith in
     one ∙ ap one_more so_far ∙ ap (λ (n : ℕ). many_more n from) next
 
--- a search that took a hold, behind those that began anew
-pub takes_in_turn : (law : RowPredicate) (config : Config) (key : List ℕ) (now turns from to : ℕ)
-    (before start after : WorkerState) (hold : HoldPart) (found : Head) → turns < most_searches
-    → to ≡ many_more turns from
-    → SearchesAnew config key now turns before start → SearchTakes law config key now start after hold found
-    → TakesKey law config key now from to before after hold found
-takes_in_turn law config key now turns from to before start after hold found low counted anew takes = record {
+-- a search that came to something, behind those that began anew
+pub found_in_turn : (Ends : WorkerState → WorkerState → Type 0) (config : Config) (key : List ℕ) (now turns from to : ℕ)
+    (before start after : WorkerState) → turns < most_searches → to ≡ many_more turns from
+    → SearchesAnew config key now turns before start → SearchBy Ends config key now start after
+    → FoundBy Ends config key now from to before after
+found_in_turn Ends config key now turns from to before start after low counted anew search = record {
   turns = turns;
   counted = counted;
   few_turns = low;
   start = start;
   anew = anew;
-  search = takes;
+  search = search;
 }
 
 -- a search that found nothing, behind those that began anew
@@ -135,3 +114,53 @@ pub nothing_at_last : (config : Config) (key : List ℕ) (now turns from to : �
     → FindsNothing config key now from to before after
 nothing_at_last config key now turns from to before after all counted anew =
     record { turns = turns; counted = counted; start = after; anew = anew; ends = inl (all, refl) }
+
+-- what was found is held, or was glanced at
+pub found_held : (law : RowPredicate) (config : Config) (key value : List ℕ) (now from to : ℕ) (before after : WorkerState)
+    (sight : Option (HoldPart × Head)) (hold : HoldPart) (found : Head) → sight ≡ Some (hold, found)
+    → FoundBy (LookFinds law config key value now sight) config key now from to before after
+    → TakesKey law config key now from to before after hold found
+found_held law config key value now from to before after sight hold found is finds =
+    subst (λ (s : Option (HoldPart × Head)). FoundBy (LookFinds law config key value now s) config key now from to before after) is
+    finds
+
+pub found_glanced : (law : RowPredicate) (config : Config) (key value : List ℕ) (now from to : ℕ) (before after : WorkerState)
+    (sight : Option (HoldPart × Head)) → sight ≡ None
+    → FoundBy (LookFinds law config key value now sight) config key now from to before after
+    → GlancesKey law config key value now from to before after
+found_glanced law config key value now from to before after sight is finds =
+    subst (λ (s : Option (HoldPart × Head)). FoundBy (LookFinds law config key value now s) config key now from to before after) is
+    finds
+
+-- who glanced at a value saw its key
+pub glanced_at_key : (law : RowPredicate) (config : Config) (key value : List ℕ) (now from to : ℕ)
+    (before after : WorkerState) → GlancesKey law config key value now from to before after
+    → GlancesKey law config key [] now from to before after
+glanced_at_key law config key value now from to before after found = record {
+  turns = found.turns;
+  counted = found.counted;
+  few_turns = found.few_turns;
+  start = found.start;
+  anew = found.anew;
+  search = record {
+    last = found.search.last;
+    others = found.search.others;
+    ends = record {
+      glance = ends.glance;
+      first = ends.first;
+      last = ends.last;
+      is = ends.is;
+      begins = ends.begins;
+      marked = ends.marked;
+      lasts = ends.lasts;
+      agrees = ends.agrees;
+      has_key = ends.has_key;
+      has_value = λ i low. absurd (omega (arith, low));
+      stays = ends.stays;
+      lawful = ends.lawful;
+    };
+  };
+}
+  where
+    ends : GlanceFinds law key value now found.search.last after
+    ends = found.search.ends

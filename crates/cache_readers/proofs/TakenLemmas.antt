@@ -1,17 +1,21 @@
--- What a get found stands in the row of the hold that the worker's seat noted last, so that no other row will do.
-use Rattle.std.proofs.Common.{◌≡◌, ℕ, ◌+◌, ◌<◌, ◌≤◌, Bool, true, false, nat_lt, List, ◌∷◌, length, slice_index, Option, Some, None, Ok, Err, refl, sym, ap, ◌∙◌, subst, arith}
+-- What a get found stands in the row that the worker's seat noted last, of a hold or of a glance, so that no other row will
+-- do.
+use Rattle.std.proofs.Common.{◌≡◌, ℕ, ◌<◌, Bool, true, false, nat_lt, List, [], ◌∷◌, length, slice_index, Option, Some, None, Ok, inl, inr, refl, sym, ap, ◌∙◌, subst, arith}
 use Rattle.std.proofs.lemmas.Bool.{ltb-true, ltb-false}
 use Rattle.bump_rules.specs.declared.configs.Config.{Config}
 use Rattle.bump_rules.specs.declared.items.Head.{Head}
 use Rattle.bump_rules.specs.declared.items.ItemId.{ItemId}
 use Rattle.bump_steps.specs.declared.refusals.TakeRefusal.{TakeRefusal}
+use Rattle.bump_steps.specs.declared.views.GlancePart.{GlancePart}
 use Rattle.bump_steps.specs.declared.views.HoldPart.{HoldPart}
-use Rattle.bump_steps.specs.References.{new_hold, word_of_row}
+use Rattle.bump_steps.specs.References.{new_hold}
 use Rattle.bump_steps.specs.Rule.{RowPredicate, chunks as all_chunks}
 use Rattle.bump_steps.specs.Tries.{of_any, last_found, asked_life, asked_refusal, held_by}
 use Rattle.bump_parts.specs.Gets.{GotAny, get_any_answer}
 use Rattle.bump_parts.specs.Workers.{WorkerState}
-use Rattle.cache_readers.specs.Looks.{Finds, HasWords, Hits, Peeks, WorkerGetsAny}
+use Rattle.cache_readers.specs.Glances.{GlanceFinds}
+use Rattle.cache_readers.specs.Looks.{Finds, GlancesKey, HasWords, Hits, LooksAt, Peeks, WorkerGetsAny}
+use Rattle.cache_readers.proofs.LastSteps.{ends_by_loads, held_last, last_two, took_end}
 
 -- a hold that is answered is the one that is noted
 noted_hold : (hold : HoldPart) (found last : Head) (item : ItemId) (row : List ℕ) (taken : List HoldPart)
@@ -39,18 +43,89 @@ gets_first config chunk before after hold found gets = by (nat_lt chunk (all_chu
     by false is = let far = ltb-false chunk (all_chunks config) is in
         absurd (cc (gets.missing (omega (arith, far))).0)
 
+-- so does a look
+pub look_first : (config : Config) (chunk : ℕ) (before after : WorkerState) (hold : HoldPart) (found : Head)
+    → LooksAt config chunk before after (Ok (hold, found)) → after.part.taken ≡ hold ∷ before.part.taken
+look_first config chunk before after hold found look =
+    gets_first config chunk look.between after hold found look.gets
+    ∙ ap (λ (w : WorkerState). hold ∷ w.part.taken) look.glances.is
+
 -- a hit's hold is the one that the worker took last
 pub hits_first : (law : RowPredicate) (config : Config) (key : List ℕ) (now from to : ℕ) (before after : WorkerState)
     (hold : HoldPart) → (hits : Hits law config key now from to before after hold)
     → after.part.taken ≡ hold ∷ hits.takes.search.last.part.taken
 hits_first law config key now from to before after hold hits = hits.touches.taken
-    ∙ gets_first config hits.takes.search.chunk hits.takes.search.last hits.between hold hits.found hits.takes.search.gets
+    ∙ look_first config hits.takes.search.ends.chunk hits.takes.search.last hits.between hold hits.found
+    hits.takes.search.ends.gets
 
--- where two holds are the first of one list they are one
-one_first : (hold other : HoldPart) (taken holds others : List HoldPart) → taken ≡ hold ∷ holds
-    → taken ≡ other ∷ others → hold ≡ other
-one_first hold other taken holds others is too =
-    let both : hold ∷ holds ≡ other ∷ others = sym is ∙ too in cc both
+-- the row of the first of these, and none where there is none
+abbrev first_taken : List HoldPart → List ℕ
+first_taken [] = []
+first_taken (hold ∷ holds) = hold.row
+
+abbrev first_glanced : List GlancePart → List ℕ
+first_glanced [] = []
+first_glanced (glance ∷ glances) = glance.row
+
+-- The row that a worker noted last: that of its last glance, where its steps end with a glance's loads, and else that of
+-- the hold that it took last.
+abbrev row_by : Bool → WorkerState → List ℕ
+row_by true worker = first_glanced worker.part.glances
+row_by false worker = first_taken worker.part.taken
+
+abbrev pub last_row : WorkerState → List ℕ
+last_row worker = row_by (ends_by_loads worker.part.steps) worker
+
+-- it is that of a hold, behind which came one load at most,
+row_of_hold : (hold : HoldPart) (holds : List HoldPart) (after : WorkerState) → after.part.taken ≡ hold ∷ holds
+    → ends_by_loads after.part.steps ≡ false → last_row after ≡ hold.row
+row_of_hold hold holds after first ends =
+    ap (λ (b : Bool). row_by b after) ends ∙ ap first_taken first
+
+-- or that of a glance
+row_of_glance : (law : RowPredicate) (key value : List ℕ) (now : ℕ) (before after : WorkerState)
+    → (finds : GlanceFinds law key value now before after) → last_row after ≡ finds.glance.row
+row_of_glance law key value now before after finds =
+    ap (λ (b : Bool). row_by b after) (ap (λ (w : WorkerState). ends_by_loads w.part.steps) finds.is
+    ∙ last_two before.part.steps _ _)
+    ∙ ap (λ (w : WorkerState). first_glanced w.part.glances) finds.is
+
+-- the row has the key, and the value behind it
+abbrev pub LastHas : List ℕ → List ℕ → WorkerState → Type 0
+LastHas key value worker = HasWords key 0 (last_row worker) × HasWords value (length key) (last_row worker)
+
+glance_has : (law : RowPredicate) (config : Config) (key value : List ℕ) (now from to : ℕ) (before after : WorkerState)
+    → GlancesKey law config key value now from to before after → LastHas key value after
+glance_has law config key value now from to before after found =
+    let ends : GlanceFinds law key value now found.search.last after = found.search.ends in
+    subst (λ (row : List ℕ). HasWords key 0 row × HasWords value (length key) row)
+    (sym (row_of_glance law key value now found.search.last after ends)) (ends.has_key, ends.has_value)
+
+-- What a get found stands in the row that its worker noted last.
+pub finds_last : (law : RowPredicate) (config : Config) (key value : List ℕ) (now from to : ℕ)
+    (before after : WorkerState) → Finds law config key value now from to before after → LastHas key value after
+finds_last law config key value now from to before after (inr found) =
+    glance_has law config key value now from to before after found
+finds_last law config key value now from to before after (inl held) =
+    let hits = held.hits in
+    let look = hits.takes.search.ends in
+    subst (λ (row : List ℕ). HasWords key 0 row × HasWords value (length key) row)
+    (sym (row_of_hold held.hold _ after (hits_first law config key now from to before after held.hold hits)
+    (held_last config look.chunk look.gets.between hits.between after held.hold hits.found 8 4 look.gets.gets
+    hits.touches.few))) (look.has_key, held.has_value)
+
+-- so does what a peek found
+pub peeks_last : (law : RowPredicate) (config : Config) (key value : List ℕ) (now from to : ℕ)
+    (before after : WorkerState) → Peeks law config key value now from to before after → LastHas key value after
+peeks_last law config key value now from to before after (inr found) =
+    glance_has law config key value now from to before after found
+peeks_last law config key value now from to before after (inl held) =
+    let look = held.sees.takes.search.ends in
+    subst (λ (row : List ℕ). HasWords key 0 row × HasWords value (length key) row)
+    (sym (row_of_hold held.sees.hold _ after (look_first config look.chunk held.sees.takes.search.last after held.sees.hold
+    held.sees.found look.gets)
+    (took_end config look.chunk look.gets.between after held.sees.hold held.sees.found look.gets.gets)))
+    (look.has_key, held.has_value)
 
 -- A worker's get finds one value, whatever is said of it: what two say that it found, of which one may speak of another
 -- law, another configuration, another time and another beginning, is word by word the same.
@@ -59,11 +134,8 @@ pub found_once : (law rule : RowPredicate) (config other : Config) (key value to
     → Finds rule other key told then past next start after → (i : ℕ) → i < length value → i < length told
     → slice_index value i ≡ slice_index told i
 found_once law rule config other key value told now then from to past next before start after finds tells i low near =
-    let same : finds.hold ≡ tells.hold = one_first finds.hold tells.hold after.part.taken _ _
-    (hits_first law config key now from to before after finds.hold finds.hits)
-    (hits_first rule other key then past next start after tells.hold tells.hits) in
-    sym (finds.has_value i low) ∙ ap (λ (h : HoldPart). word_of_row h.row (length key + i)) same
-    ∙ tells.has_value i near
+    sym ((finds_last law config key value now from to before after finds).1 i low)
+    ∙ (finds_last rule other key told then past next start after tells).1 i near
 
 -- and under one key: what two say that a get's key is agrees word by word
 pub found_of_one_key : (law rule : RowPredicate) (config other : Config) (key asked value told : List ℕ) (now then from to past next : ℕ)
@@ -71,11 +143,8 @@ pub found_of_one_key : (law rule : RowPredicate) (config other : Config) (key as
     → Finds rule other asked told then past next start after → (i : ℕ) → i < length key → i < length asked
     → slice_index key i ≡ slice_index asked i
 found_of_one_key law rule config other key asked value told now then from to past next before start after finds tells i low near =
-    let same : finds.hold ≡ tells.hold = one_first finds.hold tells.hold after.part.taken _ _
-    (hits_first law config key now from to before after finds.hold finds.hits)
-    (hits_first rule other asked then past next start after tells.hold tells.hits) in
-    sym (finds.hits.takes.search.has_key i low) ∙ ap (λ (h : HoldPart). word_of_row h.row (0 + i)) same
-    ∙ tells.hits.takes.search.has_key i near
+    sym ((finds_last law config key value now from to before after finds).0 i low)
+    ∙ (finds_last rule other asked told then past next start after tells).0 i near
 
 -- the same of a peek
 pub peeked_once : (law rule : RowPredicate) (config other : Config) (key value told : List ℕ) (now then from to past next : ℕ)
@@ -83,12 +152,5 @@ pub peeked_once : (law rule : RowPredicate) (config other : Config) (key value t
     → Peeks rule other key told then past next start after → (i : ℕ) → i < length value → i < length told
     → slice_index value i ≡ slice_index told i
 peeked_once law rule config other key value told now then from to past next before start after peeks tells i low near =
-    let one = peeks.sees in
-    let two = tells.sees in
-    let took = one.takes.search in
-    let told_took = two.takes.search in
-    let same : one.hold ≡ two.hold = one_first one.hold two.hold after.part.taken _ _
-    (gets_first config took.chunk took.last after one.hold one.found took.gets)
-    (gets_first other told_took.chunk told_took.last after two.hold two.found told_took.gets) in
-    sym (peeks.has_value i low) ∙ ap (λ (h : HoldPart). word_of_row h.row (length key + i)) same
-    ∙ tells.has_value i near
+    sym ((peeks_last law config key value now from to before after peeks).1 i low)
+    ∙ (peeks_last rule other key told then past next start after tells).1 i near

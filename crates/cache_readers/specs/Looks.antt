@@ -1,5 +1,5 @@
 -- What looks at chunks come to, by which a reader finds the item of a key.
-use Rattle.std.specs.Prelude.{◌≡◌, ◌≢◌, ◌⊎◌, ◌&&◌, ℕ, zero, suc, ◌+◌, ◌%◌, ◌^◌, ◌<◌, ◌≤◌, true, false, List, length, slice_index, Result, Ok, Err, IfOk}
+use Rattle.std.specs.Prelude.{◌≡◌, ◌≢◌, ◌⊎◌, ◌&&◌, ℕ, zero, suc, ◌+◌, ◌%◌, ◌^◌, ◌<◌, ◌≤◌, true, false, List, [], length, slice_index, Option, Some, None, Result, Ok, Err}
 use Rattle.bump_rules.specs.declared.commands.Touch.{Touch}
 use Rattle.bump_rules.specs.declared.configs.Config.{Config}
 use Rattle.bump_rules.specs.declared.items.Head.{Head}
@@ -14,6 +14,8 @@ use Rattle.bump_parts.specs.Touches.{WorkerTouches}
 use Rattle.bump_parts.specs.Workers.{WorkerState}
 use Rattle.cache_readers.specs.declared.vain.Vain.{Vain}
 use Rattle.cache_readers.specs.declared.vain.Vain.TheVariants as vain
+use Rattle.cache_readers.specs.Glances.{GlanceFinds, GlancesInVain}
+pub use Rattle.cache_readers.specs.Glances.{HasWords}
 use Rattle.entry_times.specs.Times.{has_expired}
 
 -- a worker's get of whatever item is linked in a chunk, by the clauses `missing` and `got` of `Worker::get_any`
@@ -23,9 +25,14 @@ pub record WorkerGetsAny (config : Config) (chunk : ℕ) (before after : WorkerS
   pub got : chunk < all_chunks config → (first : Head) × (more : List Head)
       × GotAny config.refs_limit chunk before after took first more
 
--- these words stand in the row, from this number of its further words on
-abbrev pub HasWords : List ℕ → ℕ → List ℕ → Type 0
-HasWords words from row = (i : ℕ) → i < length words → word_of_row row (from + i) ≡ slice_index words i
+-- A look at a chunk: a glance that told nothing, or none, and then a get of whatever item is linked there, by one load of
+-- its head, and at most 8 exchanges.
+pub record LooksAt (config : Config) (chunk : ℕ) (before after : WorkerState)
+    (took : Result (HoldPart × Head) GetAnyRefusal) : Type 0 where
+  pub between : WorkerState
+  pub glances : GlancesInVain chunk before between
+  pub gets : WorkerGetsAny config chunk between after took
+  pub few : MakesAtMost 1 8 0 between.part.steps after.part.steps
 
 -- another word than the key's stands in the place of one of them
 abbrev pub HasOtherKey : List ℕ → List ℕ → Type 0
@@ -40,14 +47,13 @@ IsInVain vain.Over key now (Ok told) = HasWords key 0 told.0.row × (has_expired
 IsInVain vain.Other key now (Err refusal) = ⊥
 IsInVain vain.Over key now (Err refusal) = ⊥
 
--- a look at a chunk was in vain, for this: one load of its head, and at most 8 exchanges
+-- a look at a chunk was in vain, for this
 pub record LooksInVain (why : Vain) (config : Config) (key : List ℕ) (now : ℕ) (before after : WorkerState)
     : Type 0 where
   pub chunk : ℕ
   pub took : Result (HoldPart × Head) GetAnyRefusal
-  pub gets : WorkerGetsAny config chunk before after took
+  pub gets : LooksAt config chunk before after took
   pub is : IsInVain why key now took
-  pub few : MakesAtMost 1 8 0 before.part.steps after.part.steps
 
 -- so many looks of one search, one after the other: each held an item with another key
 abbrev pub AreOther : Config → List ℕ → ℕ → ℕ → WorkerState → WorkerState → Type 0
@@ -92,33 +98,51 @@ abbrev pub many_more : ℕ → ℕ → ℕ
 many_more zero count = count
 many_more (suc more) count = one_more (many_more more count)
 
--- A search ended with a hold of an item that has the key and hasn't expired, with the words that stood in its chunk when
--- the hold was taken, of which the table's law holds: so many looks held items with other keys, and the next one gave
--- this hold, by this head. By `gets` it is the first of the holds that the worker took, so that its row is no other than
--- that which the exchange found.
-pub record SearchTakes (law : RowPredicate) (config : Config) (key : List ℕ) (now : ℕ) (before after : WorkerState)
-    (hold : HoldPart) (found : Head) : Type 0 where
-  pub looks : ℕ
-  pub last : WorkerState
-  pub others : AreOther config key now looks before last
+-- A look gave a hold of an item that has the key and hasn't expired, by this head, with the words that stood in its chunk
+-- when the hold was taken, of which the table's law holds. By `gets` it is the first of the holds that the worker took, so
+-- that its row is no other than that which the exchange found.
+pub record LookTakes (law : RowPredicate) (config : Config) (key : List ℕ) (now : ℕ) (hold : HoldPart) (found : Head)
+    (before after : WorkerState) : Type 0 where
   pub chunk : ℕ
-  pub gets : WorkerGetsAny config chunk last after (Ok (hold, found))
+  pub gets : LooksAt config chunk before after (Ok (hold, found))
   pub has_key : HasWords key 0 hold.row
   pub stays : has_expired (label_of_row hold.row) now ≡ false
   pub lawful : law (words_in hold.row)
-  pub few : MakesAtMost 1 8 0 last.part.steps after.part.steps
 
--- Looks for a key ended with a hold of an item that has it and hasn't expired, by this head: so many searches ended at
--- lives that had ended, and the next one took the hold. The searches that ended so are counted: the count was one number
--- before, and is the other.
-pub record TakesKey (law : RowPredicate) (config : Config) (key : List ℕ) (now from to : ℕ)
-    (before after : WorkerState) (hold : HoldPart) (found : Head) : Type 0 where
+-- a look found the key's item: it gave this hold by this head, or a glance found this value
+abbrev pub LookFinds : RowPredicate → Config → List ℕ → List ℕ → ℕ → Option (HoldPart × Head) → WorkerState
+    → WorkerState → Type 0
+LookFinds law config key value now (Some took) = LookTakes law config key now took.0 took.1
+LookFinds law config key value now None = GlanceFinds law key value now
+
+-- a search ended with a look that came to this, behind looks that held items with other keys
+pub record SearchBy (Ends : WorkerState → WorkerState → Type 0) (config : Config) (key : List ℕ) (now : ℕ)
+    (before after : WorkerState) : Type 0 where
+  pub last : WorkerState
+  pub others : FindsOthers config key now before last
+  pub ends : Ends last after
+
+-- Searches for a key ended so: so many of them ended at lives that had ended, and the next one with a look that came to
+-- this. The searches that ended at such lives are counted: the count was one number before, and is the other.
+pub record FoundBy (Ends : WorkerState → WorkerState → Type 0) (config : Config) (key : List ℕ) (now from to : ℕ)
+    (before after : WorkerState) : Type 0 where
   pub turns : ℕ
   pub counted : to ≡ many_more turns from
   pub few_turns : turns < most_searches
   pub start : WorkerState
   pub anew : SearchesAnew config key now turns before start
-  pub search : SearchTakes law config key now start after hold found
+  pub search : SearchBy Ends config key now start after
+
+-- looks for a key ended with this hold of an item that has it
+abbrev pub TakesKey : RowPredicate → Config → List ℕ → ℕ → ℕ → ℕ → WorkerState → WorkerState → HoldPart → Head
+    → Type 0
+TakesKey law config key now from to before after hold found =
+    FoundBy (LookTakes law config key now hold found) config key now from to before after
+
+-- or with a glance that found this value
+abbrev pub GlancesKey : RowPredicate → Config → List ℕ → List ℕ → ℕ → ℕ → ℕ → WorkerState → WorkerState → Type 0
+GlancesKey law config key value now from to before after =
+    FoundBy (GlanceFinds law key value now) config key now from to before after
 
 -- the item of a hold is touched where the head by which the hold was taken hadn't both marks
 pub record TouchesUnmarked (config : Config) (hold : HoldPart) (found : Head) (now : ℕ) (before after : WorkerState)
@@ -127,8 +151,9 @@ pub record TouchesUnmarked (config : Config) (hold : HoldPart) (found : Head) (n
   pub touched : (found.fetched && found.active) ≡ false
       → (answer : Touch) × WorkerTouches config hold.life now before after answer
   pub few : MakesAtMost 1 8 4 before.part.steps after.part.steps
-  -- a touch takes no hold
+  -- a touch takes no hold, and doesn't glance
   pub taken : after.part.taken ≡ before.part.taken
+  pub glances : after.part.glances ≡ before.part.glances
 
 -- a get took this hold of an item with the key, and touched it
 pub record Hits (law : RowPredicate) (config : Config) (key : List ℕ) (now from to : ℕ) (before after : WorkerState)
@@ -138,25 +163,40 @@ pub record Hits (law : RowPredicate) (config : Config) (key : List ℕ) (now fro
   pub takes : TakesKey law config key now from to before between hold found
   pub touches : TouchesUnmarked config hold found now between after
 
--- a get found this value: its hit's row has it behind the key
-pub record Finds (law : RowPredicate) (config : Config) (key value : List ℕ) (now from to : ℕ)
+-- a get found this value by a hold: its hit's row has it behind the key
+pub record FindsHeld (law : RowPredicate) (config : Config) (key value : List ℕ) (now from to : ℕ)
     (before after : WorkerState) : Type 0 where
   pub hold : HoldPart
   pub hits : Hits law config key now from to before after hold
   pub has_value : HasWords value (length key) hold.row
 
+-- a get found this value: by a hold; or by a glance at an item with both marks, where a touch would change nothing
+abbrev pub Finds : RowPredicate → Config → List ℕ → List ℕ → ℕ → ℕ → ℕ → WorkerState → WorkerState → Type 0
+Finds law config key value now from to before after = FindsHeld law config key value now from to before after
+    ⊎ GlancesKey law config key value now from to before after
+
 -- an item with the key was held, and nothing else was done
-pub record Sees (law : RowPredicate) (config : Config) (key : List ℕ) (now from to : ℕ) (before after : WorkerState)
+pub record SeesHeld (law : RowPredicate) (config : Config) (key : List ℕ) (now from to : ℕ) (before after : WorkerState)
     : Type 0 where
   pub hold : HoldPart
   pub found : Head
   pub takes : TakesKey law config key now from to before after hold found
 
--- a peek found this value: the row of the item that it held has it behind the key
-pub record Peeks (law : RowPredicate) (config : Config) (key value : List ℕ) (now from to : ℕ)
+-- an item with the key was held, or a glance found it
+abbrev pub Sees : RowPredicate → Config → List ℕ → ℕ → ℕ → ℕ → WorkerState → WorkerState → Type 0
+Sees law config key now from to before after = SeesHeld law config key now from to before after
+    ⊎ GlancesKey law config key [] now from to before after
+
+-- a peek found this value by a hold: the row of the item that it held has it behind the key
+pub record PeeksHeld (law : RowPredicate) (config : Config) (key value : List ℕ) (now from to : ℕ)
     (before after : WorkerState) : Type 0 where
-  pub sees : Sees law config key now from to before after
+  pub sees : SeesHeld law config key now from to before after
   pub has_value : HasWords value (length key) sees.hold.row
+
+-- or by a glance
+abbrev pub Peeks : RowPredicate → Config → List ℕ → List ℕ → ℕ → ℕ → ℕ → WorkerState → WorkerState → Type 0
+Peeks law config key value now from to before after = PeeksHeld law config key value now from to before after
+    ⊎ GlancesKey law config key value now from to before after
 
 -- Looks for a key found nothing: so many searches ended at lives that had ended, and are counted. Either they were as many
 -- as there are at most; or the next search ended, where the index led to no further life, or at an item that has the key

@@ -3,6 +3,7 @@
 //! ticks, and 0 is never.
 #![tactic(auto)]
 
+mod glancing;
 mod looking;
 mod readers;
 mod vain;

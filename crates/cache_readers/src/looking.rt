@@ -1,9 +1,10 @@
 //! Looks at the chunks to which the index leads.
-ghost use Rattle.std.specs.Prelude.{◌≡◌, ◌+◌, ◌≤◌, true, false, IfOk, IfSome, IfNone, length};
+ghost use Rattle.std.specs.Prelude.{◌≡◌, ◌≢◌, ◌+◌, ◌≤◌, true, false, None, IfOk, IfSome, IfNone, length};
 ghost use Rattle.std.specs.Result.{IfErr};
-ghost use Rattle.cache_readers.specs.Looks.{FindsNothing, HasOtherKey, HasWords, Hits, LooksInVain, SearchEnds, SearchTakes};
-ghost use Rattle.cache_readers.specs.Looks.{TakesKey, TouchesUnmarked, one_more};
+ghost use Rattle.cache_readers.specs.Looks.{FindsNothing, FoundBy, HasOtherKey, HasWords, Hits, LookFinds, LooksInVain};
+ghost use Rattle.cache_readers.specs.Looks.{SearchBy, SearchEnds, TouchesUnmarked, one_more};
 
+use crate::glancing::glance_at;
 use crate::vain::Vain;
 use bump_parts::{Hold, Worker};
 use bump_readers::{Name, ReaderHeads};
@@ -71,22 +72,30 @@ pub(crate) fn touch<N: Name, L: RowLaw>(
     let _touch = worker.touch(heads, hold, now);
 }
 
-// Looks at a life: where it hasn't ended, has the key and hasn't expired, the hold of it is answered, and the head by
-// which it was taken.
+// Looks at a life. Where `glances` says so it glances first: where that finds the key's item, its value is read, and
+// None is answered. Else, where the life hasn't ended, has the key and hasn't expired, the hold of it is answered, and
+// the head by which it was taken.
 #[inline(always)]
 fn look<N: Name, L: RowLaw>(
     worker: &mut Worker<N>,
     heads: &ReaderHeads<N, L>,
     id: ItemId,
     key: &[u64],
+    value: &mut [u64],
+    glances: bool,
     now: u64,
-) -> Result<(Hold<N>, Head), Vain>
-    requires few { length key.now ≤ N.table.slots }
-    ensures takes { IfOk result (λ took. SearchTakes L.law heads.now key.now now worker.old worker.new took.0 took.1) }
-    ensures led { IfOk result (λ took. took.0.life.generation ≡ id.generation) }
+) -> Result<Option<(Hold<N>, Head)>, Vain>
+    requires few { length key.now + length value.old ≤ N.table.slots }
+    ensures finds { IfOk result (λ sight. LookFinds L.law heads.now key.now value.new now sight worker.old worker.new) }
+    ensures led { IfOk result (λ sight. IfSome sight (λ took. took.0.life.generation ≡ id.generation)) }
+    ensures held { glances ≡ false → IfOk result (λ sight. sight ≢ None) }
     ensures vain { IfErr result (λ why. LooksInVain why heads.now key.now now worker.old worker.new) }
+    ensures length { length value.new ≡ length value.old }
     ensures ring { worker.new.sender.ring ≡ worker.old.sender.ring }
 {
+    if glance_at(worker, heads, id, key, value, glances, now) {
+        return Ok(None);
+    }
     let Ok((mut hold, found)) = worker.get_any(heads, id.chunk) else {
         return Err(Vain::Ended);
     };
@@ -104,7 +113,7 @@ fn look<N: Name, L: RowLaw>(
         hold.release(heads);
         return Err(Vain::Over);
     }
-    Ok((hold, found))
+    Ok(Some((hold, found)))
 }
 
 // Goes through the chunks to which the index leads for this hash.
@@ -115,17 +124,22 @@ fn look_through<N: Name, L: RowLaw>(
     index: &IndexReader,
     hash: u32,
     key: &[u64],
+    value: &mut [u64],
+    glances: bool,
     now: u64,
-) -> Result<(Hold<N>, Head), Vain>
-    requires few { length key.now ≤ N.table.slots }
-    ensures takes { IfOk result (λ took. SearchTakes L.law heads.now key.now now worker.old worker.new took.0 took.1) }
+) -> Result<Option<(Hold<N>, Head)>, Vain>
+    requires few { length key.now + length value.old ≤ N.table.slots }
+    ensures finds { IfOk result (λ sight. SearchBy (LookFinds L.law heads.now key.now value.new now sight) heads.now
+        key.now now worker.old worker.new) }
+    ensures held { glances ≡ false → IfOk result (λ sight. sight ≢ None) }
     ensures vain { IfErr result (λ why. SearchEnds why heads.now key.now now worker.old worker.new) }
+    ensures length { length value.new ≡ length value.old }
     ensures ring { worker.new.sender.ring ≡ worker.old.sender.ring }
 {
     let mut search = index.search(hash);
     while let Some(id) = search.next() {
-        match look(worker, heads, id, key, now) {
-            Ok(took) => return Ok(took),
+        match look(worker, heads, id, key, value, glances, now) {
+            Ok(sight) => return Ok(sight),
             Err(Vain::Ended) => return Err(Vain::Ended),
             Err(Vain::Over) => return Err(Vain::Over),
             Err(Vain::Other) => {}
@@ -134,8 +148,9 @@ fn look_through<N: Name, L: RowLaw>(
     Err(Vain::Other)
 }
 
-// Finds the item of a key that hasn't expired: a hold of it, and the head by which it was taken. Searches that end at a
-// life that has ended are counted in `anew`.
+// Finds the item of a key that hasn't expired. Where `glances` says so and a glance found it, its value is read, and
+// None is answered; else a hold of it, and the head by which it was taken. Searches that end at a life that has ended
+// are counted in `anew`.
 #[inline(always)]
 pub(crate) fn find<N: Name, L: RowLaw>(
     worker: &mut Worker<N>,
@@ -144,17 +159,21 @@ pub(crate) fn find<N: Name, L: RowLaw>(
     anew: &mut u64,
     hash: u32,
     key: &[u64],
+    value: &mut [u64],
+    glances: bool,
     now: u64,
-) -> Option<(Hold<N>, Head)>
-    requires few { length key.now ≤ N.table.slots }
-    ensures takes { IfSome result (λ took. TakesKey L.law heads.now key.now now anew.old anew.new worker.old worker.new
-        took.0 took.1) }
+) -> Option<Option<(Hold<N>, Head)>>
+    requires few { length key.now + length value.old ≤ N.table.slots }
+    ensures finds { IfSome result (λ sight. FoundBy (LookFinds L.law heads.now key.now value.new now sight) heads.now
+        key.now now anew.old anew.new worker.old worker.new) }
+    ensures held { glances ≡ false → IfSome result (λ sight. sight ≢ None) }
     ensures vain { IfNone result (FindsNothing heads.now key.now now anew.old anew.new worker.old worker.new) }
+    ensures length { length value.new ≡ length value.old }
     ensures ring { worker.new.sender.ring ≡ worker.old.sender.ring }
 {
     for _turn in 0..TURNS {
-        match look_through(worker, heads, index, hash, key, now) {
-            Ok(took) => return Some(took),
+        match look_through(worker, heads, index, hash, key, value, glances, now) {
+            Ok(sight) => return Some(sight),
             Err(Vain::Other) => return None,
             Err(Vain::Over) => return None,
             Err(Vain::Ended) => count_one(anew),
@@ -165,7 +184,7 @@ pub(crate) fn find<N: Name, L: RowLaw>(
 
 // One more. A count that stopped at its greatest number would cost each get a comparison.
 #[inline(always)]
-fn count_one(count: &mut u64)
+pub(crate) fn count_one(count: &mut u64)
     ensures { count.new ≡ one_more count.old }
 {
     *count = count.wrapping_add(1);
@@ -192,11 +211,16 @@ pub(crate) fn take<N: Name, L: RowLaw>(
     ensures missed { IfNone result ((hits.new ≡ hits.old) × (misses.new ≡ one_more misses.old)) }
     ensures ring { worker.new.sender.ring ≡ worker.old.sender.ring }
 {
-    let Some((mut hold, found)) = find(worker, heads, index, anew, hash, key, now) else {
+    let found = find(worker, heads, index, anew, hash, key, &mut [], false, now);
+    let Some(sight) = found else {
         count_one(misses);
         return None;
     };
-    touch(worker, heads, &mut hold, found, now);
+    // This never comes, since no glance was asked for.
+    let Some((mut hold, head)) = sight else {
+        return None;
+    };
+    touch(worker, heads, &mut hold, head, now);
     count_one(hits);
     Some(hold)
 }

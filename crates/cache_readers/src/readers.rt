@@ -3,11 +3,11 @@ ghost use Rattle.std.specs.Prelude.{◌≡◌, ◌+◌, ◌≤◌, true, false, 
 ghost use Rattle.std.specs.Arc.{arc_value};
 ghost use Rattle.bump_rules.specs.declared.hands.Hand.TheVariants as hand;
 ghost use Rattle.bump_rules.specs.Rings.{IsAccounts};
-ghost use Rattle.cache_readers.specs.Looks.{Finds, HasWords, Hits, Peeks, Sees, TakesKey};
+ghost use Rattle.cache_readers.specs.Looks.{Finds, FoundBy, HasWords, Hits, LookFinds, Peeks, Sees};
 ghost use Rattle.cache_readers.specs.Readers.{CountsHit, CountsMiss, CountsNothing, KeepsRing, Misses, ReadsNothing};
 ghost use Rattle.cache_readers.specs.Readers.{ReaderView as TheReaderView, new_reader};
 
-use crate::looking::{find, read_words, take};
+use crate::looking::{count_one, find, read_words, take, touch};
 use bump_heads::{Heads, Name};
 use bump_parts::{Hold, Worker};
 use bump_readers::ReaderHeads;
@@ -70,14 +70,21 @@ impl<N: Name, L: RowLaw> WordReader<N, L> {
         &self.heads
     }
 
-    // Finds the item of a key by the reader's worker, and does nothing else.
+    // Finds the item of a key by a glance, and reads its value, or by a hold, and does nothing else.
     #[inline(always)]
-    fn see(&mut self, hash: u32, key: &[u64], now: u64) -> Option<(Hold<N>, Head)>
-        requires few { length key.now ≤ N.table.slots }
-        ensures found { IfSome result (λ took. TakesKey L.law self.old.config key.now now self.old.anew self.new.anew
-            self.old.worker self.new.worker took.0 took.1) }
+    fn see(
+        &mut self,
+        hash: u32,
+        key: &[u64],
+        value: &mut [u64],
+        now: u64,
+    ) -> Option<Option<(Hold<N>, Head)>>
+        requires few { length key.now + length value.old ≤ N.table.slots }
+        ensures finds { IfSome result (λ sight. FoundBy (LookFinds L.law self.old.config key.now value.new now sight)
+            self.old.config key.now now self.old.anew self.new.anew self.old.worker self.new.worker) }
         ensures nothing { IfNone result (ReadsNothing key.now now self.old self.new) }
         ensures uncounted { CountsNothing self.old self.new }
+        ensures length { length value.new ≡ length value.old }
         ensures ring { KeepsRing self.old self.new }
     {
         find(
@@ -87,6 +94,8 @@ impl<N: Name, L: RowLaw> WordReader<N, L> {
             &mut self.anew,
             hash,
             key,
+            value,
+            true,
             now,
         )
     }
@@ -97,16 +106,21 @@ impl<N: Name, L: RowLaw> WordReader<N, L> {
     /// words of `key` and `value` are as many as a row has, or fewer, together. It takes no lock and no memory, and
     /// waits for nobody.
     ///
-    /// It searches the index, and looks at each chunk to which it leads: it takes a hold of the item that is linked
-    /// there then, and compares its key. Where that is another one the hold is given back, and the search goes on.
-    /// Where it is the key, and the item has expired, the hold is given back too, and the search ends: the item stays
-    /// linked. Else the item is touched, as `Worker::touch` does, unless the head by which the hold was taken had both
-    /// marks; the value is read, and the hold given back. What it read are the words that the put of this life stored.
+    /// It searches the index, and looks at each chunk to which it leads. First it glances at the item that is linked
+    /// there: it loads the head, the label, the words of the key and of the value, and the head again. Where the item
+    /// has both marks and the key, hasn't expired, and is linked as ever by the second load, that is a hit: a touch
+    /// would change nothing, and nothing was written but the count of hits.
+    ///
+    /// Else it takes a hold of the item that is linked there then, and compares its key. Where that is another one the
+    /// hold is given back, and the search goes on. Where it is the key, and the item has expired, the hold is given back
+    /// too, and the search ends: the item stays linked. Else the item is touched, as `Worker::touch` does, unless the
+    /// head by which the hold was taken had both marks; the value is read, and the hold given back. What it read are
+    /// the words that the put of this life stored.
     ///
     /// Where a life to which the index led has ended meanwhile, or its chunk can't be held, it searches anew, up to 1,000
     /// times. It answers false where the item with the key has expired, where the index leads to no chunk with the key,
-    /// and behind the last of these searches; nothing is touched then, and `value` is as it was. That it searched the
-    /// index isn't promised.
+    /// and behind the last of these searches; nothing is touched then, and `value` has any words, since a glance in vain
+    /// may have loaded some. That it searched the index isn't promised.
     #[inline(always)]
     pub fn get(&mut self, hash: u32, key: &[u64], value: &mut [u64], now: u64) -> bool
         requires few { length key.now + length value.old ≤ N.table.slots }
@@ -115,35 +129,40 @@ impl<N: Name, L: RowLaw> WordReader<N, L> {
         ensures counted { result ≡ true → CountsHit self.old self.new }
         ensures nothing { result ≡ false → ReadsNothing key.now now self.old self.new }
         ensures missed { result ≡ false → CountsMiss self.old self.new }
-        ensures unread { result ≡ false → value.new ≡ value.old }
         ensures length { length value.new ≡ length value.old }
         ensures ring { KeepsRing self.old self.new }
     {
         // The words of the chunks are looked up once: the compiler can't know that no step changes where they lie.
         let heads: &ReaderHeads<N, L> = &self.heads;
-        let taken = take(
+        let found = find(
             &mut self.worker,
             heads,
             &self.index,
-            &mut self.hits,
-            &mut self.misses,
             &mut self.anew,
             hash,
             key,
+            value,
+            true,
             now,
         );
-        if let Some(mut hold) = taken {
-            read_words(&mut hold, heads, key.len(), value);
-            hold.release(heads);
+        let Some(sight) = found else {
+            count_one(&mut self.misses);
+            return false;
+        };
+        count_one(&mut self.hits);
+        let Some((mut hold, head)) = sight else {
             return true;
-        }
-        false
+        };
+        touch(&mut self.worker, heads, &mut hold, head, now);
+        read_words(&mut hold, heads, key.len(), value);
+        hold.release(heads);
+        true
     }
 
     /// The same, but hands out the hold of the item, whose value isn't read yet; or `None` where `get` answers false.
-    /// It searches, touches and counts as `get` does. The words of `key` are as many as a row has, or fewer. While
-    /// there is the hold its item's chunk isn't free, and keeps its words, whatever is put, removed or evicted
-    /// meanwhile, and also once it has expired. It must be spent, by `Hold::release` with `heads`.
+    /// It searches, touches and counts as `get` does, without a glance. The words of `key` are as many as a row has, or
+    /// fewer. While there is the hold its item's chunk isn't free, and keeps its words, whatever is put, removed or
+    /// evicted meanwhile, and also once it has expired. It must be spent, by `Hold::release` with `heads`.
     #[inline(always)]
     pub fn hold(&mut self, hash: u32, key: &[u64], now: u64) -> Option<Hold<N>>
         requires few { length key.now ≤ N.table.slots }
@@ -187,12 +206,14 @@ impl<N: Name, L: RowLaw> WordReader<N, L> {
             self.old.worker self.new.worker }
         ensures nothing { result ≡ false → ReadsNothing key.now now self.old self.new }
         ensures uncounted { CountsNothing self.old self.new }
-        ensures unread { result ≡ false → value.new ≡ value.old }
         ensures length { length value.new ≡ length value.old }
         ensures ring { KeepsRing self.old self.new }
     {
-        let Some((mut hold, _)) = self.see(hash, key, now) else {
+        let Some(sight) = self.see(hash, key, value, now) else {
             return false;
+        };
+        let Some((mut hold, _)) = sight else {
+            return true;
         };
         read_words(&mut hold, &self.heads, key.len(), value);
         hold.release(&self.heads);
@@ -210,8 +231,11 @@ impl<N: Name, L: RowLaw> WordReader<N, L> {
         ensures uncounted { CountsNothing self.old self.new }
         ensures ring { KeepsRing self.old self.new }
     {
-        let Some((hold, _)) = self.see(hash, key, now) else {
+        let Some(sight) = self.see(hash, key, &mut [], now) else {
             return false;
+        };
+        let Some((hold, _)) = sight else {
+            return true;
         };
         hold.release(&self.heads);
         true

@@ -1,24 +1,34 @@
 use Rattle.std.proofs.Common.{◌≡◌, refl, subst, sym, ap, ◌∙◌}
 use Rattle.cache_readers.specs.Looks.{Finds}
+use Rattle.cache_readers.specs.Readers.{Misses}
+use Rattle.cache_readers.proofs.FoundRows.{finds_row}
 use Rattle.bump_cache.specs.Pairs.{IsPair}
 use Rattle.bump_cache.proofs.PairLemmas.{value_read}
 use Rattle.bump_cache.proofs.looking.get_by.Goals as goal
 
 pub unpack-requires : goal.unpack-requires
 unpack-requires g c =
-    let found = c.if-not-get.ensures.found refl in
+    let found = finds_row _ _ _ _ _ _ _ _ _ (c.if-not-get.ensures.found refl) in
     let told = value_read g.K.Packed.fits g.K.Packed.as_words g.V.Packed.fits g.V.Packed.as_words g.K.Packed.width
     g.V.Packed.width
-    g.met.K.Packed.length_is g.met.V.Packed.length_is found.hold.row _ _ found.hits.takes.search.lawful
+    g.met.K.Packed.length_is g.met.V.Packed.length_is found.row _ _ found.lawful
     c.requires.length
     (c.get.ensures.length ∙ c.requires.value) found.has_value in
     (told.0, (told.1, told.2))
 
+pub returns-then-not-get-clause-missed : goal.returns-then-not-get-clause-missed
+returns-then-not-get-clause-missed g c =
+    subst (λ key. Misses key c.args.now c.args.reader.now c.get.new.self) c.requires.words (record {
+      nothing = c.if-not-get.ensures.nothing refl;
+      missed = c.if-not-get.ensures.missed refl;
+      ring = c.if-not-get.ensures.ring;
+    })
+
 pub returns-clause-found : goal.returns-clause-found
 returns-clause-found g c =
-    let found = c.if-not-get.ensures.found refl in
+    let found = finds_row _ _ _ _ _ _ _ _ _ (c.if-not-get.ensures.found refl) in
     let told = value_read g.K.Packed.fits g.K.Packed.as_words g.V.Packed.fits g.V.Packed.as_words g.K.Packed.width
-    g.V.Packed.width g.met.K.Packed.length_is g.met.V.Packed.length_is found.hold.row _ _ found.hits.takes.search.lawful
+    g.V.Packed.width g.met.K.Packed.length_is g.met.V.Packed.length_is found.row _ _ found.lawful
     c.requires.length
     (c.get.ensures.length ∙ c.requires.value) found.has_value in
     let is : c.get.new.value ≡ g.V.Packed.as_words c.unpack.result =
@@ -28,4 +38,4 @@ returns-clause-found g c =
     c.get.new.self.anew c.args.reader.now.worker c.get.new.self.worker) c.requires.words
     (subst (λ words. Finds (IsPair g.K.Packed.fits g.K.Packed.as_words g.V.Packed.fits g.V.Packed.as_words)
     c.args.reader.now.config c.args.words.now words c.args.now c.args.reader.now.anew c.get.new.self.anew
-    c.args.reader.now.worker c.get.new.self.worker) is found)
+    c.args.reader.now.worker c.get.new.self.worker) is (c.if-not-get.ensures.found refl))

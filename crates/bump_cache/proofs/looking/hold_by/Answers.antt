@@ -9,7 +9,7 @@ returns-clause-value g c =
     subst (λ (hold : HoldPart). HoldsValue g.V.Packed.fits g.V.Packed.as_words g.K.Packed.width hold)
     (sym c.new.ensures)
     (value_held g.K.Packed.fits g.K.Packed.as_words g.V.Packed.fits g.V.Packed.as_words g.K.Packed.width
-    g.met.K.Packed.length_is c.in-Some.hold.row c.in-Some.ensures.found.takes.search.lawful)
+    g.met.K.Packed.length_is c.in-Some.hold.row c.in-Some.ensures.found.takes.search.ends.lawful)
 
 pub new-requires-clause-pair : goal.new-requires-clause-pair
-new-requires-clause-pair g c = c.in-Some.ensures.found.takes.search.lawful
+new-requires-clause-pair g c = c.in-Some.ensures.found.takes.search.ends.lawful

@@ -1,12 +1,13 @@
 use Rattle.std.proofs.Common.{rules, subst}
 use Rattle.cache_readers.specs.declared.vain.Vain.{Vain}
 use Rattle.cache_readers.specs.Looks.{SearchEnds}
-use Rattle.cache_readers.proofs.LookLemmas.{counts_one, nothing_at_last, nothing_other, nothing_over, one_more_search, takes_in_turn}
+use Rattle.cache_readers.proofs.LookLemmas.{counts_one, found_in_turn, nothing_at_last, nothing_other, nothing_over, one_more_search}
 use Rattle.cache_readers.proofs.looking.find.Goals as goal
 
-pub returns-in-Ok-clause-takes : goal.returns-in-Ok-clause-takes
-returns-in-Ok-clause-takes g c =
-    takes_in_turn _ _ _ _ _ _ _ _ _ _ _ _ (search rules) c.loop-turn.invariant.2 c.loop-turn.invariant.0 c.in-Ok.ensures.takes
+pub returns-in-Ok-clause-finds : goal.returns-in-Ok-clause-finds
+returns-in-Ok-clause-finds g c =
+    found_in_turn _ _ _ _ _ _ _ _ _ _ (search rules) c.loop-turn.invariant.2 c.loop-turn.invariant.0
+    c.in-Ok.ensures.finds
 
 pub returns-in-Err-Other-clause-vain : goal.returns-in-Err-Other-clause-vain
 returns-in-Err-Other-clause-vain g c =
@@ -31,4 +32,5 @@ loop-turn-preserved g c = (
   search rules,
   counts_one c.loop-turn._turn c.args.anew.now c.loop-turn.anew c.count_one.new.count c.loop-turn.invariant.2
       c.count_one.ensures,
+  search rules,
 )

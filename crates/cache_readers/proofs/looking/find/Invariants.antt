@@ -1,7 +1,8 @@
-use Rattle.std.proofs.Common.{◌≡◌}
+use Rattle.std.proofs.Common.{◌≡◌, length}
 use Rattle.cache_readers.specs.Looks.{SearchesAnew, many_more}
 use Rattle.cache_readers.proofs.looking.find.Given as goal
 
 abbrev pub invariant-loop-turn : goal.invariant-loop-turn
 invariant-loop-turn g l = SearchesAnew l.fn.heads l.fn.key l.fn.now l._turn l.fn.worker l.worker
     × (l.worker.sender.ring ≡ l.fn.worker.sender.ring) × (l.anew ≡ many_more l._turn l.fn.anew)
+    × (length l.value ≡ length l.fn.value)

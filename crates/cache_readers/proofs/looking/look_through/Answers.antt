@@ -1,12 +1,12 @@
 use Rattle.std.proofs.Common.{rules, subst}
 use Rattle.cache_readers.specs.declared.vain.Vain.{Vain}
 use Rattle.cache_readers.specs.Looks.{LooksInVain}
-use Rattle.cache_readers.proofs.LookLemmas.{one_more_other, search_over, takes_behind}
+use Rattle.cache_readers.proofs.LookLemmas.{ends_behind, one_more_other, search_over}
 use Rattle.cache_readers.proofs.looking.look_through.Goals as goal
 
-pub returns-in-Ok-clause-takes : goal.returns-in-Ok-clause-takes
-returns-in-Ok-clause-takes g c =
-    takes_behind _ _ _ _ _ _ _ _ _ c.loop-id.invariant.0 c.in-Ok.ensures.takes
+pub returns-in-Ok-clause-finds : goal.returns-in-Ok-clause-finds
+returns-in-Ok-clause-finds g c =
+    ends_behind _ _ _ _ _ _ _ c.loop-id.invariant.0 c.in-Ok.ensures.finds
 
 pub returns-in-Err-Ended-clause-vain : goal.returns-in-Err-Ended-clause-vain
 returns-in-Err-Ended-clause-vain g c = record {
@@ -32,6 +32,7 @@ loop-id-preserved g c = (
   one_more_other _ _ _ _ c.loop-id.worker c.look.new.worker c.loop-id.invariant.0
       (subst (λ (why : Vain). LooksInVain why c.args.heads.now c.args.key.now c.args.now c.loop-id.worker c.look.new.worker)
       c.in-Err-Other.field-0-is c.in-Err-Other.ensures.vain),
+  search rules,
   search rules,
   search rules,
 )

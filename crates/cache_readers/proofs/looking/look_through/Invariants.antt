@@ -1,4 +1,4 @@
-use Rattle.std.proofs.Common.{◌≡◌}
+use Rattle.std.proofs.Common.{◌≡◌, length}
 use Rattle.cache_nests.specs.Views.{ahead}
 use Rattle.cache_readers.specs.Looks.{FindsOthers}
 use Rattle.cache_readers.proofs.looking.look_through.Given as goal
@@ -9,3 +9,4 @@ decreases-loop-id g l = ahead l.search
 abbrev pub invariant-loop-id : goal.invariant-loop-id
 invariant-loop-id g l = FindsOthers l.fn.heads l.fn.key l.fn.now l.fn.worker l.worker
     × (l.search.nests ≡ l.fn.index.nests) × (l.worker.sender.ring ≡ l.fn.worker.sender.ring)
+    × (length l.value ≡ length l.fn.value)

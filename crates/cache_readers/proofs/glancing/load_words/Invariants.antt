@@ -1,0 +1,9 @@
+use Rattle.std.proofs.Common.{◌≡◌, length}
+use Rattle.bump_readers.specs.Glances.{IsGlancing}
+use Rattle.cache_readers.specs.Glances.{Reads}
+use Rattle.cache_readers.proofs.GlanceLemmas.{HasFirst}
+use Rattle.cache_readers.proofs.glancing.load_words.Given as goal
+
+abbrev pub invariant-loop-index : goal.invariant-loop-index
+invariant-loop-index g l = Reads (HasFirst l.words l.fn.from l.index) l.fn.worker l.worker
+    × IsGlancing l.fn.glance l.worker.part × (length l.words ≡ length l.fn.words)

@@ -1,0 +1,103 @@
+//! Glances at the chunks to which the index leads: looks without a reference, which write nothing.
+ghost use Rattle.std.specs.Prelude.{◌≡◌, ◌+◌, ◌≤◌, true, false, length};
+ghost use Rattle.bump_steps.specs.References.{label_of_row};
+ghost use Rattle.bump_readers.specs.Glances.{IsGlancing};
+ghost use Rattle.cache_readers.specs.Glances.{GlanceFinds, GlancesInVain, HasWords, Reads};
+
+use bump_parts::Worker;
+use bump_readers::{Glance, Name, ReaderHeads};
+use bump_rules::ItemId;
+use bump_steps::RowLaw;
+use entry_times::has_expired;
+
+// The label that the glance loads.
+#[inline(always)]
+fn load_label<N: Name, L: RowLaw>(
+    worker: &mut Worker<N>,
+    heads: &ReaderHeads<N, L>,
+    glance: &Glance<N>,
+) -> u64
+    requires glance { IsGlancing glance.now worker.old.part }
+    ensures reads { Reads (λ row. result ≡ label_of_row row) worker.old worker.new }
+{
+    worker.glance_label(heads, glance)
+}
+
+// Whether the words that the glance loads are the key's.
+#[inline(always)]
+fn has_key_words<N: Name, L: RowLaw>(
+    worker: &mut Worker<N>,
+    heads: &ReaderHeads<N, L>,
+    glance: &Glance<N>,
+    key: &[u64],
+) -> bool
+    requires glance { IsGlancing glance.now worker.old.part }
+    requires few { length key.now ≤ N.table.slots }
+    ensures reads { Reads (λ row. result ≡ true → HasWords key.now 0 row) worker.old worker.new }
+{
+    let _further = heads.further();
+    for index in 0..key.len() {
+        if worker.glance_word(heads, glance, index as u32) != key[index] {
+            return false;
+        }
+    }
+    true
+}
+
+// Loads words by the glance, from this further word on.
+#[inline(always)]
+fn load_words<N: Name, L: RowLaw>(
+    worker: &mut Worker<N>,
+    heads: &ReaderHeads<N, L>,
+    glance: &Glance<N>,
+    from: usize,
+    words: &mut [u64],
+)
+    requires glance { IsGlancing glance.now worker.old.part }
+    requires few { from + length words.old ≤ N.table.slots }
+    ensures reads { Reads (HasWords words.new from) worker.old worker.new }
+    ensures length { length words.new ≡ length words.old }
+{
+    let _further = heads.further();
+    for index in 0..words.len() {
+        words[index] = worker.glance_word(heads, glance, (from + index) as u32);
+    }
+}
+
+// Glances at a life, where `glances` says so: whether it is linked, has both marks and the key, hasn't expired, and is
+// still linked when its value was read. Then a touch would change nothing, and each word that was read is the life's.
+#[inline(always)]
+pub(crate) fn glance_at<N: Name, L: RowLaw>(
+    worker: &mut Worker<N>,
+    heads: &ReaderHeads<N, L>,
+    id: ItemId,
+    key: &[u64],
+    value: &mut [u64],
+    glances: bool,
+    now: u64,
+) -> bool
+    requires few { length key.now + length value.old ≤ N.table.slots }
+    ensures finds { result ≡ true → GlanceFinds L.law key.now value.new now worker.old worker.new }
+    ensures vain { result ≡ false → GlancesInVain id.chunk worker.old worker.new }
+    ensures none { glances ≡ false → result ≡ false }
+    ensures length { length value.new ≡ length value.old }
+{
+    if !glances {
+        return false;
+    }
+    let Some((glance, found)) = worker.glance(heads, id.chunk) else {
+        return false;
+    };
+    if found.generation != id.generation || !found.fetched || !found.active {
+        return false;
+    }
+    if has_expired(load_label(worker, heads, &glance), now) {
+        return false;
+    }
+    if !has_key_words(worker, heads, &glance, key) {
+        return false;
+    }
+    load_words(worker, heads, &glance, key.len(), value);
+    let last = worker.end_glance(heads, glance);
+    last.linked && last.generation == id.generation
+}
