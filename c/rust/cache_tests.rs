@@ -154,7 +154,7 @@ fn puts_that_look_first() {
 
 #[test]
 fn keys_are_of_their_parts() {
-    let config = Config { parts: 4, seed: (1, 2), ..config(400, 8) };
+    let config = Config { parts: 4, seed: (1, 2), ..config(400, 2) };
     let Opened { cache, readers } = open(&config).unwrap();
     let mut parts = cache.into_parts();
     let mut of_part = [0; 4];
@@ -206,7 +206,7 @@ fn a_full_part_evicts() {
 
 #[test]
 fn calls_of_a_cache_are_made_in_the_keys_part() {
-    let config = Config { parts: 4, ..config(400, 8) };
+    let config = Config { parts: 4, ..config(400, 2) };
     let Opened { cache, readers } = open(&config).unwrap();
     for number in 0..100u32 {
         let (key, looked) = (number.to_le_bytes(), |value: &[u8], flags, expires| {
