@@ -111,33 +111,39 @@ impl Nests {
         }
     }
 
-    /// The lanes whose tag is this, of the nest whose first word is `word`, as a reader finds them, who is told nothing.
-    /// `tag` is at most 255.
+    // The first word of a nest. Of this width it is one shift and one mask of a hash's product with the number of nests.
     #[inline(always)]
-    pub(crate) fn lanes_now(&self, word: u32, tag: u64) -> u64
-        requires word { word + 7 < 8 * self.now.nests }
+    fn first_word(nest: u32) -> usize
+        ensures { result ≡ 8 * nest }
+    {
+        NEST_WORDS as usize * nest as usize
+    }
+
+    /// The lanes of a nest whose tag is this, as a reader finds them, who is told nothing. `tag` is at most 255.
+    #[inline(always)]
+    pub(crate) fn lanes_now(&self, nest: u32, tag: u64) -> u64
+        requires nest { nest < self.now.nests }
         requires tag { tag < 256 }
         ensures { result < 2 ^ 48 }
     {
-        lanes_with(self.words.load(word as usize), tag)
+        lanes_with(self.words.load(Nests::first_word(nest)), tag)
     }
 
-    /// Whether some key passed the nest whose first word this is, as a reader finds it, who is told nothing.
+    /// Whether some key passed the nest, as a reader finds it, who is told nothing.
     #[inline(always)]
-    pub(crate) fn is_passed_now(&self, word: u32) -> bool
-        requires { word + 7 < 8 * self.now.nests }
+    pub(crate) fn is_passed_now(&self, nest: u32) -> bool
+        requires { nest < self.now.nests }
     {
-        self.words.load((word + PASSED) as usize) != 0
+        self.words.load(Nests::first_word(nest) + PASSED as usize) != 0
     }
 
-    /// The word of the life of a lane, in the nest whose first word is `word`, as a reader finds it, who is told nothing.
+    /// The word of the life of a lane in a nest, as a reader finds it, who is told nothing.
     #[inline(always)]
-    pub(crate) fn life_now(&self, word: u32, lane: u32) -> u64
-        requires word { word + 7 < 8 * self.now.nests }
+    pub(crate) fn life_now(&self, nest: u32, lane: u32) -> u64
+        requires nest { nest < self.now.nests }
         requires lane { lane < lanes }
     {
-        self.words
-            .load((word + lane) as usize + FIRST_LIFE as usize)
+        self.words.load(Nests::first_word(nest) + lane as usize + FIRST_LIFE as usize)
     }
 
     /// The first lane of a nest, from one on, whose tag is this, or 6 where there is none.

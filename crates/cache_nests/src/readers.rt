@@ -7,7 +7,7 @@ ghost use Rattle.cache_nests.specs.Views.{ahead};
 ghost use Rattle.cache_nests.specs.Walks.{TakesLowest, WalksOn};
 
 use crate::led::life_of;
-use crate::nests::{NEST_WORDS, Nests, behind};
+use crate::nests::{Nests, behind};
 use crate::tags::{lowest, tag_of, without_lowest};
 use bump_rules::ItemId;
 use std::alloc::{AllocError, Global};
@@ -44,12 +44,9 @@ pub struct Search<'a> {
     tag: u64,
     // the lanes of this nest that have the tag, and that aren't answered yet: the highest of the 8 bits of each
     lanes: u64,
-    // The first word of the nest, by which all its words are loaded, and the hash: with the tag and the lanes that is
-    // all that a get keeps. Of the rest contracts speak, and no step depends on it: so it costs nothing.
-    word: u32,
     hash: u32,
     nest: u32,
-    // so many nests it hasn't come to
+    // So many nests it hasn't come to. Of this contracts speak, and no step depends on it: so it costs nothing.
     later: u32,
 }
 
@@ -64,7 +61,7 @@ impl<'a> Model for Search<'a> {
     ghost view = { λ s. record { nests = s.nests.now.nests; tag = s.tag; nest = s.nest; later = s.later; lanes = s.lanes } };
 
     ghost invariant = { λ s. (s.tag < 256) × (s.lanes < 2 ^ 48) × (s.nest < s.nests.now.nests)
-        × (s.later < s.nests.now.nests) × (s.nests.now.nests ≤ 2 ^ 28 + 1) × (s.word ≡ 8 * s.nest)
+        × (s.later < s.nests.now.nests) × (s.nests.now.nests ≤ 2 ^ 28 + 1)
         × (home_of s.nests.now.nests s.hash < s.nests.now.nests)
         × IsBehind s.nests.now.nests (home_of s.nests.now.nests s.hash) s.nest s.later };
 }
@@ -100,15 +97,13 @@ impl IndexReader {
         let nests: &Nests = &self.nests;
         let count = nests.count();
         let nest = nests.home(hash);
-        let word = NEST_WORDS * nest;
         let tag = tag_of(hash);
         Search {
             reader: self,
             nests,
             tag,
-            lanes: nests.lanes_now(word, tag),
+            lanes: nests.lanes_now(nest, tag),
             nest,
-            word,
             later: count - 1,
             hash,
         }
@@ -123,7 +118,7 @@ impl<'a> Search<'a> {
         ensures last { result ≡ true → self.now.later ≡ 0 }
         ensures more { result ≡ false → 0 < self.now.later }
     {
-        behind(self.nests.count(), self.word / NEST_WORDS, 1) == self.nests.home(self.hash)
+        behind(self.nests.count(), self.nest, 1) == self.nests.home(self.hash)
     }
 
     // Comes to the next nest.
@@ -137,9 +132,8 @@ impl<'a> Search<'a> {
         ensures narrow { self.new.lanes < 2 ^ 48 }
     {
         self.later -= 1;
-        self.nest = behind(self.nests.count(), self.word / NEST_WORDS, 1);
-        self.word = NEST_WORDS * self.nest;
-        self.lanes = self.nests.lanes_now(self.word, self.tag);
+        self.nest = behind(self.nests.count(), self.nest, 1);
+        self.lanes = self.nests.lanes_now(self.nest, self.tag);
     }
 
     /// The next life that may be of a key with the search's hash, or `None` where no more may be. Its chunk has its own
@@ -157,14 +151,14 @@ impl<'a> Search<'a> {
         ensures nearer { IfSome result (λ _. ahead self.new < ahead self.old) }
     {
         while self.lanes == 0 {
-            if self.is_last() || !self.nests.is_passed_now(self.word) {
+            if self.is_last() || !self.nests.is_passed_now(self.nest) {
                 return None;
             }
             self.walk();
         }
         let lane = lowest(self.lanes);
         self.lanes = without_lowest(self.lanes);
-        let life = life_of(self.nests.life_now(self.word, lane));
+        let life = life_of(self.nests.life_now(self.nest, lane));
         let reader = self.reader;
         // Nothing is known of a word that a reader loads, so nothing says that the sum fits.
         Some(ItemId {

@@ -1,4 +1,4 @@
-use Rattle.std.proofs.Common.{◌≡◌, ◌+◌, ◌-◌, ◌∙◌, refl, rules}
+use Rattle.std.proofs.Common.{◌≡◌, ◌+◌, ◌-◌, ◌∙◌, rules}
 use Rattle.cache_nests.specs.Places.{home_of, nest_behind}
 use Rattle.cache_nests.proofs.WalkLemmas.{walks_behind}
 use Rattle.cache_nests.proofs.readers.Search.walk.Goals as goal
@@ -12,7 +12,6 @@ invariant_of-self c =
       search rules,
       search rules,
       search rules,
-      refl,
       search rules,
       same
           ∙ walks_behind c.self.inside.nests.now.nests (home_of c.self.inside.nests.now.nests c.self.inside.hash) c.self.inside.nest
