@@ -1,3 +1,4 @@
+mod Behind
 pub mod PairLemmas
 pub mod Telling
 pub mod HeldLemmas

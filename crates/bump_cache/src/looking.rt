@@ -1,16 +1,17 @@
 //! Gets by the reader of a key's part.
 ghost use Rattle.std.specs.Prelude.{◌≡◌, ◌+◌, ◌≤◌, true, false, length, IfSome, IfNone};
-ghost use Rattle.cache_readers.specs.Readers.{CountsHit, CountsNothing, KeepsRing, Misses, ReadsNothing};
+ghost use Rattle.cache_readers.specs.Readers.{CountsHit, CountsNothing, GlancedAt, KeepsRing, Misses, ReadsNothing};
+ghost use Rattle.cache_readers.specs.Readers.{ReaderView as TheReaderView};
 ghost use Rattle.cache_making.specs.Choosing.{IsPartCount};
 ghost use Rattle.bump_cache.specs.Opening.{most_words};
 ghost use Rattle.bump_cache.specs.Pairs.{IsPair};
 ghost use Rattle.bump_cache.specs.Readers.{FindsValue, HitsItem, HoldsValue, InPart, KeepsRings, PeeksValue, SeesItem, readers_by};
 
 use crate::held::PairHold;
-use crate::law::PairLaw;
+use crate::law::{MOST_WORDS, PairLaw};
 use bump_heads::Name;
 use cache_making::part_in;
-use cache_readers::WordReader;
+use cache_readers::{Glanced, ItemId, WordReader};
 use keyed_hash::Seed;
 use packed_words::Packed;
 
@@ -19,22 +20,56 @@ use packed_words::Packed;
 fn get_by<N: Name, K: Packed, V: Packed>(
     reader: &mut WordReader<N, PairLaw<K, V>>,
     hash: u32,
-    _key: &K,
+    key: &K,
     words: &[u64],
     value: &mut [u64],
     now: u64,
 ) -> Option<V>
     requires few { K.width + V.width ≤ N.table.slots }
-    requires words { words.now ≡ K.as_words _key.now }
+    requires most { K.width + V.width ≤ most_words }
+    requires words { words.now ≡ K.as_words key.now }
     requires length { length words.now ≡ K.width }
     requires value { length value.old ≡ V.width }
-    ensures found { IfSome result (λ it. FindsValue (IsPair K.fits K.as_words V.fits V.as_words) (K.as_words _key.now)
+    ensures found { IfSome result (λ it. FindsValue (IsPair K.fits K.as_words V.fits V.as_words) (K.as_words key.now)
         (V.as_words it) now reader.old reader.new) }
     ensures counted { IfSome result (λ it. CountsHit reader.old reader.new) }
-    ensures missed { IfNone result (Misses (K.as_words _key.now) now reader.old reader.new) }
+    ensures missed { IfNone result (Misses (K.as_words key.now) now reader.old reader.new) }
     ensures ring { KeepsRing reader.old reader.new }
 {
-    if !reader.get(hash, words, value, now) {
+    match reader.glance(hash, words, value, now) {
+        Glanced::Found => Some(V::unpack(value)),
+        Glanced::Nothing => None,
+        Glanced::Unsure(id) => get_held_by(reader, id, hash, key, now),
+    }
+}
+
+// Goes on from a life at which a glance told nothing. It packs the key anew, so that the words of a get by a glance stay
+// in registers: most gets are one.
+#[cold]
+#[inline(never)]
+fn get_held_by<N: Name, K: Packed, V: Packed>(
+    reader: &mut WordReader<N, PairLaw<K, V>>,
+    id: ItemId,
+    hash: u32,
+    key: &K,
+    now: u64,
+) -> Option<V>
+    requires few { K.width + V.width ≤ N.table.slots }
+    requires most { K.width + V.width ≤ most_words }
+    ensures found { IfSome result (λ it. (before : TheReaderView) → GlancedAt id before reader.old
+        → FindsValue (IsPair K.fits K.as_words V.fits V.as_words) (K.as_words key.now) (V.as_words it) now before
+        reader.new) }
+    ensures counted { IfSome result (λ it. CountsHit reader.old reader.new) }
+    ensures missed { IfNone result ((before : TheReaderView) → GlancedAt id before reader.old
+        → Misses (K.as_words key.now) now before reader.new) }
+    ensures ring { KeepsRing reader.old reader.new }
+{
+    let mut key_row = [0; MOST_WORDS];
+    let mut value_row = [0; MOST_WORDS];
+    let words = &mut key_row[..K::words()];
+    let value = &mut value_row[..V::words()];
+    key.pack(words);
+    if !reader.get_held(id, hash, words, value, now) {
         return None;
     }
     Some(V::unpack(value))
@@ -125,6 +160,7 @@ pub(crate) fn get_in<N: Name, K: Packed, V: Packed>(
 ) -> Option<V>
     requires parts { IsPartCount (length parts.old) }
     requires few { K.width + V.width ≤ N.table.slots }
+    requires most { K.width + V.width ≤ most_words }
     requires words { length words.old ≡ K.width }
     requires value { length value.old ≡ V.width }
     ensures found { IfSome result (λ it. InPart (FindsValue (IsPair K.fits K.as_words V.fits V.as_words)

@@ -99,6 +99,21 @@ still_glancing Holds item before after glancing reads = record {
     now : after.part.glances ≡ record reads.glance { agrees = reads.agrees } ∷ behind before.part.glances
     now = ap (λ (w : WorkerState). w.part.glances) reads.is
 
+-- it glances at this life, also behind one more load of the head
+pub led_to : (item id : ItemId) (last : Head) (before after : WorkerState) → IsGlancing item before.part
+    → after ≡ record before { part = looked_at item.chunk last before.part } → item.chunk ≡ id.chunk
+    → item.generation ≡ id.generation → IsGlancing id after.part
+led_to item id last before after glancing looked chunk generation =
+    subst (λ (w : WorkerState). IsGlancing id w.part) (sym looked) (record {
+      glance = glancing.glance;
+      first = glancing.first;
+      of = glancing.of ∙ same;
+    })
+  where
+    same : item ≡ id
+    same = ap (λ (k : ℕ). record item { chunk = k }) chunk
+        ∙ ap (λ (n : ℕ). record id { generation = n }) generation
+
 -- so many words of the row, from this further word on, are these
 abbrev pub HasFirst : List ℕ → ℕ → ℕ → List ℕ → Type 0
 HasFirst words from count row = (i : ℕ) → i < count → word_of_row row (from + i) ≡ slice_index words i

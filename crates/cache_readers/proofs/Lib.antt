@@ -1,5 +1,6 @@
 mod GlanceLemmas
 mod LookLemmas
+pub mod ReaderLemmas
 pub mod LastSteps
 pub mod GrownLemmas
 pub mod TakenLemmas

@@ -1,5 +1,6 @@
 -- Looks at chunks: what they come to.
-use Rattle.std.proofs.Common.{◌≡◌, ℕ, suc, ◌+◌, ◌<◌, false, List, [], Option, Some, None, Result, Ok, refl, sym, ap, ◌∙◌, subst, inl, inr, arith}
+use Rattle.std.proofs.Common.{◌≡◌, ℕ, zero, suc, ◌+◌, ◌<◌, false, List, [], Option, Some, None, IfOk, IfNone, Result, Ok, Err, refl, sym, ap, ◌∙◌, subst, inl, inr, arith}
+use Rattle.std.specs.Result.{IfErr}
 use Rattle.bump_rules.specs.declared.configs.Config.{Config}
 use Rattle.bump_rules.specs.declared.items.Head.{Head}
 use Rattle.bump_steps.specs.declared.views.HoldPart.{HoldPart}
@@ -8,8 +9,8 @@ use Rattle.bump_parts.specs.StepCounts.{MakesAtMost}
 use Rattle.bump_parts.specs.Workers.{WorkerState}
 use Rattle.cache_readers.specs.declared.vain.Vain.{Vain}
 use Rattle.cache_readers.specs.declared.vain.Vain.TheVariants as vain
-use Rattle.cache_readers.specs.Glances.{GlanceFinds, GlancesInVain}
-use Rattle.cache_readers.specs.Looks.{FindsNothing, FindsOthers, FoundBy, GlancesKey, HasWords, IsInVain, LookFinds, LookTakes, LooksAt, LooksInVain, SearchBy, SearchEnds, SearchesAnew, TakesKey, WorkerGetsAny, many_more, most_searches, one_more}
+use Rattle.cache_readers.specs.Glances.{BehindGlance, GlanceFinds, GlancesInVain}
+use Rattle.cache_readers.specs.Looks.{AreOther, FindsNothing, FindsOthers, FoundBy, GlancesKey, HasWords, IsInVain, LookFinds, LookTakes, LooksAt, LooksInVain, SearchBy, SearchEnds, SearchesAnew, TakesKey, WorkerGetsAny, many_more, most_searches, one_more}
 use Rattle.bump_steps.specs.References.{label_of_row, words_in}
 use Rattle.bump_steps.specs.Rule.{RowPredicate}
 use Rattle.entry_times.specs.Times.{has_expired}
@@ -65,6 +66,75 @@ pub ends_behind : (Ends : WorkerState → WorkerState → Type 0) (config : Conf
     → SearchBy Ends config key now before after
 ends_behind Ends config key now before between after others ends =
     record { last = between; others = others; ends = ends }
+
+-- looks that held items with other keys, behind one more
+others_behind : (config : Config) (key : List ℕ) (now looks : ℕ) (before between after : WorkerState)
+    → LooksInVain vain.Other config key now before between → AreOther config key now looks between after
+    → AreOther config key now (suc looks) before after
+others_behind config key now zero before between after look same =
+    (before, refl, subst (λ (w : WorkerState). LooksInVain vain.Other config key now before w) (sym same) look)
+others_behind config key now (suc looks) before between after look more =
+    (more.0, others_behind config key now looks before between more.0 look more.1, more.2)
+
+-- the rest of a search, behind a look at an item with another key
+more_behind : (config : Config) (key : List ℕ) (now : ℕ) (before between after : WorkerState)
+    → LooksInVain vain.Other config key now before between → FindsOthers config key now between after
+    → FindsOthers config key now before after
+more_behind config key now before between after look rest = record {
+  looks = suc rest.looks;
+  others = others_behind config key now rest.looks before between after look rest.others;
+}
+
+-- it found something
+pub found_behind : (law : RowPredicate) (config : Config) (key value : List ℕ) (now chunk : ℕ)
+    (start between after : WorkerState) (result : Result (Option (HoldPart × Head)) Vain)
+    → BehindGlance chunk (λ (before : WorkerState). LooksInVain vain.Other config key now before between) start
+    → IfOk result (λ sight. SearchBy (LookFinds law config key value now sight) config key now between after)
+    → IfOk result (λ sight. BehindGlance chunk (λ (before : WorkerState).
+    SearchBy (LookFinds law config key value now sight) config key now before after) start)
+found_behind law config key value now chunk start between after (Ok sight) look found = λ before glances. record {
+  last = found.last;
+  others = more_behind config key now before between found.last (look before glances) found.others;
+  ends = found.ends;
+}
+found_behind law config key value now chunk start between after (Err why) look found = tt
+
+-- or it ended
+pub ended_behind : (config : Config) (key : List ℕ) (now chunk : ℕ) (start between after : WorkerState)
+    (result : Result (Option (HoldPart × Head)) Vain)
+    → BehindGlance chunk (λ (before : WorkerState). LooksInVain vain.Other config key now before between) start
+    → IfErr result (λ why. SearchEnds why config key now between after)
+    → IfErr result (λ why. BehindGlance chunk (λ (before : WorkerState). SearchEnds why config key now before after) start)
+ended_behind config key now chunk start between after (Ok sight) look ends = tt
+ended_behind config key now chunk start between after (Err why) look ends = λ before glances. record {
+  between = ends.between;
+  others = more_behind config key now before between ends.between (look before glances) ends.others;
+  last = ends.last;
+}
+
+-- what holds of nothing behind a glance, behind this one
+pub nothing_behind : {A : Type 0} (result : Option A) (chunk : ℕ) (Holds : WorkerState → Type 0)
+    (before start : WorkerState) → GlancesInVain chunk before start → IfNone result (BehindGlance chunk Holds start)
+    → IfNone result (Holds before)
+nothing_behind (Some it) chunk Holds before start glances holds = tt
+nothing_behind None chunk Holds before start glances holds = holds before glances
+
+-- a first glance found the key's value
+pub found_at_once : (law : RowPredicate) (config : Config) (key value : List ℕ) (now from to : ℕ)
+    (before after : WorkerState) → to ≡ from → GlanceFinds law key value now before after
+    → GlancesKey law config key value now from to before after
+found_at_once law config key value now from to before after same found = record {
+  turns = 0;
+  counted = same;
+  few_turns = omega arith;
+  start = before;
+  anew = refl;
+  search = record {
+    last = before;
+    others = record { looks = 0; others = refl };
+    ends = found;
+  };
+}
 
 -- one search more ended at a life that had ended
 pub one_more_search : (config : Config) (key : List ℕ) (now turns : ℕ) (before between after : WorkerState)

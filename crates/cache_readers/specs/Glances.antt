@@ -1,6 +1,7 @@
 -- What a reader's glances at chunks come to, by which it finds the item of a key without a reference.
 use Rattle.std.specs.Prelude.{◌≡◌, ◌&&◌, ℕ, ◌+◌, ◌<◌, ◌≤◌, Bool, true, false, List, [], ◌∷◌, ◌++◌, length, map, slice_index, None}
 use Rattle.bump_rules.specs.declared.items.Head.{Head}
+use Rattle.bump_rules.specs.declared.items.ItemId.{ItemId}
 use Rattle.bump_word.specs.Words.{word_of}
 use Rattle.bump_steps.specs.declared.views.GlancePart.{GlancePart}
 use Rattle.bump_steps.specs.declared.views.Kind.TheVariants as kind
@@ -11,6 +12,8 @@ use Rattle.bump_steps.specs.Rule.{RowPredicate}
 use Rattle.bump_readers.specs.Glances.{IsLinkedLife}
 use Rattle.bump_parts.specs.Workers.{WorkerState}
 use Rattle.entry_times.specs.Times.{has_expired}
+use Rattle.cache_readers.specs.declared.glancing.Glanced.{Glanced}
+use Rattle.cache_readers.specs.declared.glancing.Glanced.TheVariants as told
 
 -- these words stand in the row, from this number of its further words on
 abbrev pub HasWords : List ℕ → ℕ → List ℕ → Type 0
@@ -36,6 +39,16 @@ pub record GlancesInVain (chunk : ℕ) (before after : WorkerState) : Type 0 whe
   pub few : length heads ≤ 2
   pub one : length glances ≤ 1
   pub is : after ≡ glanced chunk heads glances before
+
+-- Where a glance at a chunk told nothing, and ended with this worker, this holds of the worker before it.
+abbrev pub BehindGlance : ℕ → (WorkerState → Type 0) → WorkerState → Type 0
+BehindGlance chunk Holds worker = (before : WorkerState) → GlancesInVain chunk before worker → Holds before
+
+-- this holds of the life, where a glance at it told nothing
+abbrev pub IfUnsure : Glanced → (ItemId → Type 0) → Type 0
+IfUnsure (told.Unsure id) Holds = Holds id
+IfUnsure told.Found Holds = Unit {0}
+IfUnsure told.Nothing Holds = Unit {0}
 
 -- A glance found this value: two loads of a chunk's head found one life linked, the first with both marks. The worker's
 -- last glance has the words that stood in the chunk at the first load, of which the table's law holds, and each word that

@@ -1,7 +1,9 @@
 -- What contracts see of a reader of a cache, and what a get that found nothing leaves of it.
 use Rattle.std.specs.Prelude.{◌≡◌, ℕ, List}
 use Rattle.bump_rules.specs.declared.configs.Config.{Config}
+use Rattle.bump_rules.specs.declared.items.ItemId.{ItemId}
 use Rattle.bump_parts.specs.Workers.{WorkerState}
+use Rattle.cache_readers.specs.Glances.{GlancesInVain}
 use Rattle.cache_readers.specs.Looks.{FindsNothing, one_more}
 
 -- the configuration of the cache's store, the first chunk of the index that it searches, the worker, how many of its gets
@@ -47,6 +49,11 @@ KeepsRing before after = after.worker.sender.ring ≡ before.worker.sender.ring
 abbrev pub ReadsNothing : List ℕ → ℕ → ReaderView → ReaderView → Type 0
 ReadsNothing key now before after =
     FindsNothing before.config key now before.anew after.anew before.worker after.worker
+
+-- a glance at the chunk of this life told nothing, or there was none, and nothing else was done
+pub record GlancedAt (id : ItemId) (before after : ReaderView) : Type 0 where
+  pub worker : after ≡ record before { worker = after.worker }
+  pub glances : GlancesInVain id.chunk before.worker after.worker
 
 -- a get found nothing, and counted one miss
 pub record Misses (key : List ℕ) (now : ℕ) (before after : ReaderView) : Type 0 where

@@ -1,14 +1,28 @@
 //! Glances at the chunks to which the index leads: looks without a reference, which write nothing.
-ghost use Rattle.std.specs.Prelude.{◌≡◌, ◌+◌, ◌≤◌, true, false, length};
+ghost use Rattle.std.specs.Prelude.{◌≡◌, ◌≢◌, ◌+◌, ◌≤◌, true, false, length};
 ghost use Rattle.bump_steps.specs.References.{label_of_row};
 ghost use Rattle.bump_readers.specs.Glances.{IsGlancing};
-ghost use Rattle.cache_readers.specs.Glances.{GlanceFinds, GlancesInVain, HasWords, Reads};
+ghost use Rattle.cache_readers.specs.declared.glancing.Glanced.TheVariants as glanced;
+ghost use Rattle.cache_readers.specs.Glances.{GlanceFinds, GlancesInVain, HasWords, IfUnsure, Reads};
 
 use bump_parts::Worker;
 use bump_readers::{Glance, Name, ReaderHeads};
 use bump_rules::ItemId;
 use bump_steps::RowLaw;
+use cache_nests::IndexReader;
 use entry_times::has_expired;
+
+/// What a reader's glance for a key came to.
+pub enum Glanced {
+    /// It found the key's value: that is a hit.
+    Found,
+
+    /// The index leads to no chunk for the key's hash: that is a miss.
+    Nothing,
+
+    /// It told nothing of the life to which the index leads first: `WordReader::get_held` goes on from that.
+    Unsure(ItemId),
+}
 
 // The label that the glance loads.
 #[inline(always)]
@@ -78,6 +92,7 @@ pub(crate) fn glance_at<N: Name, L: RowLaw>(
 ) -> bool
     requires few { length key.now + length value.old ≤ N.table.slots }
     ensures finds { result ≡ true → GlanceFinds L.law key.now value.new now worker.old worker.new }
+    ensures led { result ≡ true → IsGlancing id worker.new.part }
     ensures vain { result ≡ false → GlancesInVain id.chunk worker.old worker.new }
     ensures none { glances ≡ false → result ≡ false }
     ensures length { length value.new ≡ length value.old }
@@ -88,7 +103,11 @@ pub(crate) fn glance_at<N: Name, L: RowLaw>(
     let Some((glance, found)) = worker.glance(heads, id.chunk) else {
         return false;
     };
-    if found.generation != id.generation || !found.fetched || !found.active {
+    // Tested beside the look for LINKED, the marks are one comparison with it.
+    if !found.fetched || !found.active {
+        return false;
+    }
+    if found.generation != id.generation {
         return false;
     }
     if has_expired(load_label(worker, heads, &glance), now) {
@@ -100,4 +119,33 @@ pub(crate) fn glance_at<N: Name, L: RowLaw>(
     load_words(worker, heads, &glance, key.len(), value);
     let last = worker.end_glance(heads, glance);
     last.linked && last.generation == id.generation
+}
+
+// Glances at the first life to which the index leads for this hash, where `glances` says so.
+#[inline(always)]
+pub(crate) fn glance_first<N: Name, L: RowLaw>(
+    worker: &mut Worker<N>,
+    heads: &ReaderHeads<N, L>,
+    index: &IndexReader,
+    hash: u32,
+    key: &[u64],
+    value: &mut [u64],
+    glances: bool,
+    now: u64,
+) -> Glanced
+    requires few { length key.now + length value.old ≤ N.table.slots }
+    ensures found { result ≡ glanced.Found → GlanceFinds L.law key.now value.new now worker.old worker.new }
+    ensures nothing { result ≡ glanced.Nothing → worker.new ≡ worker.old }
+    ensures unsure { IfUnsure result (λ id. GlancesInVain id.chunk worker.old worker.new) }
+    ensures none { glances ≡ false → result ≢ glanced.Found }
+    ensures length { length value.new ≡ length value.old }
+{
+    let mut search = index.search(hash);
+    let Some(id) = search.next() else {
+        return Glanced::Nothing;
+    };
+    if glance_at(worker, heads, id, key, value, glances, now) {
+        return Glanced::Found;
+    }
+    Glanced::Unsure(id)
 }

@@ -13,5 +13,6 @@ pub use bump_parts::{Hold, Worker};
 pub use bump_rules::{Accounts, ItemId};
 pub use bump_steps::RowLaw;
 pub use cache_nests::IndexReader;
+pub use glancing::Glanced;
 pub use readers::WordReader;
 pub use vain::Vain;

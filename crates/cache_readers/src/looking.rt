@@ -1,10 +1,12 @@
 //! Looks at the chunks to which the index leads.
 ghost use Rattle.std.specs.Prelude.{◌≡◌, ◌≢◌, ◌+◌, ◌≤◌, true, false, None, IfOk, IfSome, IfNone, length};
 ghost use Rattle.std.specs.Result.{IfErr};
-ghost use Rattle.cache_readers.specs.Looks.{FindsNothing, FoundBy, HasOtherKey, HasWords, Hits, LookFinds, LooksInVain};
+ghost use Rattle.bump_readers.specs.Glances.{IsGlancing};
+ghost use Rattle.cache_readers.specs.Glances.{BehindGlance};
+ghost use Rattle.cache_readers.specs.Looks.{FindsNothing, FoundBy, HasOtherKey, HasWords, Hits, LookFinds, LookTakes, LooksInVain};
 ghost use Rattle.cache_readers.specs.Looks.{SearchBy, SearchEnds, TouchesUnmarked, one_more};
 
-use crate::glancing::glance_at;
+use crate::glancing::{Glanced, glance_at, glance_first};
 use crate::vain::Vain;
 use bump_parts::{Hold, Worker};
 use bump_readers::{Name, ReaderHeads};
@@ -72,30 +74,24 @@ pub(crate) fn touch<N: Name, L: RowLaw>(
     let _touch = worker.touch(heads, hold, now);
 }
 
-// Looks at a life. Where `glances` says so it glances first: where that finds the key's item, its value is read, and
-// None is answered. Else, where the life hasn't ended, has the key and hasn't expired, the hold of it is answered, and
-// the head by which it was taken.
+// Looks at a life by a hold, behind a glance at its chunk that told nothing, or none. Where the life hasn't ended, has the
+// key and hasn't expired, the hold of it is answered, and the head by which it was taken.
 #[inline(always)]
-fn look<N: Name, L: RowLaw>(
+fn look_held<N: Name, L: RowLaw>(
     worker: &mut Worker<N>,
     heads: &ReaderHeads<N, L>,
     id: ItemId,
     key: &[u64],
-    value: &mut [u64],
-    glances: bool,
     now: u64,
-) -> Result<Option<(Hold<N>, Head)>, Vain>
-    requires few { length key.now + length value.old ≤ N.table.slots }
-    ensures finds { IfOk result (λ sight. LookFinds L.law heads.now key.now value.new now sight worker.old worker.new) }
-    ensures led { IfOk result (λ sight. IfSome sight (λ took. took.0.life.generation ≡ id.generation)) }
-    ensures held { glances ≡ false → IfOk result (λ sight. sight ≢ None) }
-    ensures vain { IfErr result (λ why. LooksInVain why heads.now key.now now worker.old worker.new) }
-    ensures length { length value.new ≡ length value.old }
+) -> Result<(Hold<N>, Head), Vain>
+    requires few { length key.now ≤ N.table.slots }
+    ensures finds { IfOk result (λ took. BehindGlance id.chunk (λ before. LookTakes L.law heads.now key.now now took.0
+        took.1 before worker.new) worker.old) }
+    ensures led { IfOk result (λ took. took.0.life.generation ≡ id.generation) }
+    ensures vain { IfErr result (λ why. BehindGlance id.chunk (λ before. LooksInVain why heads.now key.now now before
+        worker.new) worker.old) }
     ensures ring { worker.new.sender.ring ≡ worker.old.sender.ring }
 {
-    if glance_at(worker, heads, id, key, value, glances, now) {
-        return Ok(None);
-    }
     let Ok((mut hold, found)) = worker.get_any(heads, id.chunk) else {
         return Err(Vain::Ended);
     };
@@ -113,7 +109,37 @@ fn look<N: Name, L: RowLaw>(
         hold.release(heads);
         return Err(Vain::Over);
     }
-    Ok(Some((hold, found)))
+    Ok((hold, found))
+}
+
+// Looks at a life. Where `glances` says so it glances first: where that finds the key's item, its value is read, and
+// None is answered. Else it looks by a hold.
+#[inline(always)]
+fn look<N: Name, L: RowLaw>(
+    worker: &mut Worker<N>,
+    heads: &ReaderHeads<N, L>,
+    id: ItemId,
+    key: &[u64],
+    value: &mut [u64],
+    glances: bool,
+    now: u64,
+) -> Result<Option<(Hold<N>, Head)>, Vain>
+    requires few { length key.now + length value.old ≤ N.table.slots }
+    ensures finds { IfOk result (λ sight. LookFinds L.law heads.now key.now value.new now sight worker.old worker.new) }
+    ensures glanced { IfOk result (λ sight. sight ≡ None → IsGlancing id worker.new.part) }
+    ensures led { IfOk result (λ sight. IfSome sight (λ took. took.0.life.generation ≡ id.generation)) }
+    ensures held { glances ≡ false → IfOk result (λ sight. sight ≢ None) }
+    ensures vain { IfErr result (λ why. LooksInVain why heads.now key.now now worker.old worker.new) }
+    ensures length { length value.new ≡ length value.old }
+    ensures ring { worker.new.sender.ring ≡ worker.old.sender.ring }
+{
+    if glance_at(worker, heads, id, key, value, glances, now) {
+        return Ok(None);
+    }
+    match look_held(worker, heads, id, key, now) {
+        Ok(took) => Ok(Some(took)),
+        Err(why) => Err(why),
+    }
 }
 
 // Goes through the chunks to which the index leads for this hash.
@@ -148,9 +174,83 @@ fn look_through<N: Name, L: RowLaw>(
     Err(Vain::Other)
 }
 
-// Finds the item of a key that hasn't expired. Where `glances` says so and a glance found it, its value is read, and
-// None is answered; else a hold of it, and the head by which it was taken. Searches that end at a life that has ended
-// are counted in `anew`.
+// The first search for a key, from a life on at which a glance told nothing, or there was none: it looks at that by a
+// hold, and goes through all to which the index leads then. So it may look at the same life once more, where that has
+// another key: few have.
+#[inline(always)]
+fn look_from<N: Name, L: RowLaw>(
+    worker: &mut Worker<N>,
+    heads: &ReaderHeads<N, L>,
+    index: &IndexReader,
+    id: ItemId,
+    hash: u32,
+    key: &[u64],
+    value: &mut [u64],
+    glances: bool,
+    now: u64,
+) -> Result<Option<(Hold<N>, Head)>, Vain>
+    requires few { length key.now + length value.old ≤ N.table.slots }
+    ensures finds { IfOk result (λ sight. BehindGlance id.chunk (λ before. SearchBy (LookFinds L.law heads.now key.now
+        value.new now sight) heads.now key.now now before worker.new) worker.old) }
+    ensures held { glances ≡ false → IfOk result (λ sight. sight ≢ None) }
+    ensures vain { IfErr result (λ why. BehindGlance id.chunk (λ before. SearchEnds why heads.now key.now now before
+        worker.new) worker.old) }
+    ensures length { length value.new ≡ length value.old }
+    ensures ring { worker.new.sender.ring ≡ worker.old.sender.ring }
+{
+    match look_held(worker, heads, id, key, now) {
+        Ok(took) => return Ok(Some(took)),
+        Err(Vain::Ended) => return Err(Vain::Ended),
+        Err(Vain::Over) => return Err(Vain::Over),
+        Err(Vain::Other) => {}
+    }
+    look_through(worker, heads, index, hash, key, value, glances, now)
+}
+
+// Finds the item of a key that hasn't expired, from a life on at which a glance told nothing, or there was none. Where
+// `glances` says so and a glance found it, its value is read, and None is answered; else a hold of it, and the head by
+// which it was taken. Searches that end at a life that has ended are counted in `anew`.
+#[inline(always)]
+pub(crate) fn find_from<N: Name, L: RowLaw>(
+    worker: &mut Worker<N>,
+    heads: &ReaderHeads<N, L>,
+    index: &IndexReader,
+    anew: &mut u64,
+    id: ItemId,
+    hash: u32,
+    key: &[u64],
+    value: &mut [u64],
+    glances: bool,
+    now: u64,
+) -> Option<Option<(Hold<N>, Head)>>
+    requires few { length key.now + length value.old ≤ N.table.slots }
+    ensures finds { IfSome result (λ sight. BehindGlance id.chunk (λ before. FoundBy (LookFinds L.law heads.now key.now
+        value.new now sight) heads.now key.now now anew.old anew.new before worker.new) worker.old) }
+    ensures held { glances ≡ false → IfSome result (λ sight. sight ≢ None) }
+    ensures vain { IfNone result (BehindGlance id.chunk (λ before. FindsNothing heads.now key.now now anew.old anew.new
+        before worker.new) worker.old) }
+    ensures length { length value.new ≡ length value.old }
+    ensures ring { worker.new.sender.ring ≡ worker.old.sender.ring }
+{
+    match look_from(worker, heads, index, id, hash, key, value, glances, now) {
+        Ok(sight) => return Some(sight),
+        Err(Vain::Other) => return None,
+        Err(Vain::Over) => return None,
+        Err(Vain::Ended) => count_one(anew),
+    }
+    for _turn in 1..TURNS {
+        match look_through(worker, heads, index, hash, key, value, glances, now) {
+            Ok(sight) => return Some(sight),
+            Err(Vain::Other) => return None,
+            Err(Vain::Over) => return None,
+            Err(Vain::Ended) => count_one(anew),
+        }
+    }
+    None
+}
+
+// Finds the item of a key that hasn't expired: by a glance at the first life to which the index leads, where `glances`
+// says so, or from that on.
 #[inline(always)]
 pub(crate) fn find<N: Name, L: RowLaw>(
     worker: &mut Worker<N>,
@@ -171,15 +271,15 @@ pub(crate) fn find<N: Name, L: RowLaw>(
     ensures length { length value.new ≡ length value.old }
     ensures ring { worker.new.sender.ring ≡ worker.old.sender.ring }
 {
-    for _turn in 0..TURNS {
-        match look_through(worker, heads, index, hash, key, value, glances, now) {
-            Ok(sight) => return Some(sight),
-            Err(Vain::Other) => return None,
-            Err(Vain::Over) => return None,
-            Err(Vain::Ended) => count_one(anew),
+    match glance_first(worker, heads, index, hash, key, value, glances, now) {
+        Glanced::Found => Some(None),
+        Glanced::Nothing => None,
+        Glanced::Unsure(id) => {
+            find_from(
+                worker, heads, index, anew, id, hash, key, value, glances, now,
+            )
         }
     }
-    None
 }
 
 // One more. A count that stopped at its greatest number would cost each get a comparison.

@@ -4,14 +4,17 @@ ghost use Rattle.std.specs.Arc.{arc_value};
 ghost use Rattle.bump_rules.specs.declared.hands.Hand.TheVariants as hand;
 ghost use Rattle.bump_rules.specs.Rings.{IsAccounts};
 ghost use Rattle.cache_readers.specs.Looks.{Finds, FoundBy, HasWords, Hits, LookFinds, Peeks, Sees};
-ghost use Rattle.cache_readers.specs.Readers.{CountsHit, CountsMiss, CountsNothing, KeepsRing, Misses, ReadsNothing};
+ghost use Rattle.cache_readers.specs.declared.glancing.Glanced.TheVariants as glanced;
+ghost use Rattle.cache_readers.specs.Glances.{IfUnsure};
+ghost use Rattle.cache_readers.specs.Readers.{CountsHit, CountsMiss, CountsNothing, GlancedAt, KeepsRing, Misses, ReadsNothing};
 ghost use Rattle.cache_readers.specs.Readers.{ReaderView as TheReaderView, new_reader};
 
-use crate::looking::{count_one, find, read_words, take, touch};
+use crate::glancing::{Glanced, glance_first};
+use crate::looking::{count_one, find, find_from, read_words, take, touch};
 use bump_heads::{Heads, Name};
 use bump_parts::{Hold, Worker};
 use bump_readers::ReaderHeads;
-use bump_rules::{Accounts, Head};
+use bump_rules::{Accounts, Head, ItemId};
 use bump_steps::RowLaw;
 use cache_nests::IndexReader;
 use std::alloc::Global;
@@ -132,13 +135,80 @@ impl<N: Name, L: RowLaw> WordReader<N, L> {
         ensures length { length value.new ≡ length value.old }
         ensures ring { KeepsRing self.old self.new }
     {
+        match self.glance(hash, key, value, now) {
+            Glanced::Found => true,
+            Glanced::Nothing => false,
+            Glanced::Unsure(id) => self.get_held(id, hash, key, value, now),
+        }
+    }
+
+    /// What a get does first: a glance at the first life to which the index leads for this hash. Where it finds the
+    /// key's value, or the index leads to nothing, the get is over, and is counted. Else nothing is, `value` has any
+    /// words, and `get_held` goes on. The words of `key` and `value` are as many as a row has, or fewer, together.
+    ///
+    /// It is for who keeps short keys and values in registers: `get_held` is a call, and wants both in memory.
+    #[inline(always)]
+    pub fn glance(&mut self, hash: u32, key: &[u64], value: &mut [u64], now: u64) -> Glanced
+        requires few { length key.now + length value.old ≤ N.table.slots }
+        ensures found { result ≡ glanced.Found → Finds L.law self.old.config key.now value.new now self.old.anew
+            self.new.anew self.old.worker self.new.worker }
+        ensures counted { result ≡ glanced.Found → CountsHit self.old self.new }
+        ensures nothing { result ≡ glanced.Nothing → ReadsNothing key.now now self.old self.new }
+        ensures missed { result ≡ glanced.Nothing → CountsMiss self.old self.new }
+        ensures unsure { IfUnsure result (λ id. GlancedAt id self.old self.new) }
+        ensures length { length value.new ≡ length value.old }
+        ensures ring { KeepsRing self.old self.new }
+    {
         // The words of the chunks are looked up once: the compiler can't know that no step changes where they lie.
         let heads: &ReaderHeads<N, L> = &self.heads;
-        let found = find(
+        let told = glance_first(
+            &mut self.worker,
+            heads,
+            &self.index,
+            hash,
+            key,
+            value,
+            true,
+            now,
+        );
+        match &told {
+            Glanced::Found => count_one(&mut self.hits),
+            Glanced::Nothing => count_one(&mut self.misses),
+            Glanced::Unsure(_) => {}
+        }
+        told
+    }
+
+    /// What a get does then: it goes on from the life at which `glance` told nothing, by a hold of what is linked in its
+    /// chunk. It answers, touches, counts and writes as `get` says. Most gets are over by a glance: so this is a function
+    /// of its own, which takes no registers from them.
+    #[cold]
+    #[inline(never)]
+    pub fn get_held(
+        &mut self,
+        id: ItemId,
+        hash: u32,
+        key: &[u64],
+        value: &mut [u64],
+        now: u64,
+    ) -> bool
+        requires few { length key.now + length value.old ≤ N.table.slots }
+        ensures found { (before : TheReaderView) → GlancedAt id before self.old → result ≡ true → Finds L.law
+            before.config key.now value.new now before.anew self.new.anew before.worker self.new.worker }
+        ensures counted { result ≡ true → CountsHit self.old self.new }
+        ensures nothing { (before : TheReaderView) → GlancedAt id before self.old → result ≡ false
+            → ReadsNothing key.now now before self.new }
+        ensures missed { result ≡ false → CountsMiss self.old self.new }
+        ensures length { length value.new ≡ length value.old }
+        ensures ring { KeepsRing self.old self.new }
+    {
+        let heads: &ReaderHeads<N, L> = &self.heads;
+        let found = find_from(
             &mut self.worker,
             heads,
             &self.index,
             &mut self.anew,
+            id,
             hash,
             key,
             value,

@@ -1,5 +1,5 @@
-use Rattle.std.proofs.Common.{rules, refl}
-use Rattle.cache_readers.proofs.GlanceLemmas.{begun, glance_finds, reads_then, still_glancing, vain_begun, vain_ended, vain_gone, vain_none, vain_read}
+use Rattle.std.proofs.Common.{rules, refl, sym, ◌∙◌}
+use Rattle.cache_readers.proofs.GlanceLemmas.{begun, glance_finds, led_to, reads_then, still_glancing, vain_begun, vain_ended, vain_gone, vain_none, vain_read}
 use Rattle.cache_readers.proofs.glancing.glance_at.Goals as goal
 
 pub returns-then-not-glances-clause-vain : goal.returns-then-not-glances-clause-vain
@@ -8,6 +8,10 @@ returns-then-not-glances-clause-vain g c = λ _. vain_none c.args.id.chunk _ _ r
 pub returns-in_default-clause-vain : goal.returns-in_default-clause-vain
 returns-in_default-clause-vain g c = λ _.
     vain_gone c.args.id.chunk _ _ _ _ c.in_default.ensures.missing c.in_default.ensures.gone
+
+pub returns-then-not-found-clause-vain : goal.returns-then-not-found-clause-vain
+returns-then-not-found-clause-vain g c = λ _.
+    vain_begun _ _ _ _ _ _ c.in-Some.ensures.glances c.args.id.chunk c.in-Some.ensures.chunk
 
 pub returns-then-found-id-clause-vain : goal.returns-then-found-id-clause-vain
 returns-then-found-id-clause-vain g c = λ _.
@@ -54,6 +58,14 @@ returns-then-last-clause-finds g c = λ same.
       linked = search rules;
       generation = search rules;
     }) c.end_glance-last.ensures.faithful
+
+pub returns-then-last-clause-led : goal.returns-then-last-clause-led
+returns-then-last-clause-led g c = λ same.
+    led_to c.in-Some.glance c.args.id c.end_glance-last.result c.load_words.new.worker c.end_glance-last.new.self
+    (still_glancing _ _ _ _ (still_glancing _ _ _ _ (still_glancing _ _ _ _
+    (begun _ _ _ _ _ _ c.in-Some.ensures.glances) c.load_label.ensures.reads) c.if-not-has_key_words.ensures.reads)
+    c.load_words.ensures.reads) c.end_glance-last.ensures.looked c.in-Some.ensures.chunk
+    (sym c.in-Some.ensures.glances.linked.generation ∙ search rules)
 
 pub returns-then-last-clause-vain : goal.returns-then-last-clause-vain
 returns-then-last-clause-vain g c = λ _.
