@@ -22,10 +22,10 @@ use lanes::{Classes, Lane};
 use measure::{Measured, Tally, measure_named, one_more};
 use rings::Receiver;
 use std::time::Instant;
-use words::{ACTIVE, FURTHER, ItemId, lives};
+use words::{ACTIVE, FETCHED, FURTHER, ItemId, lives};
 use workers::{Dropped, Store, Touch, Worker};
 
-/// What each hit of a pass comes to: an answer of its touch; that it asks first, and finds both marks; or that it takes whatever item is there, and finds them by that.
+/// What each hit of a pass comes to: an answer of its touch; that it asks first, and finds both marks; that it takes whatever item is there, and finds them by that; or that it glances at it, and finds them so.
 #[derive(Clone, Copy)]
 enum Answer {
     First,
@@ -35,6 +35,7 @@ enum Answer {
     Full,
     Asked,
     Any,
+    Glance,
 }
 
 /// One of the answers: the loop that wants it is compiled for it alone, as each caller of a touch has code of its own.
@@ -175,6 +176,42 @@ fn any_hits<const WORDS: usize>(store: &Store<WORDS>, worker: &mut Worker, items
     Tally { refused, right, labels }
 }
 
+/// The sum of the label and two further words of the item that is linked in the chunk, by a glance. None where it hasn't both marks, or ended meanwhile.
+#[inline]
+fn glance_sum<const WORDS: usize>(store: &Store<WORDS>, worker: &mut Worker, number: u32) -> Option<u64> {
+    let (glance, found) = worker.glance(store, number)?;
+    if found & FETCHED == 0 || found & ACTIVE == 0 {
+        return None;
+    }
+    let label = glance.label(store);
+    let first = glance.word(store, 0);
+    let second = glance.word(store, 1);
+    glance.end(store).then(|| label.wrapping_add(first).wrapping_add(second))
+}
+
+/// Reads as much of the item in each chunk by glances, which write nothing. One that has both marks, and is the same behind its words, is wanted. There is none where chunks haven't so many words.
+#[inline(never)]
+fn glance_hits<const WORDS: usize>(store: &Store<WORDS>, worker: &mut Worker, items: &[ItemId], rounds: u32) -> Tally {
+    let mut refused: u64 = 0;
+    let mut right: u64 = 0;
+    let mut labels: u64 = 0;
+    if WORDS < FURTHER {
+        return Tally { refused, right, labels };
+    }
+    for _ in 0..rounds {
+        for item in items {
+            match glance_sum(store, worker, item.chunk) {
+                Some(sum) => {
+                    right = right.wrapping_add(1);
+                    labels = labels.wrapping_add(sum);
+                }
+                None => refused = one_more(refused),
+            }
+        }
+    }
+    Tally { refused, right, labels }
+}
+
 /// Its name is what callgrind is told to count.
 #[inline(never)]
 fn timed_pass<const WORDS: usize>(store: &Store<WORDS>, worker: &mut Worker, items: &[ItemId], rounds: u32, wanted: Option<Answer>) -> Tally {
@@ -186,6 +223,7 @@ fn timed_pass<const WORDS: usize>(store: &Store<WORDS>, worker: &mut Worker, ite
         Some(Answer::Full) => hits::<Full, WORDS>(store, worker, items, rounds),
         Some(Answer::Asked) => asked_hits(store, worker, items, rounds),
         Some(Answer::Any) => any_hits(store, worker, items, rounds),
+        Some(Answer::Glance) => glance_hits(store, worker, items, rounds),
         None => gets(store, worker, items, rounds),
     }
 }
@@ -250,6 +288,9 @@ const HIT_ASKED: Workload = Workload { name: "store_hit_asked", wanted: Some(Ans
 /// Each of these hits takes whatever item its chunk has, and reads two further words too.
 const HIT_ANY: Workload = Workload { name: "store_hit_any", further: FURTHER, wanted: Some(Answer::Any), ..HIT };
 
+/// Each of these hits reads the same by a glance.
+const GLANCE: Workload = Workload { name: "store_glance", wanted: Some(Answer::Glance), ..HIT_ANY };
+
 /// One item, which all threads hit.
 const HOT: Workload = Workload { name: "store_hot", items: 1, shared: true, rounds: 65_536, ..HIT };
 
@@ -289,7 +330,7 @@ impl Workload {
 /// Each on 1, 2 and 4 threads, bumps that are applied, and hits in stores of two sizes.
 fn workloads() -> Vec<Workload> {
     let mut all = Vec::new();
-    for workload in [GET, HIT, HIT_ASKED, HIT_ANY, HOT, HOT_ASKED, FIRST, MARKED, QUEUED, FULL] {
+    for workload in [GET, HIT, HIT_ASKED, HIT_ANY, GLANCE, HOT, HOT_ASKED, FIRST, MARKED, QUEUED, FULL] {
         for threads in [1, 2, 4] {
             all.push(Workload { threads, ..workload });
         }

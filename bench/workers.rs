@@ -59,6 +59,11 @@ pub struct Hold {
     life: ItemId,
 }
 
+/// A look at an item without a reference. Its last load tells whether the words between were the item's.
+pub struct Glance {
+    life: ItemId,
+}
+
 impl<const WORDS: usize> Store<WORDS> {
     /// A store all of whose chunks are linked, in HOT or in COLD, with a worker for each thread and the other ends of their rings.
     pub fn new(chunks: u32, cold: bool, workers: u32, capacity: u32) -> (Self, Vec<Worker>, Vec<Receiver>) {
@@ -145,6 +150,16 @@ impl Worker {
         Err(GetRefusal::Busy)
     }
 
+    /// A glance at whatever item is linked in the chunk, and the head word that it found.
+    #[inline]
+    pub fn glance<const WORDS: usize>(&mut self, store: &Store<WORDS>, number: u32) -> Option<(Glance, u64)> {
+        let word = store.chunks.get(number as usize)?.head.load(SeqCst);
+        if word & LINKED == 0 {
+            return None;
+        }
+        Some((Glance { life: ItemId { chunk: number, generation: generation_of(word) } }, word))
+    }
+
     #[inline]
     pub fn touch<const WORDS: usize>(&mut self, store: &Store<WORDS>, hold: &mut Hold, now: u64) -> Touch {
         if self.accounts.attempted >= MOST_ATTEMPTS {
@@ -198,6 +213,25 @@ impl Worker {
 
     pub fn counts(&self) -> Accounts {
         self.accounts
+    }
+}
+
+impl Glance {
+    #[inline]
+    pub fn label<const WORDS: usize>(&self, store: &Store<WORDS>) -> u64 {
+        store.chunk(self.life).label.load(SeqCst)
+    }
+
+    #[inline]
+    pub fn word<const WORDS: usize>(&self, store: &Store<WORDS>, index: usize) -> u64 {
+        store.chunk(self.life).further[index].load(SeqCst)
+    }
+
+    /// Whether its item is still the one that is linked, by one load.
+    #[inline]
+    pub fn end<const WORDS: usize>(self, store: &Store<WORDS>) -> bool {
+        let word = store.chunk(self.life).head.load(SeqCst);
+        word & LINKED != 0 && generation_of(word) == self.life.generation
     }
 }
 

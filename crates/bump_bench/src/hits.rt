@@ -1,10 +1,12 @@
 //! Hits and gets of items: the loops that are timed of a worker's calls.
+ghost use Rattle.std.specs.Prelude.{◌≤◌};
+
 use crate::stores::FURTHER;
 use crate::tallies::{PassTally, one_more};
 use bump_store::{Dropped, ItemId, Name, ReaderHeads, Touch, Worker};
 
-/// What each hit of a pass comes to: an answer of its touch; that it asks first, and finds both marks; or that it takes
-/// whatever item is there, and finds them by that.
+/// What each hit of a pass comes to: an answer of its touch; that it asks first, and finds both marks; that it takes
+/// whatever item is there, and finds them by that; or that it glances at it, and finds them so.
 #[derive(Clone, Copy)]
 pub enum HitAnswer {
     First,
@@ -14,6 +16,7 @@ pub enum HitAnswer {
     Full,
     Asked,
     Any,
+    Glance,
 }
 
 /// One of the answers: the loop that wants it is compiled for it alone, as each caller of a touch has code of its own.
@@ -198,6 +201,60 @@ fn any_hits<N: Name>(
     }
 }
 
+// The sum of the label and two further words of the item that is linked in the chunk, by a glance. None where it hasn't
+// both marks: then it would have to be touched, which wants a hold. And None where it ended meanwhile: then another
+// item's words may be among those that were read.
+#[inline(always)]
+fn glance_sum<N: Name>(heads: &ReaderHeads<N>, worker: &mut Worker<N>, chunk: u32) -> Option<u64>
+    requires words { FURTHER ≤ N.table.slots }
+{
+    let (glance, found) = worker.glance(heads, chunk)?;
+    if !found.fetched || !found.active {
+        return None;
+    }
+    let label = worker.glance_label(heads, &glance);
+    let first = worker.glance_word(heads, &glance, 0);
+    let second = worker.glance_word(heads, &glance, 1);
+    let last = worker.end_glance(heads, glance);
+    if !last.linked || last.generation != found.generation {
+        return None;
+    }
+    Some(label.wrapping_add(first).wrapping_add(second))
+}
+
+// Reads as much of the item in each chunk by glances, which write nothing. One that has both marks, and is the same
+// behind its words, is wanted. There is none where chunks haven't so many words.
+#[inline(never)]
+fn glance_hits<N: Name>(
+    heads: &ReaderHeads<N>,
+    worker: &mut Worker<N>,
+    items: &[ItemId],
+    rounds: u32,
+) -> PassTally {
+    if heads.further() < FURTHER {
+        return PassTally::NONE;
+    }
+    let mut refused: u64 = 0;
+    let mut right: u64 = 0;
+    let mut labels: u64 = 0;
+    for _round in 0..rounds {
+        for item in items {
+            match glance_sum(heads, worker, item.chunk) {
+                Some(sum) => {
+                    right = right.wrapping_add(1);
+                    labels = labels.wrapping_add(sum);
+                }
+                None => refused = one_more(refused),
+            }
+        }
+    }
+    PassTally {
+        refused,
+        right,
+        labels,
+    }
+}
+
 /// Hits each item so often: the first hit sets FETCHED, and the second one in HOT sets ACTIVE.
 pub fn touch_all<N: Name>(
     heads: &ReaderHeads<N>,
@@ -225,6 +282,7 @@ pub fn timed_pass<N: Name>(
         Some(HitAnswer::Full) => hits::<Full, N>(heads, worker, items, rounds),
         Some(HitAnswer::Asked) => asked_hits(heads, worker, items, rounds),
         Some(HitAnswer::Any) => any_hits(heads, worker, items, rounds),
+        Some(HitAnswer::Glance) => glance_hits(heads, worker, items, rounds),
         None => gets(heads, worker, items, rounds),
     }
 }

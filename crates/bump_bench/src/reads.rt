@@ -82,6 +82,13 @@ const HIT_ANY: Reads = Reads {
     ..HIT
 };
 
+// Each of these hits reads the same by a glance.
+const GLANCE: Reads = Reads {
+    name: "store_glance",
+    wanted: Some(HitAnswer::Glance),
+    ..HIT_ANY
+};
+
 // One item, which all threads hit.
 const HOT: Reads = Reads {
     name: "store_hot",
@@ -141,8 +148,8 @@ const DRAINED: Reads = Reads {
 };
 
 /// Those that are measured on each of these numbers of threads.
-pub const APART: [Reads; 10] = [
-    GET, HIT, HIT_ASKED, HIT_ANY, HOT, HOT_ASKED, FIRST, MARKED, QUEUED, FULL,
+pub const APART: [Reads; 11] = [
+    GET, HIT, HIT_ASKED, HIT_ANY, GLANCE, HOT, HOT_ASKED, FIRST, MARKED, QUEUED, FULL,
 ];
 
 pub const THREADS: [u32; 3] = [1, 2, 4];
