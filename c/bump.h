@@ -123,7 +123,7 @@ enum bump_open_answer {
 
 /* Opens a store, and puts it into `store`, which is {0} before and stays so where it answers anything but
  * BUMP_OPEN_DONE. `classes` is an array of `count`. Any thread. Cost: grows with the chunks and their words, with
- * workers x capacity and with workers x holds. It asks for memory. */
+ * workers x capacity and with workers x holds. It asks for memory, and where blocks are large for huge pages. */
 enum bump_open_answer bump_open(bump_store *store, const bump_config *config, const bump_class_config *classes,
                                 size_t count);
 

@@ -104,7 +104,8 @@ enum bump_cache_open_answer {
 bump_cache_config bump_cache_defaults(uint32_t items, uint32_t readers, uint32_t key_bytes, uint32_t value_bytes);
 
 /* Opens a cache, and puts it into `cache`, which is {0} before and stays so where it answers anything but
- * BUMP_CACHE_OPEN_DONE. Any thread. Cost: grows with the chunks and their words. It asks for memory. */
+ * BUMP_CACHE_OPEN_DONE. Any thread. Cost: grows with the chunks and their words. It asks for memory, and where blocks
+ * are large for huge pages. */
 enum bump_cache_open_answer bump_cache_open(bump_cache *cache, const bump_cache_config *config);
 
 /* Each takes the part, or the reader, with this number out of the cache and puts it into `part`, which is {0} before.
