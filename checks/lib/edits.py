@@ -4,8 +4,10 @@
 
 An edit of crates/CRATE/must-fail or wrong-bodies has a line `file: PATH`, of a file in src/, specs/ or proofs/ of its crate, and
 then pairs of lines `old: TEXT` and `new: TEXT`. Each TEXT of `old:` has to stand in that file once; a further pair is applied
-to what the ones before it made. No other line is read. The status is 1 where one can't be applied.
+to what the ones before it made. No other line is read. An edit of checks/ names its files from the top: it may change several crates.
+The status is 1 where one can't be applied.
 """
+import re
 import sys
 from pathlib import Path
 
@@ -13,36 +15,50 @@ TOP = Path(__file__).resolve().parent.parent.parent
 FOLDERS = ("must-fail", "wrong-bodies")
 
 
-def fault_of(edit):
-    """Why an edit can't be applied to its crate, or None."""
-    crate, name, old, pairs, texts, before = edit.parent.parent, None, None, 0, {}, {}
+def is_source(name, from_top):
+    """Whether an edit may name this file: one of src/, specs/ or proofs/ of its crate, or, from the top, of any crate."""
+    crate = "crates/[^/]+/" if from_top else ""
+    return re.fullmatch(crate + "(src|specs|proofs)/.+", name) is not None and ".." not in name.split("/")
+
+
+def applied(edit, folder, from_top):
+    """The files that an edit names, as they stand in this folder, each with the text that it makes of it; and why it can't be applied, or None."""
+    name, old, pairs, texts, before = None, None, 0, {}, {}
     for line in edit.read_text().split("\n"):
         if line.startswith("file: "):
             name = line.removeprefix("file: ").strip()
-            if name.split("/")[0] not in ("src", "specs", "proofs") or ".." in name.split("/"):
-                return f"{name} is no file of src/, specs/ or proofs/"
-            if not (crate / name).is_file():
-                return f"there is no file {name}"
-            before.setdefault(name, (crate / name).read_text())
+            if not is_source(name, from_top):
+                return {}, f"{name} is no file of src/, specs/ or proofs/"
+            if not (folder / name).is_file():
+                return {}, f"there is no file {name}"
+            before.setdefault(name, (folder / name).read_text())
             texts.setdefault(name, before[name])
         elif line.startswith("old: "):
             old = line.removeprefix("old: ")
         elif line.startswith("new:"):
             if not name or not old:
-                return "a line `new:` has no `file:` and `old:` before it"
+                return {}, "a line `new:` has no `file:` and `old:` before it"
             if texts[name].count(old) != 1:
-                return f"the text of `old:` stands {texts[name].count(old)} times in {name}: {old.strip()}"
+                return {}, f"the text of `old:` stands {texts[name].count(old)} times in {name}: {old.strip()}"
             texts[name] = texts[name].replace(old, line.removeprefix("new:").removeprefix(" "))
             old, pairs = None, pairs + 1
     if old:
-        return "its last `old:` has no `new:`"
+        return {}, "its last `old:` has no `new:`"
     if not pairs:
-        return "it has no pair of lines `old:` and `new:`"
-    return None if texts != before else "it changes nothing"
+        return {}, "it has no pair of lines `old:` and `new:`"
+    return (texts, None) if texts != before else ({}, "it changes nothing")
+
+
+def fault_of(edit):
+    """Why an edit can't be applied to the repository, or None."""
+    from_top = edit.parent == TOP / "checks"
+    return applied(edit, TOP if from_top else edit.parent.parent, from_top)[1]
 
 
 def edits_of(crates):
-    """The edits of these crates, or of every one."""
+    """The edits of these crates; or those of every one, and of checks/."""
+    if not crates:
+        yield from sorted((TOP / "checks").glob("*.edit"))
     folders = [TOP / "crates" / crate for crate in crates] or sorted((TOP / "crates").iterdir())
     for folder in folders:
         for kind in FOLDERS:
