@@ -7,64 +7,20 @@
  * --wrap=calloc, by which bump_debug.c finds no memory for a while. */
 #define _POSIX_C_SOURCE 200809L
 #include "bump.h"
-#include <pthread.h>
-#include <semaphore.h>
-#include <setjmp.h>
-#include <stdio.h>
-#include <stdlib.h>
-#include <string.h>
+#include "catching.h"
 
-static char said[512];
-static jmp_buf out;
-static bool jumps; /* the call isn't to be made */
-static int failed;
-
-static void note(const char *what) {
-  snprintf(said, sizeof said, "%s", what);
-  if (jumps) longjmp(out, 1);
-}
-
-static void wants(const char *what) {
-  bool found = strstr(said, what) != NULL;
-  printf("%s: %s\n", found ? "found" : "NOT FOUND", found ? said : what);
-  failed |= !found;
-  said[0] = '\0';
-}
-
-/* What comes before breaks no promise. */
-static void wants_nothing(void) {
-  if (!said[0]) return;
-  printf("NOT RIGHT: %s\n", said);
-  failed = 1;
-  said[0] = '\0';
-}
-
-/* A call that must not reach the library. */
-#define STOPPED(call, what)      \
-  do {                           \
-    wants_nothing();             \
-    jumps = true;                \
-    if (!setjmp(out)) call;      \
-    jumps = false;               \
-    wants(what);                 \
-  } while (0)
-/* One that the library refuses by itself, or that does no harm. */
-#define MADE(call, what) \
-  do {                   \
-    wants_nothing();     \
-    call;                \
-    wants(what);         \
+/* A call that the library refuses by itself, or that does no harm. */
+#define MADE(call, what)    \
+  do {                      \
+    wants_nothing();        \
+    call;                   \
+    wants(what, ANY_PLACE); \
   } while (0)
 
-static sem_t inside, tried;
-static bool waits;
 uint32_t __real_bump_sweep(void *book);
 uint32_t __wrap_bump_sweep(void *book);
 uint32_t __wrap_bump_sweep(void *book) {
-  if (waits) {
-    sem_post(&inside);
-    sem_wait(&tried);
-  }
+  stay();
   return __real_bump_sweep(book);
 }
 
@@ -138,17 +94,10 @@ static void wrong_handles(void) {
 /* Two threads are in a call with one handle. */
 static void at_once(void) {
   struct parts a = open_parts(1);
-  pthread_t thread;
-  sem_init(&inside, 0, 0);
-  sem_init(&tried, 0, 0);
-  waits = true;
-  if (pthread_create(&thread, NULL, sweeps, &a.book)) exit(1);
-  sem_wait(&inside);
+  pthread_t thread = enter(sweeps, &a.book);
   STOPPED(bump_size(&a.book, 0), "another thread is in a call with this handle");
   STOPPED(bump_apply_run(&a.book, &a.lane, 1, 1), "another thread is in a call with this handle");
-  sem_post(&tried);
-  pthread_join(thread, NULL);
-  waits = false;
+  leave(thread);
   bump_rest(&a.lane);
   if (bump_size(&a.book, BUMP_PLACE_UNUSED) != 4) failed = 1;
   free_parts(a);
@@ -215,7 +164,7 @@ static void many(void) {
     for (uint32_t w = 0; w < WORKERS; w++) {
       bump_take_worker(&store[i], w, &worker[i][w]);
       if (unchecked || !said[0]) continue;
-      wants("there is no room to note one more handle");
+      wants("there is no room to note one more handle", ANY_PLACE);
       unchecked = &worker[i][w];
       no_memory = false;
     }
@@ -239,7 +188,7 @@ int main(int count, char **words) {
   bump_debug_broken = note;
   if (count > 1 && strcmp(words[1], "mixed") == 0) {
     bump_store store = open_store(1, 1);
-    wants("a file of this program was compiled without -DBUMP_DEBUG");
+    wants("a file of this program was compiled without -DBUMP_DEBUG", ANY_PLACE);
     bump_close(store);
     wants_nothing();
     return failed;

@@ -5,59 +5,7 @@
  * another has tried the same handle. */
 #define _POSIX_C_SOURCE 200809L
 #include "bump_cache_locks.h"
-#include <pthread.h>
-#include <semaphore.h>
-#include <setjmp.h>
-#include <stdio.h>
-#include <stdlib.h>
-#include <string.h>
-
-static char said[512];
-static jmp_buf out;
-static bool jumps; /* the call isn't to be made */
-static int failed;
-
-static void note(const char *what) {
-  snprintf(said, sizeof said, "%s", what);
-  if (jumps) longjmp(out, 1);
-}
-
-/* It is said of the call at this line of this file. */
-static void wants(const char *what, int line) {
-  char place[64];
-  snprintf(place, sizeof place, "cache_broken.c:%d: ", line);
-  bool found = strstr(said, what) && strstr(said, place);
-  printf("%s: %s\n", found ? "found" : "NOT FOUND", found ? said : what);
-  failed |= !found;
-  said[0] = '\0';
-}
-
-/* What comes before breaks no promise. */
-static void wants_nothing(void) {
-  if (!said[0]) return;
-  printf("NOT RIGHT: %s\n", said);
-  failed = 1;
-  said[0] = '\0';
-}
-
-/* A call that must not reach the library. */
-#define STOPPED(call, what)      \
-  do {                           \
-    wants_nothing();             \
-    jumps = true;                \
-    if (!setjmp(out)) call;      \
-    jumps = false;               \
-    wants(what, __LINE__);       \
-  } while (0)
-
-static sem_t inside, tried;
-static bool waits;
-
-static void stay(void) {
-  if (!waits) return;
-  sem_post(&inside);
-  sem_wait(&tried);
-}
+#include "catching.h"
 
 void __real_bump_cache_tend(void *part, uint64_t now);
 void __wrap_bump_cache_tend(void *part, uint64_t now);
@@ -171,18 +119,11 @@ static void *counts(void *reader) {
 static void at_once(void) {
   struct parts a = open_parts();
   char value[8];
-  sem_init(&inside, 0, 0);
-  sem_init(&tried, 0, 0);
   for (int way = 0; way < 2; way++) {
-    pthread_t thread;
-    waits = true;
-    if (pthread_create(&thread, NULL, way ? counts : tends, way ? (void *)&a.reader : (void *)&a.part)) exit(1);
-    sem_wait(&inside);
+    pthread_t thread = enter(way ? counts : tends, way ? (void *)&a.reader : (void *)&a.part);
     if (way == 0) STOPPED(bump_cache_put(&a.part, "k", 1, "v", 1, 0, 0, 1), "another thread is in a call with this");
     if (way == 1) STOPPED(bump_cache_get(&a.reader, "k", 1, value, 8, 1), "another thread is in a call with this");
-    sem_post(&tried);
-    pthread_join(thread, NULL);
-    waits = false;
+    leave(thread);
   }
   bump_cache_put(&a.part, "k", 1, "v", 1, 0, 0, 1);
   if (bump_cache_get(&a.reader, "k", 1, value, 8, 1).answer != BUMP_CACHE_GET_FOUND) failed = 1;

@@ -8,8 +8,6 @@
 
 enum { MOST_KEY = 1024, MOST_VALUE = 1048576 };
 
-/* Two layouts of one struct would pass other bytes. */
-#define SIZE(type, bytes) typedef char type##_has_##bytes##_bytes[sizeof(type) == (bytes) ? 1 : -1]
 #ifndef BUMP_DEBUG
 SIZE(bump_cache_reader, 8);
 #endif

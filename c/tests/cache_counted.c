@@ -8,12 +8,7 @@
  * Whoever counts the instructions of one get counts those of one_get. */
 #define _POSIX_C_SOURCE 200809L
 #include "bump_cache.h"
-#include <stdio.h>
-#include <stdlib.h>
-#include <string.h>
-#include <time.h>
-
-enum { ITEMS = 1024, PASSES = 60, ROUNDS = 64 };
+#include "counting.h"
 
 static bump_cache_reader reader;
 static bump_cache_part part;
@@ -70,12 +65,6 @@ static uint64_t hold(uint64_t rounds) {
   return sum;
 }
 
-static double now(void) {
-  struct timespec t;
-  clock_gettime(CLOCK_MONOTONIC, &t);
-  return (double)t.tv_sec * 1e9 + (double)t.tv_nsec;
-}
-
 static bool open_all(void) {
   bump_cache cache = { 0 };
   bump_cache_config config = bump_cache_defaults(ITEMS, 1, 8, 8);
@@ -97,35 +86,12 @@ static bool open_all(void) {
 /* The values of all items. */
 static const uint64_t EACH_ROUND = (uint64_t)ITEMS * (ITEMS - 1) / 2;
 
-typedef uint64_t way(uint64_t rounds);
-static const struct {
-  const char *name;
-  way *gets;
-} WAY[] = { { "get", get }, { "long", get_long }, { "words", words }, { "hold", hold } };
+static const struct way WAY[] = { { "get", get }, { "long", get_long }, { "words", words }, { "hold", hold } };
 enum { WAYS = 4 };
-
-static int time_all(void) {
-  double best[WAYS] = { 1e18, 1e18, 1e18, 1e18 };
-  for (int pass = 0; pass < PASSES; pass++)
-    for (int i = 0; i < WAYS; i++) {
-      double start = now();
-      if (WAY[i].gets(ROUNDS) != EACH_ROUND * ROUNDS) return 1;
-      double took = now() - start;
-      if (took < best[i]) best[i] = took;
-    }
-  for (int i = 0; i < WAYS; i++) printf("%s %.1f\n", WAY[i].name, best[i] / ITEMS / ROUNDS);
-  return 0;
-}
 
 int main(int count, char **words) {
   if (!open_all() || get(2) != 2 * EACH_ROUND) return 1; /* two gets of an item set both marks */
-  int status = 2;
-  if (count == 2 && strcmp(words[1], "time") == 0) status = time_all();
-  for (int i = 0; i < WAYS && count == 3; i++) {
-    if (strcmp(words[1], WAY[i].name) != 0) continue;
-    uint64_t rounds = strtoull(words[2], NULL, 10);
-    status = WAY[i].gets(rounds) != EACH_ROUND * rounds;
-  }
+  int status = count_or_time(count, words, WAY, WAYS, EACH_ROUND);
   bump_cache_reader_free(reader);
   bump_cache_part_free(part);
   return status;

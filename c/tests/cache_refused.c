@@ -3,75 +3,11 @@
  *
  * Link with -Wl,--wrap=malloc,--wrap=calloc,--wrap=realloc,--wrap=free. */
 #include "bump_cache.h"
+#include "refusing.h"
 #include <stdio.h>
-#include <stdlib.h>
 #include <string.h>
 
 enum { READERS = 3, PARTS = 2, HOLDS = 2, KEY = 12, VALUE = 100 };
-
-static long asked, refuse_at, live; /* requests so far; that which is refused, from 1 (0: none); blocks that are out */
-static bool all_behind;             /* and each behind it */
-static int failed;
-
-void *__real_malloc(size_t);
-void *__real_calloc(size_t, size_t);
-void *__real_realloc(void *, size_t);
-void __real_free(void *);
-void *__wrap_malloc(size_t);
-void *__wrap_calloc(size_t, size_t);
-void *__wrap_realloc(void *, size_t);
-void __wrap_free(void *);
-
-static bool is_refused(void) {
-  asked++;
-  return refuse_at != 0 && (asked == refuse_at || (all_behind && asked > refuse_at));
-}
-
-static void *counted(void *p) {
-  live += p != NULL;
-  return p;
-}
-
-void *__wrap_malloc(size_t n) { return is_refused() ? NULL : counted(__real_malloc(n)); }
-void *__wrap_calloc(size_t n, size_t m) { return is_refused() ? NULL : counted(__real_calloc(n, m)); }
-
-void *__wrap_realloc(void *p, size_t n) {
-  if (is_refused()) return NULL;
-  void *q = __real_realloc(p, n);
-  live += p == NULL && q != NULL;
-  return q;
-}
-
-void __wrap_free(void *p) {
-  live -= p != NULL;
-  __real_free(p);
-}
-
-static void want(bool holds, const char *what) {
-  if (holds) return;
-  fprintf(stderr, "with request %ld refused%s: %s\n", refuse_at, all_behind ? " and all behind it" : "", what);
-  failed = 1;
-}
-
-/* A call that asks for no memory. */
-#define ASKS_NOTHING(call)                                     \
-  do {                                                         \
-    long before = asked;                                       \
-    call;                                                      \
-    want(asked == before, "asks for memory: " #call);          \
-  } while (0)
-
-static bool open_no_memory;
-
-#define TAKE(call, type, number, parts)                             \
-  do {                                                              \
-    bool taken = false;                                             \
-    type none = { 0 };                                              \
-    ASKS_NOTHING(taken = call(&cache, number, &(parts)[number]));   \
-    want(taken && (parts)[number].p != NULL, "no " #call);          \
-    ASKS_NOTHING(taken = call(&cache, number, &none));              \
-    want(!taken && none.p == NULL, "twice " #call);                 \
-  } while (0)
 
 /* Puts in all ways, until items are evicted. */
 static void puts_of(bump_cache_part *p, const char *key) {
@@ -168,8 +104,8 @@ static void whole(void) {
     open_no_memory = true;
     return;
   }
-  for (uint32_t i = READERS; i-- > 0;) TAKE(bump_cache_take_reader, bump_cache_reader, i, reader);
-  for (uint32_t i = PARTS; i-- > 0;) TAKE(bump_cache_take_part, bump_cache_part, i, part);
+  for (uint32_t i = READERS; i-- > 0;) TAKE(bump_cache_take_reader, &cache, bump_cache_reader, i, reader);
+  for (uint32_t i = PARTS; i-- > 0;) TAKE(bump_cache_take_part, &cache, bump_cache_part, i, part);
   use(part, reader, &config);
   ASKS_NOTHING(bump_cache_close(cache));
   for (int i = 0; i < READERS; i++) ASKS_NOTHING(bump_cache_reader_free(reader[i]));
@@ -177,18 +113,4 @@ static void whole(void) {
   want(live == 0, "a leak");
 }
 
-int main(void) {
-  whole();
-  long requests = asked;
-  for (int behind = 0; behind < 2; behind++) {
-    all_behind = behind == 1;
-    for (refuse_at = 1; refuse_at <= requests; refuse_at++) {
-      asked = 0;
-      whole();
-    }
-  }
-  want(open_no_memory, "nothing is refused");
-  if (open_no_memory) printf("bump_cache_open BUMP_CACHE_OPEN_NO_MEMORY\n");
-  printf("each of %ld requests refused, alone and with all behind it: %s\n", requests, failed ? "FAILED" : "passed");
-  return failed;
-}
+int main(void) { return refuse_each(whole, "bump_cache_open BUMP_CACHE_OPEN_NO_MEMORY"); }

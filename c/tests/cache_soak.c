@@ -10,6 +10,7 @@
  * room for: they are evicted, removed, and expire. */
 #define _POSIX_C_SOURCE 200809L
 #include "bump_cache_locks.h"
+#include "soaking.h"
 #include <inttypes.h>
 #include <pthread.h>
 #include <sched.h>
@@ -27,22 +28,13 @@ static struct { char text[KEY]; uint32_t length; } key[KEYS];
 static _Atomic uint64_t there[STEADY]; /* the version that was put last */
 static _Atomic uint64_t now = 1;
 static _Atomic int readers_left = READERS;
-static _Atomic uint64_t wrong, refused;
+static _Atomic uint64_t refused;
 static uint64_t gets = 400000;
 
 struct counts {
   uint64_t hits, misses;
 };
 static struct counts counts[READERS];
-
-static void want(bool holds) {
-  if (!holds) atomic_fetch_add(&wrong, 1);
-}
-
-static uint64_t random_from(uint64_t *state) {
-  *state = *state * 6364136223846793005u + 1442695040888963407u;
-  return *state >> 33;
-}
 
 /* Some keys are asked for much more often. */
 static uint32_t some_key(uint64_t *state) {

@@ -1,29 +1,15 @@
-/* What cache_calls.c and cache_lists.c share: how an answer is looked at and printed, a cache with all its parts taken
- * out, and calls with keys and values of text. */
+/* What cache_calls.c and cache_lists.c share: a cache with all its parts taken out, and calls with keys and values of
+ * text. */
 #ifndef CACHE_TEST_H
 #define CACHE_TEST_H
 
 #include "bump_cache.h"
+#include "answers.h"
 #include <stdio.h>
 #include <string.h>
 
 enum { KEY = 20, VALUE = 150, HOLDS = 3 };
 #define FLAGS UINT32_C(0xfedcba98)
-
-static int failed;
-
-static inline void see(bool right, const char *file, int line, const char *call, const char *answer) {
-  if (right) {
-    printf("%s %s\n", call, answer);
-  } else {
-    fprintf(stderr, "%s:%d: %s doesn't answer %s\n", file, line, call, answer);
-    failed = 1;
-  }
-}
-/* The call answers this. */
-#define ANSWERS(call, given, answer) see((given) == (answer), __FILE__, __LINE__, #call, #answer)
-/* It is so. */
-#define HOLDS_THAT(call, condition) see(condition, __FILE__, __LINE__, #call, #condition)
 
 /* The build with checks is to tell of nothing. */
 #ifdef BUMP_DEBUG

@@ -8,6 +8,7 @@
  * With -DBUMP_DEBUG and bump_debug.c it makes the same calls by the build with checks, which has to come to the same,
  * and to tell of those calls alone whose handles are of two stores. */
 #include "bump.h"
+#include "answers.h"
 #include <stdio.h>
 #include <stdlib.h>
 #include <string.h>
@@ -15,21 +16,6 @@
 enum { HOLDS = 4, NO_HOLD = 9, WORDS = 11 };
 #define NOW 1000
 #define LABEL UINT64_C(0xfedcba9876543210)
-
-static int failed;
-
-static void see(bool right, int line, const char *call, const char *answer) {
-  if (right) {
-    printf("%s %s\n", call, answer);
-  } else {
-    fprintf(stderr, "calls.c:%d: %s doesn't answer %s\n", line, call, answer);
-    failed = 1;
-  }
-}
-/* The call answers this. */
-#define ANSWERS(call, given, answer) see((given) == (answer), __LINE__, #call, #answer)
-/* It is so. */
-#define HOLDS_THAT(call, condition) see(condition, __LINE__, #call, #condition)
 
 /* What the build with checks is to tell of the next call that breaks a promise. */
 static const char *expected = "";
@@ -53,8 +39,6 @@ static void hear(const char *what) {
 }
 #endif
 
-/* Two layouts of one struct would pass other bytes. */
-#define SIZE(type, bytes) typedef char type##_has_##bytes##_bytes[sizeof(type) == (bytes) ? 1 : -1]
 #ifndef BUMP_DEBUG
 SIZE(bump_worker, 8);
 #endif
@@ -602,7 +586,7 @@ static bump_linked bumps(struct all *a, struct all *other) {
 static void refused(bump_lane *lane, bump_worker *worker, enum bump_close_answer why, const char *answer) {
   bump_worker back = { 0 };
   enum bump_close_answer is = bump_worker_close(lane, *worker, &back);
-  see(is == why && back.p != NULL, __LINE__, "bump_worker_close", answer);
+  see(is == why && back.p != NULL, __FILE__, __LINE__, "bump_worker_close", answer);
   *worker = back;
 }
 #define REFUSED(lane, worker, why) refused(lane, worker, why, #why)

@@ -5,12 +5,7 @@
  *   counted time                        prints nanoseconds of a hit each way: the best of 60 passes of 64 rounds */
 #define _POSIX_C_SOURCE 200809L
 #include "bump.h"
-#include <stdio.h>
-#include <stdlib.h>
-#include <string.h>
-#include <time.h>
-
-enum { ITEMS = 1024, PASSES = 60, ROUNDS = 64 };
+#include "counting.h"
 
 static bump_worker worker;
 static bump_book book;
@@ -54,12 +49,6 @@ static uint64_t one(uint64_t rounds) {
   return sum;
 }
 
-static double now(void) {
-  struct timespec t;
-  clock_gettime(CLOCK_MONOTONIC, &t);
-  return (double)t.tv_sec * 1e9 + (double)t.tv_nsec;
-}
-
 static bool open_all(void) {
   bump_store store = { 0 };
   const bump_config config = { 1, 1, 16, 65535, 1, 4, 0 };
@@ -80,35 +69,12 @@ static bool open_all(void) {
 /* The labels of all items, and one for each hit. */
 static const uint64_t EACH_ROUND = (uint64_t)ITEMS * (ITEMS - 1) / 2 + ITEMS;
 
-typedef uint64_t way(uint64_t rounds);
-static const struct {
-  const char *name;
-  way *hits;
-} WAY[] = { { "four", four }, { "asking", asking }, { "one", one } };
+static const struct way WAY[] = { { "four", four }, { "asking", asking }, { "one", one } };
 enum { WAYS = 3 };
-
-static int time_all(void) {
-  double best[WAYS] = { 1e18, 1e18, 1e18 };
-  for (int pass = 0; pass < PASSES; pass++)
-    for (int i = 0; i < WAYS; i++) {
-      double start = now();
-      if (WAY[i].hits(ROUNDS) != EACH_ROUND * ROUNDS) return 1;
-      double took = now() - start;
-      if (took < best[i]) best[i] = took;
-    }
-  for (int i = 0; i < WAYS; i++) printf("%s %.1f\n", WAY[i].name, best[i] / ITEMS / ROUNDS);
-  return 0;
-}
 
 int main(int count, char **words) {
   if (!open_all()) return 1;
-  int status = 2;
-  if (count == 2 && strcmp(words[1], "time") == 0) status = time_all();
-  for (int i = 0; i < WAYS && count == 3; i++) {
-    if (strcmp(words[1], WAY[i].name) != 0) continue;
-    uint64_t rounds = strtoull(words[2], NULL, 10);
-    status = WAY[i].hits(rounds) != EACH_ROUND * rounds;
-  }
+  int status = count_or_time(count, words, WAY, WAYS, EACH_ROUND);
   bump_worker_free(worker);
   bump_book_free(book);
   return status;

@@ -1,6 +1,7 @@
 /* What an opening takes of the system's memory at its height is what it keeps, and a little: a table's slice of zeros is
  * given back before the table is filled. Both are looked at in processes of their own, whose height nothing else raises. */
 #include "bump_cache.h"
+#include "resident.h"
 #include <stdio.h>
 #include <stdlib.h>
 #include <sys/resource.h>
@@ -8,14 +9,6 @@
 #include <unistd.h>
 
 enum { ITEMS = 100000, BYTES = 2000, KB = 1 << 10, MB = 1 << 20 };
-
-static size_t resident(void) {
-  unsigned long all, here = 0;
-  FILE *statm = fopen("/proc/self/statm", "r");
-  if (!statm || fscanf(statm, "%lu %lu", &all, &here) != 2) exit(2);
-  fclose(statm);
-  return here * (size_t)sysconf(_SC_PAGESIZE);
-}
 
 static bool open_cache(void) {
   static bump_cache cache;

@@ -1,10 +1,10 @@
 /* c/memory.c alone: blocks keep what is in them, a refusal changes nothing, large blocks may be in huge pages, and an
  * opening gives back a slice of zeros. In place of the proved library this file has openings that take memory so. */
 #include "bump_cache.h"
+#include "resident.h"
 #include <errno.h>
 #include <stdio.h>
 #include <stdlib.h>
-#include <unistd.h>
 
 typedef struct {
   uint64_t is_there;
@@ -101,14 +101,6 @@ static void in_huge_pages(void) {
 }
 
 /* -------------------------------------------------------------------------------------- openings */
-
-static size_t resident(void) {
-  unsigned long all, here = 0;
-  FILE *statm = fopen("/proc/self/statm", "r");
-  if (!statm || fscanf(statm, "%lu %lu", &all, &here) != 2) exit(2);
-  fclose(statm);
-  return here * (size_t)sysconf(_SC_PAGESIZE);
-}
 
 static uint64_t *take(void) {
   rattle_tried block = rattle_alloc(8 * (size_t)WORDS, 8);

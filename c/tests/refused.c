@@ -3,74 +3,9 @@
  *
  * Link with -Wl,--wrap=malloc,--wrap=calloc,--wrap=realloc,--wrap=free. */
 #include "bump.h"
-#include <stdio.h>
-#include <stdlib.h>
+#include "refusing.h"
 
 enum { WORKERS = 3, CLASSES = 2, HOLDS = 2 };
-
-static long asked, refuse_at, live; /* requests so far; that which is refused, from 1 (0: none); blocks that are out */
-static bool all_behind;             /* and each behind it */
-static int failed;
-
-void *__real_malloc(size_t);
-void *__real_calloc(size_t, size_t);
-void *__real_realloc(void *, size_t);
-void __real_free(void *);
-void *__wrap_malloc(size_t);
-void *__wrap_calloc(size_t, size_t);
-void *__wrap_realloc(void *, size_t);
-void __wrap_free(void *);
-
-static bool is_refused(void) {
-  asked++;
-  return refuse_at != 0 && (asked == refuse_at || (all_behind && asked > refuse_at));
-}
-
-static void *counted(void *p) {
-  live += p != NULL;
-  return p;
-}
-
-void *__wrap_malloc(size_t n) { return is_refused() ? NULL : counted(__real_malloc(n)); }
-void *__wrap_calloc(size_t n, size_t m) { return is_refused() ? NULL : counted(__real_calloc(n, m)); }
-
-void *__wrap_realloc(void *p, size_t n) {
-  if (is_refused()) return NULL;
-  void *q = __real_realloc(p, n);
-  live += p == NULL && q != NULL;
-  return q;
-}
-
-void __wrap_free(void *p) {
-  live -= p != NULL;
-  __real_free(p);
-}
-
-static void want(bool holds, const char *what) {
-  if (holds) return;
-  fprintf(stderr, "with request %ld refused%s: %s\n", refuse_at, all_behind ? " and all behind it" : "", what);
-  failed = 1;
-}
-
-/* A call that asks for no memory. */
-#define ASKS_NOTHING(call)                                     \
-  do {                                                         \
-    long before = asked;                                       \
-    call;                                                      \
-    want(asked == before, "asks for memory: " #call);          \
-  } while (0)
-
-static bool open_no_memory;
-
-#define TAKE(call, type, number, parts)                             \
-  do {                                                              \
-    bool taken = false;                                             \
-    type none = { 0 };                                              \
-    ASKS_NOTHING(taken = call(&store, number, &(parts)[number]));   \
-    want(taken && (parts)[number].p != NULL, "no " #call);          \
-    ASKS_NOTHING(taken = call(&store, number, &none));              \
-    want(!taken && none.p == NULL, "twice " #call);                 \
-  } while (0)
 
 /* Reads of an item of class 1 with two words, which is then held by worker 1. */
 static void read_it(bump_worker *worker, bump_linked a) {
@@ -164,9 +99,9 @@ static void whole(void) {
     open_no_memory = true;
     return;
   }
-  for (uint32_t i = WORKERS; i-- > 0;) TAKE(bump_take_worker, bump_worker, i, worker);
-  for (uint32_t i = WORKERS; i-- > 0;) TAKE(bump_take_lane, bump_lane, i, lane);
-  for (uint32_t i = CLASSES; i-- > 0;) TAKE(bump_take_book, bump_book, i, book);
+  for (uint32_t i = WORKERS; i-- > 0;) TAKE(bump_take_worker, &store, bump_worker, i, worker);
+  for (uint32_t i = WORKERS; i-- > 0;) TAKE(bump_take_lane, &store, bump_lane, i, lane);
+  for (uint32_t i = CLASSES; i-- > 0;) TAKE(bump_take_book, &store, bump_book, i, book);
   use(worker, lane, book);
   ASKS_NOTHING(bump_close(store));
   for (int i = 0; i < WORKERS; i++) {
@@ -178,17 +113,4 @@ static void whole(void) {
   want(live == 0, "a leak");
 }
 
-int main(void) {
-  whole();
-  long requests = asked;
-  for (int behind = 0; behind < 2; behind++) {
-    all_behind = behind == 1;
-    for (refuse_at = 1; refuse_at <= requests; refuse_at++) {
-      asked = 0;
-      whole();
-    }
-  }
-  if (open_no_memory) printf("bump_open BUMP_OPEN_NO_MEMORY\n");
-  printf("each of %ld requests refused, alone and with all behind it: %s\n", requests, failed ? "FAILED" : "passed");
-  return failed;
-}
+int main(void) { return refuse_each(whole, "bump_open BUMP_OPEN_NO_MEMORY"); }

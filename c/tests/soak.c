@@ -7,6 +7,7 @@
  * that store drains lanes too, and its sweeps and runs tell it which chunks came free. */
 #define _POSIX_C_SOURCE 200809L
 #include "bump.h"
+#include "soaking.h"
 #include <inttypes.h>
 #include <pthread.h>
 #include <sched.h>
@@ -27,22 +28,13 @@ static pthread_mutex_t class_lock[CLASSES];
 static _Atomic uint64_t item[KEYS]; /* generation << 32 | chunk; 0: none */
 static _Atomic int holders[CHUNKS];
 static _Atomic int readers_left = READERS;
-static _Atomic uint64_t told_free, wrong; /* chunks told as free; answers that can't be */
+static _Atomic uint64_t told_free; /* chunks told as free */
 static uint64_t reads = 1000000;
 
 struct tally {
   uint64_t touched[ANSWERS], got[ANSWERS], next_number;
 };
 static struct tally tally[READERS];
-
-static void want(bool holds) {
-  if (!holds) atomic_fetch_add(&wrong, 1);
-}
-
-static uint64_t random_from(uint64_t *state) {
-  *state = *state * 6364136223846793005u + 1442695040888963407u;
-  return *state >> 33;
-}
 
 /* Some keys are asked for much more often. */
 static uint32_t some_key(uint64_t *state) {
