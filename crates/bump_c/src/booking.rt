@@ -10,8 +10,8 @@ use crate::answers::{
     FreedTold, LinkTold, PullTold, UnlinkTold, given, linked_told, pulled_told, tail_of,
     unlinked_told, words_linked_told,
 };
-use crate::book_handle::BookHandle;
-use box_parts::BoxParts;
+use crate::book_handle::{BookCall, BookHandle};
+use bump_handles::TaggedBook;
 use bump_readers::Name;
 use bump_rules::ItemId;
 use std::marker::Brand;
@@ -23,22 +23,20 @@ const NO_SUCH_TAIL: PullTold = PullTold {
     label: 0,
 };
 
-fn link_named<N: Name>(h: BookHandle, label: u64, now: u64) -> (BookHandle, LinkTold)
-    requires table { h.table ≡ N.table }
-    requires one { IsOne N }
-    ensures table { result.0.table ≡ h.table }
-    ensures links { TellsLink start.Hot label now h.held result.0.held result.1 }
-{
-    let mut it = h.into_parts::<N>().into_box();
-    let said = linked_told(it.link(label, now));
-    (BookHandle::of_parts(BoxParts::of(it)), said)
+#[derive(Drop)]
+struct Link {
+    label: u64,
+    now: u64,
 }
 
-fn link_at(h: BookHandle, label: u64, now: u64) -> (BookHandle, LinkTold)
-    ensures table { result.0.table ≡ h.table }
-    ensures links { TellsLink start.Hot label now h.held result.0.held result.1 }
-{
-    link_named::<Brand>(h, label, now)
+impl BookCall for Link {
+    type Told = LinkTold;
+
+    ghost tells = { λ call table before after told. TellsLink start.Hot call.label call.now before after told };
+
+    fn make<N: Name>(self, it: &mut TaggedBook<N>) -> LinkTold {
+        linked_told(it.link(self.label, self.now))
+    }
 }
 
 /// Links an item with a label at the front of HOT.
@@ -47,29 +45,23 @@ pub extern "C" fn bump_link(book: &mut BookHandle, label: u64, now: u64) -> Link
     ensures table { book.new.table ≡ book.old.table }
     ensures links { TellsLink start.Hot label now book.old.held book.new.held result }
 {
-    core::mem::replace_with(
-        book,
-        (label, now),
-        |h: BookHandle, x: (u64, u64)| -> (BookHandle, LinkTold) { link_at(h, x.0, x.1) },
-    )
+    book.call(Link { label, now })
 }
 
-fn link_temp_named<N: Name>(h: BookHandle, label: u64, now: u64) -> (BookHandle, LinkTold)
-    requires table { h.table ≡ N.table }
-    requires one { IsOne N }
-    ensures table { result.0.table ≡ h.table }
-    ensures links { TellsLink start.Temp label now h.held result.0.held result.1 }
-{
-    let mut it = h.into_parts::<N>().into_box();
-    let said = linked_told(it.link_temp(label, now));
-    (BookHandle::of_parts(BoxParts::of(it)), said)
+#[derive(Drop)]
+struct LinkTemp {
+    label: u64,
+    now: u64,
 }
 
-fn link_temp_at(h: BookHandle, label: u64, now: u64) -> (BookHandle, LinkTold)
-    ensures table { result.0.table ≡ h.table }
-    ensures links { TellsLink start.Temp label now h.held result.0.held result.1 }
-{
-    link_temp_named::<Brand>(h, label, now)
+impl BookCall for LinkTemp {
+    type Told = LinkTold;
+
+    ghost tells = { λ call table before after told. TellsLink start.Temp call.label call.now before after told };
+
+    fn make<N: Name>(self, it: &mut TaggedBook<N>) -> LinkTold {
+        linked_told(it.link_temp(self.label, self.now))
+    }
 }
 
 /// Links an item with a label at the front of TEMP.
@@ -78,34 +70,25 @@ pub extern "C" fn bump_link_temp(book: &mut BookHandle, label: u64, now: u64) ->
     ensures table { book.new.table ≡ book.old.table }
     ensures links { TellsLink start.Temp label now book.old.held book.new.held result }
 {
-    core::mem::replace_with(
-        book,
-        (label, now),
-        |h: BookHandle, x: (u64, u64)| -> (BookHandle, LinkTold) { link_temp_at(h, x.0, x.1) },
-    )
+    book.call(LinkTemp { label, now })
 }
 
-fn link_words_named<N: Name>(
-    h: BookHandle,
+#[derive(Drop)]
+struct LinkWords<'a> {
     label: u64,
-    words: &[u64],
+    words: &'a [u64],
     now: u64,
-) -> (BookHandle, LinkTold)
-    requires table { h.table ≡ N.table }
-    requires one { IsOne N }
-    ensures table { result.0.table ≡ h.table }
-    ensures links { TellsLinkWords start.Hot h.table label words.now now h.held result.0.held result.1 }
-{
-    let mut it = h.into_parts::<N>().into_box();
-    let said = words_linked_told(it.link_words(label, words, now));
-    (BookHandle::of_parts(BoxParts::of(it)), said)
 }
 
-fn link_words_at(h: BookHandle, label: u64, words: &[u64], now: u64) -> (BookHandle, LinkTold)
-    ensures table { result.0.table ≡ h.table }
-    ensures links { TellsLinkWords start.Hot h.table label words.now now h.held result.0.held result.1 }
-{
-    link_words_named::<Brand>(h, label, words, now)
+impl<'a> BookCall for LinkWords<'a> {
+    type Told = LinkTold;
+
+    ghost tells = { λ call table before after told.
+        TellsLinkWords start.Hot table call.label call.words.now call.now before after told };
+
+    fn make<N: Name>(self, it: &mut TaggedBook<N>) -> LinkTold {
+        words_linked_told(it.link_words(self.label, self.words, self.now))
+    }
 }
 
 /// Links an item with a label and further words at the front of HOT.
@@ -119,36 +102,25 @@ pub extern "C" fn bump_link_words(
     ensures table { book.new.table ≡ book.old.table }
     ensures links { TellsLinkWords start.Hot book.old.table label words.now now book.old.held book.new.held result }
 {
-    core::mem::replace_with(
-        book,
-        (label, words, now),
-        |h: BookHandle, x: (u64, &[u64], u64)| -> (BookHandle, LinkTold) {
-            link_words_at(h, x.0, x.1, x.2)
-        },
-    )
+    book.call(LinkWords { label, words, now })
 }
 
-fn link_temp_words_named<N: Name>(
-    h: BookHandle,
+#[derive(Drop)]
+struct LinkTempWords<'a> {
     label: u64,
-    words: &[u64],
+    words: &'a [u64],
     now: u64,
-) -> (BookHandle, LinkTold)
-    requires table { h.table ≡ N.table }
-    requires one { IsOne N }
-    ensures table { result.0.table ≡ h.table }
-    ensures links { TellsLinkWords start.Temp h.table label words.now now h.held result.0.held result.1 }
-{
-    let mut it = h.into_parts::<N>().into_box();
-    let said = words_linked_told(it.link_temp_words(label, words, now));
-    (BookHandle::of_parts(BoxParts::of(it)), said)
 }
 
-fn link_temp_words_at(h: BookHandle, label: u64, words: &[u64], now: u64) -> (BookHandle, LinkTold)
-    ensures table { result.0.table ≡ h.table }
-    ensures links { TellsLinkWords start.Temp h.table label words.now now h.held result.0.held result.1 }
-{
-    link_temp_words_named::<Brand>(h, label, words, now)
+impl<'a> BookCall for LinkTempWords<'a> {
+    type Told = LinkTold;
+
+    ghost tells = { λ call table before after told.
+        TellsLinkWords start.Temp table call.label call.words.now call.now before after told };
+
+    fn make<N: Name>(self, it: &mut TaggedBook<N>) -> LinkTold {
+        words_linked_told(it.link_temp_words(self.label, self.words, self.now))
+    }
 }
 
 /// Links an item with a label and further words at the front of TEMP.
@@ -162,31 +134,22 @@ pub extern "C" fn bump_link_temp_words(
     ensures table { book.new.table ≡ book.old.table }
     ensures links { TellsLinkWords start.Temp book.old.table label words.now now book.old.held book.new.held result }
 {
-    core::mem::replace_with(
-        book,
-        (label, words, now),
-        |h: BookHandle, x: (u64, &[u64], u64)| -> (BookHandle, LinkTold) {
-            link_temp_words_at(h, x.0, x.1, x.2)
-        },
-    )
+    book.call(LinkTempWords { label, words, now })
 }
 
-fn unlink_named<N: Name>(h: BookHandle, chunk: u32, generation: u32) -> (BookHandle, UnlinkTold)
-    requires table { h.table ≡ N.table }
-    requires one { IsOne N }
-    ensures table { result.0.table ≡ h.table }
-    ensures unlinks { TellsUnlink chunk generation h.held result.0.held result.1 }
-{
-    let mut it = h.into_parts::<N>().into_box();
-    let said = unlinked_told(it.unlink(ItemId { chunk, generation }));
-    (BookHandle::of_parts(BoxParts::of(it)), said)
+#[derive(Drop)]
+struct Unlink {
+    id: ItemId,
 }
 
-fn unlink_at(h: BookHandle, chunk: u32, generation: u32) -> (BookHandle, UnlinkTold)
-    ensures table { result.0.table ≡ h.table }
-    ensures unlinks { TellsUnlink chunk generation h.held result.0.held result.1 }
-{
-    unlink_named::<Brand>(h, chunk, generation)
+impl BookCall for Unlink {
+    type Told = UnlinkTold;
+
+    ghost tells = { λ call table before after told. TellsUnlink call.id.chunk call.id.generation before after told };
+
+    fn make<N: Name>(self, it: &mut TaggedBook<N>) -> UnlinkTold {
+        unlinked_told(it.unlink(self.id))
+    }
 }
 
 /// Ends an item.
@@ -195,33 +158,29 @@ pub extern "C" fn bump_unlink(book: &mut BookHandle, chunk: u32, generation: u32
     ensures table { book.new.table ≡ book.old.table }
     ensures unlinks { TellsUnlink chunk generation book.old.held book.new.held result }
 {
-    core::mem::replace_with(
-        book,
-        (chunk, generation),
-        |h: BookHandle, x: (u32, u32)| -> (BookHandle, UnlinkTold) { unlink_at(h, x.0, x.1) },
-    )
+    book.call(Unlink {
+        id: ItemId { chunk, generation },
+    })
 }
 
-fn pull_named<N: Name>(h: BookHandle, tail: u32, limit: u32) -> (BookHandle, PullTold)
-    requires table { h.table ≡ N.table }
-    requires one { IsOne N }
-    ensures table { result.0.table ≡ h.table }
-    ensures pulls { TellsPull tail limit h.held result.0.held result.1 }
-{
-    let Some(list) = tail_of(tail) else {
-        return (h, NO_SUCH_TAIL);
-    };
-    let mut it = h.into_parts::<N>().into_box();
-    let (pulled, label) = it.pull(list, given(limit));
-    let said = pulled_told(pulled, label);
-    (BookHandle::of_parts(BoxParts::of(it)), said)
+#[derive(Drop)]
+struct Pull {
+    tail: u32,
+    limit: u32,
 }
 
-fn pull_at(h: BookHandle, tail: u32, limit: u32) -> (BookHandle, PullTold)
-    ensures table { result.0.table ≡ h.table }
-    ensures pulls { TellsPull tail limit h.held result.0.held result.1 }
-{
-    pull_named::<Brand>(h, tail, limit)
+impl BookCall for Pull {
+    type Told = PullTold;
+
+    ghost tells = { λ call table before after told. TellsPull call.tail call.limit before after told };
+
+    fn make<N: Name>(self, it: &mut TaggedBook<N>) -> PullTold {
+        let Some(list) = tail_of(self.tail) else {
+            return NO_SUCH_TAIL;
+        };
+        let (pulled, label) = it.pull(list, given(self.limit));
+        pulled_told(pulled, label)
+    }
 }
 
 /// Looks at the last item of a list, and moves or ends it, by a limit or by the class's.
@@ -230,29 +189,20 @@ pub extern "C" fn bump_pull(book: &mut BookHandle, tail: u32, limit: u32) -> Pul
     ensures table { book.new.table ≡ book.old.table }
     ensures pulls { TellsPull tail limit book.old.held book.new.held result }
 {
-    core::mem::replace_with(
-        book,
-        (tail, limit),
-        |h: BookHandle, x: (u32, u32)| -> (BookHandle, PullTold) { pull_at(h, x.0, x.1) },
-    )
+    book.call(Pull { tail, limit })
 }
 
-fn sweep_named<N: Name>(h: BookHandle) -> (BookHandle, u32)
-    requires table { h.table ≡ N.table }
-    requires one { IsOne N }
-    ensures table { result.0.table ≡ h.table }
-    ensures sweeps { BookSweeps h.held result.0.held result.1 }
-{
-    let mut it = h.into_parts::<N>().into_box();
-    let said = it.sweep();
-    (BookHandle::of_parts(BoxParts::of(it)), said)
-}
+#[derive(Drop)]
+struct Sweep;
 
-fn sweep_at(h: BookHandle) -> (BookHandle, u32)
-    ensures table { result.0.table ≡ h.table }
-    ensures sweeps { BookSweeps h.held result.0.held result.1 }
-{
-    sweep_named::<Brand>(h)
+impl BookCall for Sweep {
+    type Told = u32;
+
+    ghost tells = { λ call table before after told. BookSweeps before after told };
+
+    fn make<N: Name>(self, it: &mut TaggedBook<N>) -> u32 {
+        it.sweep()
+    }
 }
 
 /// Frees those chunks of DYING that nobody holds any more, and tells how many.
@@ -261,31 +211,22 @@ pub extern "C" fn bump_sweep(book: &mut BookHandle) -> u32
     ensures table { book.new.table ≡ book.old.table }
     ensures sweeps { BookSweeps book.old.held book.new.held result }
 {
-    core::mem::replace_with(book, (), |h: BookHandle, _x: ()| -> (BookHandle, u32) {
-        sweep_at(h)
-    })
+    book.call(Sweep)
 }
 
-fn sweep_told_named<N: Name>(h: BookHandle) -> (BookHandle, FreedTold)
-    requires table { h.table ≡ N.table }
-    requires one { IsOne N }
-    ensures table { result.0.table ≡ h.table }
-    ensures sweeps { BookSweepsInto h.held no_chunks result.0.held result.1.chunks result.1.count }
-{
-    let mut it = h.into_parts::<N>().into_box();
-    let mut chunks = [0; 32];
-    let count = it.sweep_into(&mut chunks);
-    (
-        BookHandle::of_parts(BoxParts::of(it)),
-        FreedTold { count, chunks },
-    )
-}
+#[derive(Drop)]
+struct SweepTold;
 
-fn sweep_told_at(h: BookHandle) -> (BookHandle, FreedTold)
-    ensures table { result.0.table ≡ h.table }
-    ensures sweeps { BookSweepsInto h.held no_chunks result.0.held result.1.chunks result.1.count }
-{
-    sweep_told_named::<Brand>(h)
+impl BookCall for SweepTold {
+    type Told = FreedTold;
+
+    ghost tells = { λ call table before after told. BookSweepsInto before no_chunks after told.chunks told.count };
+
+    fn make<N: Name>(self, it: &mut TaggedBook<N>) -> FreedTold {
+        let mut chunks = [0; 32];
+        let count = it.sweep_into(&mut chunks);
+        FreedTold { count, chunks }
+    }
 }
 
 /// Sweeps, and tells which chunks came free: at most 32, and it stops there.
@@ -294,11 +235,7 @@ pub extern "C" fn bump_sweep_told(book: &mut BookHandle) -> FreedTold
     ensures table { book.new.table ≡ book.old.table }
     ensures sweeps { BookSweepsInto book.old.held no_chunks book.new.held result.chunks result.count }
 {
-    core::mem::replace_with(
-        book,
-        (),
-        |h: BookHandle, _x: ()| -> (BookHandle, FreedTold) { sweep_told_at(h) },
-    )
+    book.call(SweepTold)
 }
 
 fn book_free_named<N: Name>(h: BookHandle)

@@ -1,46 +1,32 @@
 //! A part's calls that change it, which are made under the caller's lock of the part.
 ghost use Rattle.std.specs.Prelude.{◌≡◌};
 ghost use Rattle.cache_handles.specs.Looking.{TellsRemove};
-ghost use Rattle.bump_c.specs.One.{IsOne};
 ghost use Rattle.bump_c.specs.CacheTells.{ClearsCachePart, TellsCacheAdd, TellsCachePut, TellsCacheReplace};
 ghost use Rattle.bump_c.specs.CacheTells.{TellsCacheTouch, TellsCacheUpdate, TendsCachePart};
 
 use crate::cache_answers::{CachePut, put_told};
-use crate::cache_part_handle::CachePartHandle;
-use box_parts::BoxParts;
+use crate::cache_part_handle::{CachePartCall, CachePartHandle};
 use bump_heads::Name;
-use std::marker::Brand;
+use cache_handles::BytePart;
 
-fn put_named<N: Name>(
-    h: CachePartHandle,
-    key: &[u8],
-    value: &[u8],
+#[derive(Drop)]
+struct Put<'a> {
+    key: &'a [u8],
+    value: &'a [u8],
     flags: u32,
     expires: u64,
     now: u64,
-) -> (CachePartHandle, CachePut)
-    requires table { h.table ≡ N.table }
-    requires one { IsOne N }
-    ensures table { result.0.table ≡ h.table }
-    ensures puts { TellsCachePut key.now value.now flags expires now h.held result.0.held result.1 }
-{
-    let mut it = h.into_parts::<N>().into_box();
-    let said = put_told(it.put(key, value, flags, expires, now));
-    (CachePartHandle::of_parts(BoxParts::of(it)), said)
 }
 
-fn put_at(
-    h: CachePartHandle,
-    key: &[u8],
-    value: &[u8],
-    flags: u32,
-    expires: u64,
-    now: u64,
-) -> (CachePartHandle, CachePut)
-    ensures table { result.0.table ≡ h.table }
-    ensures puts { TellsCachePut key.now value.now flags expires now h.held result.0.held result.1 }
-{
-    put_named::<Brand>(h, key, value, flags, expires, now)
+impl<'a> CachePartCall for Put<'a> {
+    type Told = CachePut;
+
+    ghost tells = { λ call table before after told.
+        TellsCachePut call.key.now call.value.now call.flags call.expires call.now before after told };
+
+    fn make<N: Name>(self, it: &mut BytePart<N>) -> CachePut {
+        put_told(it.put(self.key, self.value, self.flags, self.expires, self.now))
+    }
 }
 
 /// Puts a value under a key, with flags of the caller's, until a time; 0 is never. Where the key has no item and the
@@ -57,45 +43,33 @@ pub extern "C" fn bump_cache_put(
     ensures table { part.new.table ≡ part.old.table }
     ensures puts { TellsCachePut key.now value.now flags expires now part.old.held part.new.held result }
 {
-    core::mem::replace_with(
-        part,
-        (key, value, flags, expires, now),
-        |h: CachePartHandle, x: (&[u8], &[u8], u32, u64, u64)| -> (CachePartHandle, CachePut) {
-            put_at(h, x.0, x.1, x.2, x.3, x.4)
-        },
-    )
+    part.call(Put {
+        key,
+        value,
+        flags,
+        expires,
+        now,
+    })
 }
 
-fn add_named<N: Name>(
-    h: CachePartHandle,
-    key: &[u8],
-    value: &[u8],
+#[derive(Drop)]
+struct Add<'a> {
+    key: &'a [u8],
+    value: &'a [u8],
     flags: u32,
     expires: u64,
     now: u64,
-) -> (CachePartHandle, CachePut)
-    requires table { h.table ≡ N.table }
-    requires one { IsOne N }
-    ensures table { result.0.table ≡ h.table }
-    ensures adds { TellsCacheAdd key.now value.now flags expires now h.held result.0.held result.1 }
-{
-    let mut it = h.into_parts::<N>().into_box();
-    let said = put_told(it.add(key, value, flags, expires, now));
-    (CachePartHandle::of_parts(BoxParts::of(it)), said)
 }
 
-fn add_at(
-    h: CachePartHandle,
-    key: &[u8],
-    value: &[u8],
-    flags: u32,
-    expires: u64,
-    now: u64,
-) -> (CachePartHandle, CachePut)
-    ensures table { result.0.table ≡ h.table }
-    ensures adds { TellsCacheAdd key.now value.now flags expires now h.held result.0.held result.1 }
-{
-    add_named::<Brand>(h, key, value, flags, expires, now)
+impl<'a> CachePartCall for Add<'a> {
+    type Told = CachePut;
+
+    ghost tells = { λ call table before after told.
+        TellsCacheAdd call.key.now call.value.now call.flags call.expires call.now before after told };
+
+    fn make<N: Name>(self, it: &mut BytePart<N>) -> CachePut {
+        put_told(it.add(self.key, self.value, self.flags, self.expires, self.now))
+    }
 }
 
 /// The same where the key has nothing, or what has expired.
@@ -111,45 +85,33 @@ pub extern "C" fn bump_cache_add(
     ensures table { part.new.table ≡ part.old.table }
     ensures adds { TellsCacheAdd key.now value.now flags expires now part.old.held part.new.held result }
 {
-    core::mem::replace_with(
-        part,
-        (key, value, flags, expires, now),
-        |h: CachePartHandle, x: (&[u8], &[u8], u32, u64, u64)| -> (CachePartHandle, CachePut) {
-            add_at(h, x.0, x.1, x.2, x.3, x.4)
-        },
-    )
+    part.call(Add {
+        key,
+        value,
+        flags,
+        expires,
+        now,
+    })
 }
 
-fn replace_named<N: Name>(
-    h: CachePartHandle,
-    key: &[u8],
-    value: &[u8],
+#[derive(Drop)]
+struct Replace<'a> {
+    key: &'a [u8],
+    value: &'a [u8],
     flags: u32,
     expires: u64,
     now: u64,
-) -> (CachePartHandle, CachePut)
-    requires table { h.table ≡ N.table }
-    requires one { IsOne N }
-    ensures table { result.0.table ≡ h.table }
-    ensures replaces { TellsCacheReplace key.now value.now flags expires now h.held result.0.held result.1 }
-{
-    let mut it = h.into_parts::<N>().into_box();
-    let said = put_told(it.replace(key, value, flags, expires, now));
-    (CachePartHandle::of_parts(BoxParts::of(it)), said)
 }
 
-fn replace_at(
-    h: CachePartHandle,
-    key: &[u8],
-    value: &[u8],
-    flags: u32,
-    expires: u64,
-    now: u64,
-) -> (CachePartHandle, CachePut)
-    ensures table { result.0.table ≡ h.table }
-    ensures replaces { TellsCacheReplace key.now value.now flags expires now h.held result.0.held result.1 }
-{
-    replace_named::<Brand>(h, key, value, flags, expires, now)
+impl<'a> CachePartCall for Replace<'a> {
+    type Told = CachePut;
+
+    ghost tells = { λ call table before after told.
+        TellsCacheReplace call.key.now call.value.now call.flags call.expires call.now before after told };
+
+    fn make<N: Name>(self, it: &mut BytePart<N>) -> CachePut {
+        put_told(it.replace(self.key, self.value, self.flags, self.expires, self.now))
+    }
 }
 
 /// The same where the key has something that hasn't expired.
@@ -165,36 +127,31 @@ pub extern "C" fn bump_cache_replace(
     ensures table { part.new.table ≡ part.old.table }
     ensures replaces { TellsCacheReplace key.now value.now flags expires now part.old.held part.new.held result }
 {
-    core::mem::replace_with(
-        part,
-        (key, value, flags, expires, now),
-        |h: CachePartHandle, x: (&[u8], &[u8], u32, u64, u64)| -> (CachePartHandle, CachePut) {
-            replace_at(h, x.0, x.1, x.2, x.3, x.4)
-        },
-    )
+    part.call(Replace {
+        key,
+        value,
+        flags,
+        expires,
+        now,
+    })
 }
 
-fn update_named<N: Name>(
-    h: CachePartHandle,
-    key: &[u8],
-    value: &[u8],
+#[derive(Drop)]
+struct Update<'a> {
+    key: &'a [u8],
+    value: &'a [u8],
     now: u64,
-) -> (CachePartHandle, CachePut)
-    requires table { h.table ≡ N.table }
-    requires one { IsOne N }
-    ensures table { result.0.table ≡ h.table }
-    ensures updates { TellsCacheUpdate key.now value.now now h.held result.0.held result.1 }
-{
-    let mut it = h.into_parts::<N>().into_box();
-    let said = put_told(it.update(key, value, now));
-    (CachePartHandle::of_parts(BoxParts::of(it)), said)
 }
 
-fn update_at(h: CachePartHandle, key: &[u8], value: &[u8], now: u64) -> (CachePartHandle, CachePut)
-    ensures table { result.0.table ≡ h.table }
-    ensures updates { TellsCacheUpdate key.now value.now now h.held result.0.held result.1 }
-{
-    update_named::<Brand>(h, key, value, now)
+impl<'a> CachePartCall for Update<'a> {
+    type Told = CachePut;
+
+    ghost tells = { λ call table before after told.
+        TellsCacheUpdate call.key.now call.value.now call.now before after told };
+
+    fn make<N: Name>(self, it: &mut BytePart<N>) -> CachePut {
+        put_told(it.update(self.key, self.value, self.now))
+    }
 }
 
 /// The same as a replacement, but the flags and the time stay what they are.
@@ -208,36 +165,25 @@ pub extern "C" fn bump_cache_update(
     ensures table { part.new.table ≡ part.old.table }
     ensures updates { TellsCacheUpdate key.now value.now now part.old.held part.new.held result }
 {
-    core::mem::replace_with(
-        part,
-        (key, value, now),
-        |h: CachePartHandle, x: (&[u8], &[u8], u64)| -> (CachePartHandle, CachePut) {
-            update_at(h, x.0, x.1, x.2)
-        },
-    )
+    part.call(Update { key, value, now })
 }
 
-fn touch_named<N: Name>(
-    h: CachePartHandle,
-    key: &[u8],
+#[derive(Drop)]
+struct Touch<'a> {
+    key: &'a [u8],
     expires: u64,
     now: u64,
-) -> (CachePartHandle, CachePut)
-    requires table { h.table ≡ N.table }
-    requires one { IsOne N }
-    ensures table { result.0.table ≡ h.table }
-    ensures touches { TellsCacheTouch key.now expires now h.held result.0.held result.1 }
-{
-    let mut it = h.into_parts::<N>().into_box();
-    let said = put_told(it.touch(key, expires, now));
-    (CachePartHandle::of_parts(BoxParts::of(it)), said)
 }
 
-fn touch_at(h: CachePartHandle, key: &[u8], expires: u64, now: u64) -> (CachePartHandle, CachePut)
-    ensures table { result.0.table ≡ h.table }
-    ensures touches { TellsCacheTouch key.now expires now h.held result.0.held result.1 }
-{
-    touch_named::<Brand>(h, key, expires, now)
+impl<'a> CachePartCall for Touch<'a> {
+    type Told = CachePut;
+
+    ghost tells = { λ call table before after told.
+        TellsCacheTouch call.key.now call.expires call.now before after told };
+
+    fn make<N: Name>(self, it: &mut BytePart<N>) -> CachePut {
+        put_told(it.touch(self.key, self.expires, self.now))
+    }
 }
 
 /// The value and its flags stay, and it expires at another time.
@@ -251,31 +197,23 @@ pub extern "C" fn bump_cache_touch(
     ensures table { part.new.table ≡ part.old.table }
     ensures touches { TellsCacheTouch key.now expires now part.old.held part.new.held result }
 {
-    core::mem::replace_with(
-        part,
-        (key, expires, now),
-        |h: CachePartHandle, x: (&[u8], u64, u64)| -> (CachePartHandle, CachePut) {
-            touch_at(h, x.0, x.1, x.2)
-        },
-    )
+    part.call(Touch { key, expires, now })
 }
 
-fn remove_named<N: Name>(h: CachePartHandle, key: &[u8], now: u64) -> (CachePartHandle, bool)
-    requires table { h.table ≡ N.table }
-    requires one { IsOne N }
-    ensures table { result.0.table ≡ h.table }
-    ensures removes { TellsRemove key.now now h.held result.0.held result.1 }
-{
-    let mut it = h.into_parts::<N>().into_box();
-    let said = it.remove(key, now);
-    (CachePartHandle::of_parts(BoxParts::of(it)), said)
+#[derive(Drop)]
+struct Remove<'a> {
+    key: &'a [u8],
+    now: u64,
 }
 
-fn remove_at(h: CachePartHandle, key: &[u8], now: u64) -> (CachePartHandle, bool)
-    ensures table { result.0.table ≡ h.table }
-    ensures removes { TellsRemove key.now now h.held result.0.held result.1 }
-{
-    remove_named::<Brand>(h, key, now)
+impl<'a> CachePartCall for Remove<'a> {
+    type Told = bool;
+
+    ghost tells = { λ call table before after told. TellsRemove call.key.now call.now before after told };
+
+    fn make<N: Name>(self, it: &mut BytePart<N>) -> bool {
+        it.remove(self.key, self.now)
+    }
 }
 
 /// Ends what a key has, and tells whether it had something that hadn't expired.
@@ -284,29 +222,22 @@ pub extern "C" fn bump_cache_remove(part: &mut CachePartHandle, key: &[u8], now:
     ensures table { part.new.table ≡ part.old.table }
     ensures removes { TellsRemove key.now now part.old.held part.new.held result }
 {
-    core::mem::replace_with(
-        part,
-        (key, now),
-        |h: CachePartHandle, x: (&[u8], u64)| -> (CachePartHandle, bool) { remove_at(h, x.0, x.1) },
-    )
+    part.call(Remove { key, now })
 }
 
-fn tend_named<N: Name>(h: CachePartHandle, now: u64) -> (CachePartHandle, ())
-    requires table { h.table ≡ N.table }
-    requires one { IsOne N }
-    ensures table { result.0.table ≡ h.table }
-    ensures tends { TendsCachePart now h.held result.0.held }
-{
-    let mut it = h.into_parts::<N>().into_box();
-    it.tend(now);
-    (CachePartHandle::of_parts(BoxParts::of(it)), ())
+#[derive(Drop)]
+struct Tend {
+    now: u64,
 }
 
-fn tend_at(h: CachePartHandle, now: u64) -> (CachePartHandle, ())
-    ensures table { result.0.table ≡ h.table }
-    ensures tends { TendsCachePart now h.held result.0.held }
-{
-    tend_named::<Brand>(h, now)
+impl CachePartCall for Tend {
+    type Told = ();
+
+    ghost tells = { λ call table before after told. TendsCachePart call.now before after };
+
+    fn make<N: Name>(self, it: &mut BytePart<N>) {
+        it.tend(self.now);
+    }
 }
 
 /// Applies the bumps that wait, ends what has expired among some chunks, frees what nobody holds any more, and
@@ -316,29 +247,20 @@ pub extern "C" fn bump_cache_tend(part: &mut CachePartHandle, now: u64)
     ensures table { part.new.table ≡ part.old.table }
     ensures tends { TendsCachePart now part.old.held part.new.held }
 {
-    core::mem::replace_with(
-        part,
-        (now,),
-        |h: CachePartHandle, x: (u64,)| -> (CachePartHandle, ()) { tend_at(h, x.0) },
-    )
+    part.call(Tend { now })
 }
 
-fn clear_named<N: Name>(h: CachePartHandle) -> (CachePartHandle, ())
-    requires table { h.table ≡ N.table }
-    requires one { IsOne N }
-    ensures table { result.0.table ≡ h.table }
-    ensures clears { ClearsCachePart h.held result.0.held }
-{
-    let mut it = h.into_parts::<N>().into_box();
-    it.clear();
-    (CachePartHandle::of_parts(BoxParts::of(it)), ())
-}
+#[derive(Drop)]
+struct Clear;
 
-fn clear_at(h: CachePartHandle) -> (CachePartHandle, ())
-    ensures table { result.0.table ≡ h.table }
-    ensures clears { ClearsCachePart h.held result.0.held }
-{
-    clear_named::<Brand>(h)
+impl CachePartCall for Clear {
+    type Told = ();
+
+    ghost tells = { λ call table before after told. ClearsCachePart before after };
+
+    fn make<N: Name>(self, it: &mut BytePart<N>) {
+        it.clear();
+    }
 }
 
 /// Ends each item.
@@ -347,9 +269,5 @@ pub extern "C" fn bump_cache_clear(part: &mut CachePartHandle)
     ensures table { part.new.table ≡ part.old.table }
     ensures clears { ClearsCachePart part.old.held part.new.held }
 {
-    core::mem::replace_with(
-        part,
-        (),
-        |h: CachePartHandle, _x: ()| -> (CachePartHandle, ()) { clear_at(h) },
-    )
+    part.call(Clear)
 }

@@ -9,27 +9,25 @@ ghost use Rattle.bump_c.specs.CacheTells.{TellsCacheEntry, TellsCacheLook, found
 use crate::cache_answers::{
     CacheEntry, CacheLooked, CacheStats, CacheWords, entry_told, looked_told, stats_told,
 };
-use crate::cache_part_handle::CachePartHandle;
-use box_parts::BoxParts;
+use crate::cache_part_handle::{CachePartCall, CachePartHandle};
 use bump_heads::Name;
+use cache_handles::BytePart;
 use std::marker::Brand;
 
-fn find_named<N: Name>(h: CachePartHandle, key: &[u8], now: u64) -> (CachePartHandle, CacheLooked)
-    requires table { h.table ≡ N.table }
-    requires one { IsOne N }
-    ensures table { result.0.table ≡ h.table }
-    ensures looks { TellsCacheLook key.now now h.held result.0.held result.1 }
-{
-    let mut it = h.into_parts::<N>().into_box();
-    let said = looked_told(it.look(key, now));
-    (CachePartHandle::of_parts(BoxParts::of(it)), said)
+#[derive(Drop)]
+struct Find<'a> {
+    key: &'a [u8],
+    now: u64,
 }
 
-fn find_at(h: CachePartHandle, key: &[u8], now: u64) -> (CachePartHandle, CacheLooked)
-    ensures table { result.0.table ≡ h.table }
-    ensures looks { TellsCacheLook key.now now h.held result.0.held result.1 }
-{
-    find_named::<Brand>(h, key, now)
+impl<'a> CachePartCall for Find<'a> {
+    type Told = CacheLooked;
+
+    ghost tells = { λ call table before after told. TellsCacheLook call.key.now call.now before after told };
+
+    fn make<N: Name>(self, it: &mut BytePart<N>) -> CacheLooked {
+        looked_told(it.look(self.key, self.now))
+    }
 }
 
 /// What a key has that hasn't expired: its flags, its length, and when it expires. The item isn't hit, and it isn't
@@ -39,36 +37,24 @@ pub extern "C" fn bump_cache_find(part: &mut CachePartHandle, key: &[u8], now: u
     ensures table { part.new.table ≡ part.old.table }
     ensures looks { TellsCacheLook key.now now part.old.held part.new.held result }
 {
-    core::mem::replace_with(
-        part,
-        (key, now),
-        |h: CachePartHandle, x: (&[u8], u64)| -> (CachePartHandle, CacheLooked) {
-            find_at(h, x.0, x.1)
-        },
-    )
+    part.call(Find { key, now })
 }
 
-fn found_words_named<N: Name>(h: CachePartHandle, from: u32) -> (CachePartHandle, CacheWords)
-    requires table { h.table ≡ N.table }
-    requires one { IsOne N }
-    ensures table { result.0.table ≡ h.table }
-    ensures held { result.0.held ≡ h.held }
-    ensures words { result.1.words ≡ found_words_of h.held from }
-{
-    let it = h.into_parts::<N>().into_box();
-    let words = it.found(from);
-    (
-        CachePartHandle::of_parts(BoxParts::of(it)),
-        CacheWords { words },
-    )
+#[derive(Drop)]
+struct FoundWords {
+    from: u32,
 }
 
-fn found_words_at(h: CachePartHandle, from: u32) -> (CachePartHandle, CacheWords)
-    ensures table { result.0.table ≡ h.table }
-    ensures held { result.0.held ≡ h.held }
-    ensures words { result.1.words ≡ found_words_of h.held from }
-{
-    found_words_named::<Brand>(h, from)
+impl CachePartCall for FoundWords {
+    type Told = CacheWords;
+
+    ghost tells = { λ call table before after told. (after ≡ before) × (told.words ≡ found_words_of before call.from) };
+
+    fn make<N: Name>(self, it: &mut BytePart<N>) -> CacheWords {
+        CacheWords {
+            words: it.found(self.from),
+        }
+    }
 }
 
 /// Eight words of the bytes of what the last look found, from one on: eight bytes a word, the lowest first. They are
@@ -79,31 +65,20 @@ pub extern "C" fn bump_cache_found_words(part: &mut CachePartHandle, from: u32) 
     ensures held { part.new.held ≡ part.old.held }
     ensures words { result.words ≡ found_words_of part.old.held from }
 {
-    core::mem::replace_with(
-        part,
-        (from,),
-        |h: CachePartHandle, x: (u32,)| -> (CachePartHandle, CacheWords) { found_words_at(h, x.0) },
-    )
+    part.call(FoundWords { from })
 }
 
-fn chunks_named<N: Name>(h: CachePartHandle) -> (CachePartHandle, u32)
-    requires table { h.table ≡ N.table }
-    requires one { IsOne N }
-    ensures table { result.0.table ≡ h.table }
-    ensures held { result.0.held ≡ h.held }
-    ensures chunks { result.1 ≡ h.held.shelf.part.book.part.count }
-{
-    let it = h.into_parts::<N>().into_box();
-    let said = it.chunks();
-    (CachePartHandle::of_parts(BoxParts::of(it)), said)
-}
+#[derive(Drop)]
+struct Chunks;
 
-fn chunks_at(h: CachePartHandle) -> (CachePartHandle, u32)
-    ensures table { result.0.table ≡ h.table }
-    ensures held { result.0.held ≡ h.held }
-    ensures chunks { result.1 ≡ h.held.shelf.part.book.part.count }
-{
-    chunks_named::<Brand>(h)
+impl CachePartCall for Chunks {
+    type Told = u32;
+
+    ghost tells = { λ call table before after told. (after ≡ before) × (told ≡ before.shelf.part.book.part.count) };
+
+    fn make<N: Name>(self, it: &mut BytePart<N>) -> u32 {
+        it.chunks()
+    }
 }
 
 /// How many chunks the part has.
@@ -113,29 +88,23 @@ pub extern "C" fn bump_cache_chunks(part: &mut CachePartHandle) -> u32
     ensures held { part.new.held ≡ part.old.held }
     ensures chunks { result ≡ part.old.held.shelf.part.book.part.count }
 {
-    core::mem::replace_with(
-        part,
-        (),
-        |h: CachePartHandle, _x: ()| -> (CachePartHandle, u32) { chunks_at(h) },
-    )
+    part.call(Chunks)
 }
 
-fn entry_named<N: Name>(h: CachePartHandle, number: u32, now: u64) -> (CachePartHandle, CacheEntry)
-    requires table { h.table ≡ N.table }
-    requires one { IsOne N }
-    ensures table { result.0.table ≡ h.table }
-    ensures visits { TellsCacheEntry number now h.held result.0.held result.1 }
-{
-    let mut it = h.into_parts::<N>().into_box();
-    let said = entry_told(it.entry(number, now));
-    (CachePartHandle::of_parts(BoxParts::of(it)), said)
+#[derive(Drop)]
+struct Entry {
+    number: u32,
+    now: u64,
 }
 
-fn entry_at(h: CachePartHandle, number: u32, now: u64) -> (CachePartHandle, CacheEntry)
-    ensures table { result.0.table ≡ h.table }
-    ensures visits { TellsCacheEntry number now h.held result.0.held result.1 }
-{
-    entry_named::<Brand>(h, number, now)
+impl CachePartCall for Entry {
+    type Told = CacheEntry;
+
+    ghost tells = { λ call table before after told. TellsCacheEntry call.number call.now before after told };
+
+    fn make<N: Name>(self, it: &mut BytePart<N>) -> CacheEntry {
+        entry_told(it.entry(self.number, self.now))
+    }
 }
 
 /// The item of the part's chunk with this number, where it has one that hasn't expired. It isn't hit. The bytes of
@@ -145,36 +114,25 @@ pub extern "C" fn bump_cache_entry(part: &mut CachePartHandle, number: u32, now:
     ensures table { part.new.table ≡ part.old.table }
     ensures visits { TellsCacheEntry number now part.old.held part.new.held result }
 {
-    core::mem::replace_with(
-        part,
-        (number, now),
-        |h: CachePartHandle, x: (u32, u64)| -> (CachePartHandle, CacheEntry) {
-            entry_at(h, x.0, x.1)
-        },
-    )
+    part.call(Entry { number, now })
 }
 
-fn entry_key_named<N: Name>(h: CachePartHandle, from: u32) -> (CachePartHandle, CacheWords)
-    requires table { h.table ≡ N.table }
-    requires one { IsOne N }
-    ensures table { result.0.table ≡ h.table }
-    ensures held { result.0.held ≡ h.held }
-    ensures words { result.1.words ≡ entry_key_words h.held from }
-{
-    let it = h.into_parts::<N>().into_box();
-    let words = it.entry_key(from);
-    (
-        CachePartHandle::of_parts(BoxParts::of(it)),
-        CacheWords { words },
-    )
+#[derive(Drop)]
+struct EntryKey {
+    from: u32,
 }
 
-fn entry_key_at(h: CachePartHandle, from: u32) -> (CachePartHandle, CacheWords)
-    ensures table { result.0.table ≡ h.table }
-    ensures held { result.0.held ≡ h.held }
-    ensures words { result.1.words ≡ entry_key_words h.held from }
-{
-    entry_key_named::<Brand>(h, from)
+impl CachePartCall for EntryKey {
+    type Told = CacheWords;
+
+    ghost tells = { λ call table before after told.
+        (after ≡ before) × (told.words ≡ entry_key_words before call.from) };
+
+    fn make<N: Name>(self, it: &mut BytePart<N>) -> CacheWords {
+        CacheWords {
+            words: it.entry_key(self.from),
+        }
+    }
 }
 
 /// Eight words of the bytes of the key of what was visited last, from one on: eight bytes a word, the lowest first.
@@ -185,34 +143,25 @@ pub extern "C" fn bump_cache_entry_key(part: &mut CachePartHandle, from: u32) ->
     ensures held { part.new.held ≡ part.old.held }
     ensures words { result.words ≡ entry_key_words part.old.held from }
 {
-    core::mem::replace_with(
-        part,
-        (from,),
-        |h: CachePartHandle, x: (u32,)| -> (CachePartHandle, CacheWords) { entry_key_at(h, x.0) },
-    )
+    part.call(EntryKey { from })
 }
 
-fn entry_value_named<N: Name>(h: CachePartHandle, from: u32) -> (CachePartHandle, CacheWords)
-    requires table { h.table ≡ N.table }
-    requires one { IsOne N }
-    ensures table { result.0.table ≡ h.table }
-    ensures held { result.0.held ≡ h.held }
-    ensures words { result.1.words ≡ entry_value_words h.held from }
-{
-    let it = h.into_parts::<N>().into_box();
-    let words = it.entry_value(from);
-    (
-        CachePartHandle::of_parts(BoxParts::of(it)),
-        CacheWords { words },
-    )
+#[derive(Drop)]
+struct EntryValue {
+    from: u32,
 }
 
-fn entry_value_at(h: CachePartHandle, from: u32) -> (CachePartHandle, CacheWords)
-    ensures table { result.0.table ≡ h.table }
-    ensures held { result.0.held ≡ h.held }
-    ensures words { result.1.words ≡ entry_value_words h.held from }
-{
-    entry_value_named::<Brand>(h, from)
+impl CachePartCall for EntryValue {
+    type Told = CacheWords;
+
+    ghost tells = { λ call table before after told.
+        (after ≡ before) × (told.words ≡ entry_value_words before call.from) };
+
+    fn make<N: Name>(self, it: &mut BytePart<N>) -> CacheWords {
+        CacheWords {
+            words: it.entry_value(self.from),
+        }
+    }
 }
 
 /// The same of the bytes of its value.
@@ -222,31 +171,21 @@ pub extern "C" fn bump_cache_entry_value(part: &mut CachePartHandle, from: u32) 
     ensures held { part.new.held ≡ part.old.held }
     ensures words { result.words ≡ entry_value_words part.old.held from }
 {
-    core::mem::replace_with(
-        part,
-        (from,),
-        |h: CachePartHandle, x: (u32,)| -> (CachePartHandle, CacheWords) { entry_value_at(h, x.0) },
-    )
+    part.call(EntryValue { from })
 }
 
-fn stats_named<N: Name>(h: CachePartHandle) -> (CachePartHandle, CacheStats)
-    requires table { h.table ≡ N.table }
-    requires one { IsOne N }
-    ensures table { result.0.table ≡ h.table }
-    ensures held { result.0.held ≡ h.held }
-    ensures stats { result.1 ≡ told_of_stats (stats_of h.held.shelf.part) }
-{
-    let it = h.into_parts::<N>().into_box();
-    let said = stats_told(it.stats());
-    (CachePartHandle::of_parts(BoxParts::of(it)), said)
-}
+#[derive(Drop)]
+struct PartStats;
 
-fn stats_at(h: CachePartHandle) -> (CachePartHandle, CacheStats)
-    ensures table { result.0.table ≡ h.table }
-    ensures held { result.0.held ≡ h.held }
-    ensures stats { result.1 ≡ told_of_stats (stats_of h.held.shelf.part) }
-{
-    stats_named::<Brand>(h)
+impl CachePartCall for PartStats {
+    type Told = CacheStats;
+
+    ghost tells = { λ call table before after told.
+        (after ≡ before) × (told ≡ told_of_stats (stats_of before.shelf.part)) };
+
+    fn make<N: Name>(self, it: &mut BytePart<N>) -> CacheStats {
+        stats_told(it.stats())
+    }
 }
 
 /// The part's statistics: sizes are of now, and all else is counted since the cache was opened.
@@ -256,11 +195,7 @@ pub extern "C" fn bump_cache_stats(part: &mut CachePartHandle) -> CacheStats
     ensures held { part.new.held ≡ part.old.held }
     ensures stats { result ≡ told_of_stats (stats_of part.old.held.shelf.part) }
 {
-    core::mem::replace_with(
-        part,
-        (),
-        |h: CachePartHandle, _x: ()| -> (CachePartHandle, CacheStats) { stats_at(h) },
-    )
+    part.call(PartStats)
 }
 
 fn part_free_named<N: Name>(h: CachePartHandle)

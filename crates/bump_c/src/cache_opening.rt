@@ -12,13 +12,13 @@ ghost use Rattle.bump_c.specs.CacheOpening.{places_of, ticks_of};
 
 use crate::answers::given;
 use crate::cache_answers::byte_fault_number;
-use crate::cache_handle::{CacheHandle, CacheSlot};
+use crate::cache_handle::{CacheCall, CacheHandle, CacheSlot};
 use crate::cache_part_handle::CachePartSlot;
 use crate::cache_reader_handle::CacheReaderSlot;
 use box_parts::BoxParts;
 use bump_heads::{Blank, Name};
 use bump_rules::Config;
-use cache_handles::{ByteConfig, CacheConfig, Seed, open};
+use cache_handles::{ByteConfig, CacheConfig, OpenedCache, Seed, open};
 use std::alloc::{AllocError, Global};
 use std::marker::Brand;
 
@@ -253,33 +253,23 @@ pub extern "C" fn bump_cache_part_of(numbers: &CacheNumbers, key: &[u8]) -> u32
     config.part_of(key).unwrap_or(u32::MAX)
 }
 
-fn take_part_named<N: Name>(h: CacheHandle, number: u32) -> (CacheHandle, Option<CachePartSlot>)
-    requires table { h.table ≡ N.table }
-    requires one { IsOne N }
-    ensures table { result.0.table ≡ h.table }
-    ensures taken { IfSome result.1 (λ slot. HasTaken TheBytePartView number h.table h.held.parts result.0.held.parts
-        slot.slot) }
-    ensures none { IfNone result.1 (TakesPart TheBytePartView number h.held.parts result.0.held.parts None) }
-    ensures kept { result.0.held ≡ record h.held { parts = result.0.held.parts } }
-{
-    let mut it = h.into_parts::<N>().into_box();
-    match it.part(number) {
-        Some(taken) => (
-            CacheHandle::of_parts(BoxParts::of(it)),
-            Some(CachePartSlot::of_parts(BoxParts::of(taken))),
-        ),
-        None => (CacheHandle::of_parts(BoxParts::of(it)), None),
-    }
+#[derive(Drop)]
+struct TakePart {
+    number: u32,
 }
 
-fn take_part_at(h: CacheHandle, number: u32) -> (CacheHandle, Option<CachePartSlot>)
-    ensures table { result.0.table ≡ h.table }
-    ensures taken { IfSome result.1 (λ slot. HasTaken TheBytePartView number h.table h.held.parts result.0.held.parts
-        slot.slot) }
-    ensures none { IfNone result.1 (TakesPart TheBytePartView number h.held.parts result.0.held.parts None) }
-    ensures kept { result.0.held ≡ record h.held { parts = result.0.held.parts } }
-{
-    take_part_named::<Brand>(h, number)
+impl CacheCall for TakePart {
+    type Told = Option<CachePartSlot>;
+
+    ghost tells = { λ call table before after told.
+        IfSome told (λ slot. HasTaken TheBytePartView call.number table before.parts after.parts slot.slot)
+        × IfNone told (TakesPart TheBytePartView call.number before.parts after.parts None)
+        × (after ≡ record before { parts = after.parts }) };
+
+    fn make<N: Name>(self, it: &mut OpenedCache<N>) -> Option<CachePartSlot> {
+        let taken = it.part(self.number)?;
+        Some(CachePartSlot::of_parts(BoxParts::of(taken)))
+    }
 }
 
 /// Takes the part with this number out of the cache, and fills an empty slot with it. `false`: there is none, or it
@@ -297,14 +287,7 @@ pub extern "C" fn bump_cache_take_part(
     ensures kept { cache.new.held ≡ record cache.old.held { parts = cache.new.held.parts } }
     ensures unchanged { result ≡ false → part.new ≡ part.old }
 {
-    let taken = core::mem::replace_with(
-        cache,
-        (number,),
-        |h: CacheHandle, x: (u32,)| -> (CacheHandle, Option<CachePartSlot>) {
-            take_part_at(h, x.0)
-        },
-    );
-    match taken {
+    match cache.call(TakePart { number }) {
         Some(slot) => {
             *part = slot;
             true
@@ -313,33 +296,23 @@ pub extern "C" fn bump_cache_take_part(
     }
 }
 
-fn take_reader_named<N: Name>(h: CacheHandle, number: u32) -> (CacheHandle, Option<CacheReaderSlot>)
-    requires table { h.table ≡ N.table }
-    requires one { IsOne N }
-    ensures table { result.0.table ≡ h.table }
-    ensures taken { IfSome result.1 (λ slot. HasTaken TheByteReaderView number h.table h.held.readers
-        result.0.held.readers slot.slot) }
-    ensures none { IfNone result.1 (TakesPart TheByteReaderView number h.held.readers result.0.held.readers None) }
-    ensures kept { result.0.held ≡ record h.held { readers = result.0.held.readers } }
-{
-    let mut it = h.into_parts::<N>().into_box();
-    match it.reader(number) {
-        Some(taken) => (
-            CacheHandle::of_parts(BoxParts::of(it)),
-            Some(CacheReaderSlot::of_parts(BoxParts::of(taken))),
-        ),
-        None => (CacheHandle::of_parts(BoxParts::of(it)), None),
-    }
+#[derive(Drop)]
+struct TakeReader {
+    number: u32,
 }
 
-fn take_reader_at(h: CacheHandle, number: u32) -> (CacheHandle, Option<CacheReaderSlot>)
-    ensures table { result.0.table ≡ h.table }
-    ensures taken { IfSome result.1 (λ slot. HasTaken TheByteReaderView number h.table h.held.readers
-        result.0.held.readers slot.slot) }
-    ensures none { IfNone result.1 (TakesPart TheByteReaderView number h.held.readers result.0.held.readers None) }
-    ensures kept { result.0.held ≡ record h.held { readers = result.0.held.readers } }
-{
-    take_reader_named::<Brand>(h, number)
+impl CacheCall for TakeReader {
+    type Told = Option<CacheReaderSlot>;
+
+    ghost tells = { λ call table before after told.
+        IfSome told (λ slot. HasTaken TheByteReaderView call.number table before.readers after.readers slot.slot)
+        × IfNone told (TakesPart TheByteReaderView call.number before.readers after.readers None)
+        × (after ≡ record before { readers = after.readers }) };
+
+    fn make<N: Name>(self, it: &mut OpenedCache<N>) -> Option<CacheReaderSlot> {
+        let taken = it.reader(self.number)?;
+        Some(CacheReaderSlot::of_parts(BoxParts::of(taken)))
+    }
 }
 
 /// Takes the reader with this number out of the cache, and fills an empty slot with it. `false`: there is none, or it
@@ -358,14 +331,7 @@ pub extern "C" fn bump_cache_take_reader(
     ensures kept { cache.new.held ≡ record cache.old.held { readers = cache.new.held.readers } }
     ensures unchanged { result ≡ false → part.new ≡ part.old }
 {
-    let taken = core::mem::replace_with(
-        cache,
-        (number,),
-        |h: CacheHandle, x: (u32,)| -> (CacheHandle, Option<CacheReaderSlot>) {
-            take_reader_at(h, x.0)
-        },
-    );
-    match taken {
+    match cache.call(TakeReader { number }) {
         Some(slot) => {
             *part = slot;
             true

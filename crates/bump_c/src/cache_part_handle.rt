@@ -1,4 +1,4 @@
-//! The handle by which C has a part of any cache, and the slot that it lies in.
+//! The handle by which C has a part of a cache, and the slot that it lies in.
 ghost use Rattle.std.specs.Prelude.{◌≡◌, List, [], ◌∷◌};
 ghost use Rattle.atomic_table.specs.Seated.{TableId, table_id_coded};
 ghost use Rattle.cache_handles.specs.Views.{BytePartView};
@@ -9,9 +9,20 @@ use box_parts::BoxParts;
 use bump_heads::Name;
 use cache_handles::BytePart;
 use std::alloc::Global;
-use std::marker::Model;
+use std::marker::{Brand, Model};
 
-/// A part of the cache whose table this is.
+/// A call of a part of a cache from C, and what it comes to, whatever stands for the name of the table.
+pub(crate) trait CachePartCall: Drop {
+    type Told;
+
+    ghost tells: { Self → TableId → BytePartView → BytePartView → Self.Told → Type 0 };
+
+    fn make<N: Name>(self, it: &mut BytePart<N>) -> Self::Told
+        requires one { IsOne N }
+        ensures tells { tells self N.table it.old it.new result };
+}
+
+/// A part of a cache and its table.
 #[repr(C)]
 pub struct CachePartHandle {
     ptr: *mut (),
@@ -48,9 +59,39 @@ impl CachePartHandle {
             alloc,
         }
     }
+
+    fn call_named<N: Name, C: CachePartCall>(self, call: C) -> (CachePartHandle, C::Told)
+        requires table { self.table ≡ N.table }
+        requires one { IsOne N }
+        ensures table { result.0.table ≡ self.table }
+        ensures tells { C.tells call self.table self.held result.0.held result.1 }
+    {
+        let mut it = self.into_parts::<N>().into_box();
+        let told = call.make(&mut it);
+        (CachePartHandle::of_parts(BoxParts::of(it)), told)
+    }
+
+    // A function of its own, since a closure can't pick the name that `Brand` stands for.
+    pub(crate) fn call_at<C: CachePartCall>(self, call: C) -> (CachePartHandle, C::Told)
+        ensures table { result.0.table ≡ self.table }
+        ensures tells { C.tells call self.table self.held result.0.held result.1 }
+    {
+        self.call_named::<Brand, C>(call)
+    }
+
+    pub(crate) fn call<C: CachePartCall>(&mut self, call: C) -> C::Told
+        ensures table { self.new.table ≡ self.old.table }
+        ensures tells { C.tells call self.old.table self.old.held self.new.held result }
+    {
+        core::mem::replace_with(
+            self,
+            call,
+            |it: CachePartHandle, call: C| -> (CachePartHandle, C::Told) { it.call_at(call) },
+        )
+    }
 }
 
-/// What C passes to be filled: with nothing, or a part and its cache's table.
+/// What C passes to be filled: with nothing, or a part of a cache and its table.
 #[repr(C)]
 #[derive(Drop)]
 pub struct CachePartSlot {

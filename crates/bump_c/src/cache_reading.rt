@@ -6,31 +6,25 @@ ghost use Rattle.bump_c.specs.CacheNumbers.{counts_of_reader};
 ghost use Rattle.bump_c.specs.CacheTells.{TellsCacheGet, TellsCacheHold};
 
 use crate::cache_answers::{CacheCounts, CacheGot, CacheHeld, CacheWords, got_told, held_told};
-use crate::cache_reader_handle::CacheReaderHandle;
-use box_parts::BoxParts;
+use crate::cache_reader_handle::{CacheReaderCall, CacheReaderHandle};
 use bump_heads::Name;
+use cache_handles::ByteReader;
 use std::marker::Brand;
 
-fn get_words_named<N: Name>(
-    h: CacheReaderHandle,
-    key: &[u8],
+#[derive(Drop)]
+struct GetWords<'a> {
+    key: &'a [u8],
     now: u64,
-) -> (CacheReaderHandle, CacheGot)
-    requires table { h.table ≡ N.table }
-    requires one { IsOne N }
-    ensures table { result.0.table ≡ h.table }
-    ensures gets { TellsCacheGet key.now now h.held result.0.held result.1 }
-{
-    let mut it = h.into_parts::<N>().into_box();
-    let said = got_told(it.get(key, now));
-    (CacheReaderHandle::of_parts(BoxParts::of(it)), said)
 }
 
-fn get_words_at(h: CacheReaderHandle, key: &[u8], now: u64) -> (CacheReaderHandle, CacheGot)
-    ensures table { result.0.table ≡ h.table }
-    ensures gets { TellsCacheGet key.now now h.held result.0.held result.1 }
-{
-    get_words_named::<Brand>(h, key, now)
+impl<'a> CacheReaderCall for GetWords<'a> {
+    type Told = CacheGot;
+
+    ghost tells = { λ call table before after told. TellsCacheGet call.key.now call.now before after told };
+
+    fn make<N: Name>(self, it: &mut ByteReader<N>) -> CacheGot {
+        got_told(it.get(self.key, self.now))
+    }
 }
 
 /// Reads what a key has: its flags, its length, and the first 64 of its bytes. The item is hit, and it counts as a
@@ -44,36 +38,24 @@ pub extern "C" fn bump_cache_get_words(
     ensures table { reader.new.table ≡ reader.old.table }
     ensures gets { TellsCacheGet key.now now reader.old.held reader.new.held result }
 {
-    core::mem::replace_with(
-        reader,
-        (key, now),
-        |h: CacheReaderHandle, x: (&[u8], u64)| -> (CacheReaderHandle, CacheGot) {
-            get_words_at(h, x.0, x.1)
-        },
-    )
+    reader.call(GetWords { key, now })
 }
 
-fn hold_named<N: Name>(
-    h: CacheReaderHandle,
+#[derive(Drop)]
+struct Hold<'a> {
     hold: u32,
-    key: &[u8],
+    key: &'a [u8],
     now: u64,
-) -> (CacheReaderHandle, CacheHeld)
-    requires table { h.table ≡ N.table }
-    requires one { IsOne N }
-    ensures table { result.0.table ≡ h.table }
-    ensures holds { TellsCacheHold hold key.now now h.held result.0.held result.1 }
-{
-    let mut it = h.into_parts::<N>().into_box();
-    let said = held_told(it.hold(hold, key, now));
-    (CacheReaderHandle::of_parts(BoxParts::of(it)), said)
 }
 
-fn hold_at(h: CacheReaderHandle, hold: u32, key: &[u8], now: u64) -> (CacheReaderHandle, CacheHeld)
-    ensures table { result.0.table ≡ h.table }
-    ensures holds { TellsCacheHold hold key.now now h.held result.0.held result.1 }
-{
-    hold_named::<Brand>(h, hold, key, now)
+impl<'a> CacheReaderCall for Hold<'a> {
+    type Told = CacheHeld;
+
+    ghost tells = { λ call table before after told. TellsCacheHold call.hold call.key.now call.now before after told };
+
+    fn make<N: Name>(self, it: &mut ByteReader<N>) -> CacheHeld {
+        held_told(it.hold(self.hold, self.key, self.now))
+    }
 }
 
 /// Takes a hold of what a key has, by the reader's hold of that number, as a get does. While it is held its value
@@ -88,38 +70,25 @@ pub extern "C" fn bump_cache_hold(
     ensures table { reader.new.table ≡ reader.old.table }
     ensures holds { TellsCacheHold hold key.now now reader.old.held reader.new.held result }
 {
-    core::mem::replace_with(
-        reader,
-        (hold, key, now),
-        |h: CacheReaderHandle, x: (u32, &[u8], u64)| -> (CacheReaderHandle, CacheHeld) {
-            hold_at(h, x.0, x.1, x.2)
-        },
-    )
+    reader.call(Hold { hold, key, now })
 }
 
-fn read_words_named<N: Name>(
-    h: CacheReaderHandle,
+#[derive(Drop)]
+struct ReadWords {
     hold: u32,
     from: u32,
-) -> (CacheReaderHandle, CacheWords)
-    requires table { h.table ≡ N.table }
-    requires one { IsOne N }
-    ensures table { result.0.table ≡ h.table }
-    ensures reads { TellsRead hold from h.held result.0.held result.1.words }
-{
-    let mut it = h.into_parts::<N>().into_box();
-    let words = it.read(hold, from);
-    (
-        CacheReaderHandle::of_parts(BoxParts::of(it)),
-        CacheWords { words },
-    )
 }
 
-fn read_words_at(h: CacheReaderHandle, hold: u32, from: u32) -> (CacheReaderHandle, CacheWords)
-    ensures table { result.0.table ≡ h.table }
-    ensures reads { TellsRead hold from h.held result.0.held result.1.words }
-{
-    read_words_named::<Brand>(h, hold, from)
+impl CacheReaderCall for ReadWords {
+    type Told = CacheWords;
+
+    ghost tells = { λ call table before after told. TellsRead call.hold call.from before after told.words };
+
+    fn make<N: Name>(self, it: &mut ByteReader<N>) -> CacheWords {
+        CacheWords {
+            words: it.read(self.hold, self.from),
+        }
+    }
 }
 
 /// Eight words of the bytes of the value that is held, from one on: eight bytes a word, the lowest first. All are 0
@@ -133,31 +102,22 @@ pub extern "C" fn bump_cache_read_words(
     ensures table { reader.new.table ≡ reader.old.table }
     ensures reads { TellsRead hold from reader.old.held reader.new.held result.words }
 {
-    core::mem::replace_with(
-        reader,
-        (hold, from),
-        |h: CacheReaderHandle, x: (u32, u32)| -> (CacheReaderHandle, CacheWords) {
-            read_words_at(h, x.0, x.1)
-        },
-    )
+    reader.call(ReadWords { hold, from })
 }
 
-fn release_named<N: Name>(h: CacheReaderHandle, hold: u32) -> (CacheReaderHandle, bool)
-    requires table { h.table ≡ N.table }
-    requires one { IsOne N }
-    ensures table { result.0.table ≡ h.table }
-    ensures releases { TellsRelease hold h.held result.0.held result.1 }
-{
-    let mut it = h.into_parts::<N>().into_box();
-    let said = it.release(hold);
-    (CacheReaderHandle::of_parts(BoxParts::of(it)), said)
+#[derive(Drop)]
+struct Release {
+    hold: u32,
 }
 
-fn release_at(h: CacheReaderHandle, hold: u32) -> (CacheReaderHandle, bool)
-    ensures table { result.0.table ≡ h.table }
-    ensures releases { TellsRelease hold h.held result.0.held result.1 }
-{
-    release_named::<Brand>(h, hold)
+impl CacheReaderCall for Release {
+    type Told = bool;
+
+    ghost tells = { λ call table before after told. TellsRelease call.hold before after told };
+
+    fn make<N: Name>(self, it: &mut ByteReader<N>) -> bool {
+        it.release(self.hold)
+    }
 }
 
 /// Gives back what the hold holds, and tells whether there was something.
@@ -166,35 +126,24 @@ pub extern "C" fn bump_cache_release(reader: &mut CacheReaderHandle, hold: u32) 
     ensures table { reader.new.table ≡ reader.old.table }
     ensures releases { TellsRelease hold reader.old.held reader.new.held result }
 {
-    core::mem::replace_with(
-        reader,
-        (hold,),
-        |h: CacheReaderHandle, x: (u32,)| -> (CacheReaderHandle, bool) { release_at(h, x.0) },
-    )
+    reader.call(Release { hold })
 }
 
-fn reader_counts_named<N: Name>(h: CacheReaderHandle) -> (CacheReaderHandle, CacheCounts)
-    requires table { h.table ≡ N.table }
-    requires one { IsOne N }
-    ensures table { result.0.table ≡ h.table }
-    ensures held { result.0.held ≡ h.held }
-    ensures counts { result.1 ≡ counts_of_reader h.held }
-{
-    let it = h.into_parts::<N>().into_box();
-    let said = CacheCounts {
-        hits: it.hits(),
-        misses: it.misses(),
-        dropped: it.bumps_dropped(),
-    };
-    (CacheReaderHandle::of_parts(BoxParts::of(it)), said)
-}
+#[derive(Drop)]
+struct ReaderCounts;
 
-fn reader_counts_at(h: CacheReaderHandle) -> (CacheReaderHandle, CacheCounts)
-    ensures table { result.0.table ≡ h.table }
-    ensures held { result.0.held ≡ h.held }
-    ensures counts { result.1 ≡ counts_of_reader h.held }
-{
-    reader_counts_named::<Brand>(h)
+impl CacheReaderCall for ReaderCounts {
+    type Told = CacheCounts;
+
+    ghost tells = { λ call table before after told. (after ≡ before) × (told ≡ counts_of_reader before) };
+
+    fn make<N: Name>(self, it: &mut ByteReader<N>) -> CacheCounts {
+        CacheCounts {
+            hits: it.hits(),
+            misses: it.misses(),
+            dropped: it.bumps_dropped(),
+        }
+    }
 }
 
 /// The reader's counts.
@@ -204,11 +153,7 @@ pub extern "C" fn bump_cache_reader_counts(reader: &mut CacheReaderHandle) -> Ca
     ensures held { reader.new.held ≡ reader.old.held }
     ensures counts { result ≡ counts_of_reader reader.old.held }
 {
-    core::mem::replace_with(
-        reader,
-        (),
-        |h: CacheReaderHandle, _x: ()| -> (CacheReaderHandle, CacheCounts) { reader_counts_at(h) },
-    )
+    reader.call(ReaderCounts)
 }
 
 fn reader_free_named<N: Name>(h: CacheReaderHandle)

@@ -8,10 +8,11 @@ ghost use Rattle.bump_c.specs.Tells.{IsClosedBy, TellsLaneClass, TellsRest, Tell
 use crate::answers::{
     Ran, RanTold, RestTold, freeing_run_told, not_closed_number, rest_told, run_told,
 };
-use crate::book_handle::BookHandle;
-use crate::lane_handle::LaneHandle;
-use crate::worker_handle::{WorkerHandle, WorkerSlot};
+use crate::book_handle::{BookCall, BookHandle};
+use crate::lane_handle::{LaneCall, LaneHandle};
+use crate::worker_handle::{WorkerCall, WorkerHandle, WorkerSlot};
 use box_parts::{BoxParts, replace_both};
+use bump_handles::{Drainer, Reader, TaggedBook};
 use bump_readers::Name;
 use std::marker::Brand;
 
@@ -27,22 +28,17 @@ const OTHER_STORE_TOLD: RanTold = RanTold {
     chunks: [0; 32],
 };
 
-fn lane_class_named<N: Name>(h: LaneHandle) -> (LaneHandle, u32)
-    requires table { h.table ≡ N.table }
-    requires one { IsOne N }
-    ensures table { result.0.table ≡ h.table }
-    ensures class { TellsLaneClass h.held result.0.held result.1 }
-{
-    let mut it = h.into_parts::<N>().into_box();
-    let said = it.next_class().unwrap_or(u32::MAX);
-    (LaneHandle::of_parts(BoxParts::of(it)), said)
-}
+#[derive(Drop)]
+struct LaneClass;
 
-fn lane_class_at(h: LaneHandle) -> (LaneHandle, u32)
-    ensures table { result.0.table ≡ h.table }
-    ensures class { TellsLaneClass h.held result.0.held result.1 }
-{
-    lane_class_named::<Brand>(h)
+impl LaneCall for LaneClass {
+    type Told = u32;
+
+    ghost tells = { λ call table before after told. TellsLaneClass before after told };
+
+    fn make<N: Name>(self, it: &mut Drainer<N>) -> u32 {
+        it.next_class().unwrap_or(u32::MAX)
+    }
 }
 
 /// The class of the lane's next bump, or the greatest number where none is known.
@@ -51,27 +47,20 @@ pub extern "C" fn bump_lane_class(lane: &mut LaneHandle) -> u32
     ensures table { lane.new.table ≡ lane.old.table }
     ensures class { TellsLaneClass lane.old.held lane.new.held result }
 {
-    core::mem::replace_with(lane, (), |h: LaneHandle, _x: ()| -> (LaneHandle, u32) {
-        lane_class_at(h)
-    })
+    lane.call(LaneClass)
 }
 
-fn rest_named<N: Name>(h: LaneHandle) -> (LaneHandle, RestTold)
-    requires table { h.table ≡ N.table }
-    requires one { IsOne N }
-    ensures table { result.0.table ≡ h.table }
-    ensures rests { TellsRest h.held result.0.held result.1 }
-{
-    let mut it = h.into_parts::<N>().into_box();
-    let said = rest_told(it.rest());
-    (LaneHandle::of_parts(BoxParts::of(it)), said)
-}
+#[derive(Drop)]
+struct Rest;
 
-fn rest_at(h: LaneHandle) -> (LaneHandle, RestTold)
-    ensures table { result.0.table ≡ h.table }
-    ensures rests { TellsRest h.held result.0.held result.1 }
-{
-    rest_named::<Brand>(h)
+impl LaneCall for Rest {
+    type Told = RestTold;
+
+    ghost tells = { λ call table before after told. TellsRest before after told };
+
+    fn make<N: Name>(self, it: &mut Drainer<N>) -> RestTold {
+        rest_told(it.rest())
+    }
 }
 
 /// What is left of the bumps of a worker.
@@ -80,74 +69,41 @@ pub extern "C" fn bump_rest(lane: &mut LaneHandle) -> RestTold
     ensures table { lane.new.table ≡ lane.old.table }
     ensures rests { TellsRest lane.old.held lane.new.held result }
 {
-    core::mem::replace_with(
-        lane,
-        (),
-        |h: LaneHandle, _x: ()| -> (LaneHandle, RestTold) { rest_at(h) },
-    )
+    lane.call(Rest)
 }
 
-fn book_store_named<N: Name>(h: BookHandle) -> (BookHandle, u64)
-    requires table { h.table ≡ N.table }
-    requires one { IsOne N }
-    ensures table { result.0.table ≡ h.table }
-    ensures held { result.0.held ≡ h.held }
-    ensures store { result.1 ≡ h.held.store }
-{
-    let it = h.into_parts::<N>().into_box();
-    let said = it.store();
-    (BookHandle::of_parts(BoxParts::of(it)), said)
+// The number of the store of a book, of a lane and of a worker.
+#[derive(Drop)]
+struct StoreNumber;
+
+impl BookCall for StoreNumber {
+    type Told = u64;
+
+    ghost tells = { λ call table before after told. (after ≡ before) × (told ≡ before.store) };
+
+    fn make<N: Name>(self, it: &mut TaggedBook<N>) -> u64 {
+        it.store()
+    }
 }
 
-// The number of the store of a book.
-fn book_store_at(h: BookHandle) -> (BookHandle, u64)
-    ensures table { result.0.table ≡ h.table }
-    ensures held { result.0.held ≡ h.held }
-    ensures store { result.1 ≡ h.held.store }
-{
-    book_store_named::<Brand>(h)
+impl LaneCall for StoreNumber {
+    type Told = u64;
+
+    ghost tells = { λ call table before after told. (after ≡ before) × (told ≡ before.store) };
+
+    fn make<N: Name>(self, it: &mut Drainer<N>) -> u64 {
+        it.store()
+    }
 }
 
-fn lane_store_named<N: Name>(h: LaneHandle) -> (LaneHandle, u64)
-    requires table { h.table ≡ N.table }
-    requires one { IsOne N }
-    ensures table { result.0.table ≡ h.table }
-    ensures held { result.0.held ≡ h.held }
-    ensures store { result.1 ≡ h.held.store }
-{
-    let it = h.into_parts::<N>().into_box();
-    let said = it.store();
-    (LaneHandle::of_parts(BoxParts::of(it)), said)
-}
+impl WorkerCall for StoreNumber {
+    type Told = u64;
 
-// The number of the store of a lane.
-fn lane_store_at(h: LaneHandle) -> (LaneHandle, u64)
-    ensures table { result.0.table ≡ h.table }
-    ensures held { result.0.held ≡ h.held }
-    ensures store { result.1 ≡ h.held.store }
-{
-    lane_store_named::<Brand>(h)
-}
+    ghost tells = { λ call table before after told. (after ≡ before) × (told ≡ before.store) };
 
-fn worker_store_named<N: Name>(h: WorkerHandle) -> (WorkerHandle, u64)
-    requires table { h.table ≡ N.table }
-    requires one { IsOne N }
-    ensures table { result.0.table ≡ h.table }
-    ensures held { result.0.held ≡ h.held }
-    ensures store { result.1 ≡ h.held.store }
-{
-    let it = h.into_parts::<N>().into_box();
-    let said = it.store();
-    (WorkerHandle::of_parts(BoxParts::of(it)), said)
-}
-
-// The number of the store of a worker.
-fn worker_store_at(h: WorkerHandle) -> (WorkerHandle, u64)
-    ensures table { result.0.table ≡ h.table }
-    ensures held { result.0.held ≡ h.held }
-    ensures store { result.1 ≡ h.held.store }
-{
-    worker_store_named::<Brand>(h)
+    fn make<N: Name>(self, it: &mut Reader<N>) -> u64 {
+        it.store()
+    }
 }
 
 fn run_named<N: Name>(
@@ -182,8 +138,8 @@ fn run_at(book: BookHandle, lane: LaneHandle, now: u64, limit: u32) -> (BookHand
     ensures applies { book.held.store ≡ lane.held.store
         → TellsRun now limit book.held lane.held result.0.held result.1.held result.2 }
 {
-    let (book, of_book) = book_store_at(book);
-    let (lane, of_lane) = lane_store_at(lane);
+    let (book, of_book) = book.call_at(StoreNumber);
+    let (lane, of_lane) = lane.call_at(StoreNumber);
     if of_book != of_lane {
         return (book, lane, OTHER_STORE);
     }
@@ -256,8 +212,8 @@ fn run_told_at(
     ensures applies { book.held.store ≡ lane.held.store
         → TellsFreeingRun now limit book.held lane.held result.0.held result.1.held result.2 }
 {
-    let (book, of_book) = book_store_at(book);
-    let (lane, of_lane) = lane_store_at(lane);
+    let (book, of_book) = book.call_at(StoreNumber);
+    let (lane, of_lane) = lane.call_at(StoreNumber);
     if of_book != of_lane {
         return (book, lane, OTHER_STORE_TOLD);
     }
@@ -347,8 +303,8 @@ fn close_at(lane: LaneHandle, worker: WorkerHandle) -> (LaneHandle, (u32, Option
     ensures done { IfNone result.1.1 (result.1.0 ≡ 0) }
     ensures back { IfSome result.1.1 (λ slot. 0 < result.1.0) }
 {
-    let (lane, of_lane) = lane_store_at(lane);
-    let (worker, of_worker) = worker_store_at(worker);
+    let (lane, of_lane) = lane.call_at(StoreNumber);
+    let (worker, of_worker) = worker.call_at(StoreNumber);
     if of_worker != of_lane {
         return (lane, (1, Some(worker_back_at(worker))));
     }

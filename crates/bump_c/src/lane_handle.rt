@@ -1,4 +1,4 @@
-//! The handle by which C has a lane of any store, and the slot that it lies in.
+//! The handle by which C has a lane, and the slot that it lies in.
 ghost use Rattle.std.specs.Prelude.{◌≡◌, List, [], ◌∷◌};
 ghost use Rattle.atomic_table.specs.Seated.{TableId, table_id_coded};
 ghost use Rattle.bump_handles.specs.Views.{DrainerView};
@@ -9,9 +9,20 @@ use box_parts::BoxParts;
 use bump_handles::Drainer;
 use bump_heads::Name;
 use std::alloc::Global;
-use std::marker::Model;
+use std::marker::{Brand, Model};
 
-/// A lane of the store whose table this is.
+/// A call of a lane from C, and what it comes to, whatever stands for the name of the table.
+pub(crate) trait LaneCall: Drop {
+    type Told;
+
+    ghost tells: { Self → TableId → DrainerView → DrainerView → Self.Told → Type 0 };
+
+    fn make<N: Name>(self, it: &mut Drainer<N>) -> Self::Told
+        requires one { IsOne N }
+        ensures tells { tells self N.table it.old it.new result };
+}
+
+/// A lane and its table.
 #[repr(C)]
 pub struct LaneHandle {
     ptr: *mut (),
@@ -48,9 +59,39 @@ impl LaneHandle {
             alloc,
         }
     }
+
+    fn call_named<N: Name, C: LaneCall>(self, call: C) -> (LaneHandle, C::Told)
+        requires table { self.table ≡ N.table }
+        requires one { IsOne N }
+        ensures table { result.0.table ≡ self.table }
+        ensures tells { C.tells call self.table self.held result.0.held result.1 }
+    {
+        let mut it = self.into_parts::<N>().into_box();
+        let told = call.make(&mut it);
+        (LaneHandle::of_parts(BoxParts::of(it)), told)
+    }
+
+    // A function of its own, since a closure can't pick the name that `Brand` stands for.
+    pub(crate) fn call_at<C: LaneCall>(self, call: C) -> (LaneHandle, C::Told)
+        ensures table { result.0.table ≡ self.table }
+        ensures tells { C.tells call self.table self.held result.0.held result.1 }
+    {
+        self.call_named::<Brand, C>(call)
+    }
+
+    pub(crate) fn call<C: LaneCall>(&mut self, call: C) -> C::Told
+        ensures table { self.new.table ≡ self.old.table }
+        ensures tells { C.tells call self.old.table self.old.held self.new.held result }
+    {
+        core::mem::replace_with(
+            self,
+            call,
+            |it: LaneHandle, call: C| -> (LaneHandle, C::Told) { it.call_at(call) },
+        )
+    }
 }
 
-/// What C passes to be filled: with nothing, or a lane and its store's table.
+/// What C passes to be filled: with nothing, or a lane and its table.
 #[repr(C)]
 #[derive(Drop)]
 pub struct LaneSlot {

@@ -1,15 +1,13 @@
 //! A class's calls that look at it, which are made under the caller's lock of the class.
 ghost use Rattle.std.specs.Prelude.{◌≡◌};
-ghost use Rattle.bump_c.specs.One.{IsOne};
 ghost use Rattle.bump_c.specs.Tells.{TellsLook, TellsMoveCount, TellsSeen, TellsSize, TellsWalk};
 
 use crate::answers::{
     LimitsTold, Seen, WalkTold, given, looked_told, nothing_seen, place_of, seen_told, walked_told,
 };
-use crate::book_handle::BookHandle;
-use box_parts::BoxParts;
+use crate::book_handle::{BookCall, BookHandle};
+use bump_handles::TaggedBook;
 use bump_readers::Name;
-use std::marker::Brand;
 
 const NO_SUCH_LIST: WalkTold = WalkTold {
     answer: 2,
@@ -18,27 +16,22 @@ const NO_SUCH_LIST: WalkTold = WalkTold {
     chunks: [0; 32],
 };
 
-fn size_named<N: Name>(h: BookHandle, place: u32) -> (BookHandle, u32)
-    requires table { h.table ≡ N.table }
-    requires one { IsOne N }
-    ensures table { result.0.table ≡ h.table }
-    ensures held { result.0.held ≡ h.held }
-    ensures size { TellsSize place h.held result.1 }
-{
-    let Some(list) = place_of(place) else {
-        return (h, u32::MAX);
-    };
-    let it = h.into_parts::<N>().into_box();
-    let said = it.size(list);
-    (BookHandle::of_parts(BoxParts::of(it)), said)
+#[derive(Drop)]
+struct Size {
+    place: u32,
 }
 
-fn size_at(h: BookHandle, place: u32) -> (BookHandle, u32)
-    ensures table { result.0.table ≡ h.table }
-    ensures held { result.0.held ≡ h.held }
-    ensures size { TellsSize place h.held result.1 }
-{
-    size_named::<Brand>(h, place)
+impl BookCall for Size {
+    type Told = u32;
+
+    ghost tells = { λ call table before after told. (after ≡ before) × TellsSize call.place before told };
+
+    fn make<N: Name>(self, it: &mut TaggedBook<N>) -> u32 {
+        match place_of(self.place) {
+            Some(list) => it.size(list),
+            None => u32::MAX,
+        }
+    }
 }
 
 /// How many chunks a list has, or the greatest number where there is no such list.
@@ -48,31 +41,22 @@ pub extern "C" fn bump_size(book: &mut BookHandle, place: u32) -> u32
     ensures held { book.new.held ≡ book.old.held }
     ensures size { TellsSize place book.old.held result }
 {
-    core::mem::replace_with(
-        book,
-        (place,),
-        |h: BookHandle, x: (u32,)| -> (BookHandle, u32) { size_at(h, x.0) },
-    )
+    book.call(Size { place })
 }
 
-fn moves_named<N: Name>(h: BookHandle, worker: u32) -> (BookHandle, u64)
-    requires table { h.table ≡ N.table }
-    requires one { IsOne N }
-    ensures table { result.0.table ≡ h.table }
-    ensures held { result.0.held ≡ h.held }
-    ensures moves { TellsMoveCount worker h.held result.1 }
-{
-    let it = h.into_parts::<N>().into_box();
-    let said = it.moves(worker).unwrap_or(u64::MAX);
-    (BookHandle::of_parts(BoxParts::of(it)), said)
+#[derive(Drop)]
+struct Moves {
+    worker: u32,
 }
 
-fn moves_at(h: BookHandle, worker: u32) -> (BookHandle, u64)
-    ensures table { result.0.table ≡ h.table }
-    ensures held { result.0.held ≡ h.held }
-    ensures moves { TellsMoveCount worker h.held result.1 }
-{
-    moves_named::<Brand>(h, worker)
+impl BookCall for Moves {
+    type Told = u64;
+
+    ghost tells = { λ call table before after told. (after ≡ before) × TellsMoveCount call.worker before told };
+
+    fn make<N: Name>(self, it: &mut TaggedBook<N>) -> u64 {
+        it.moves(self.worker).unwrap_or(u64::MAX)
+    }
 }
 
 /// How many items a worker's bumps brought to WARM, or the greatest number where there is no such worker.
@@ -82,34 +66,22 @@ pub extern "C" fn bump_moves(book: &mut BookHandle, worker: u32) -> u64
     ensures held { book.new.held ≡ book.old.held }
     ensures moves { TellsMoveCount worker book.old.held result }
 {
-    core::mem::replace_with(
-        book,
-        (worker,),
-        |h: BookHandle, x: (u32,)| -> (BookHandle, u64) { moves_at(h, x.0) },
-    )
+    book.call(Moves { worker })
 }
 
-fn limits_named<N: Name>(h: BookHandle) -> (BookHandle, LimitsTold)
-    requires table { h.table ≡ N.table }
-    requires one { IsOne N }
-    ensures table { result.0.table ≡ h.table }
-    ensures held { result.0.held ≡ h.held }
-    ensures limits { result.1 ≡ record { hot = h.held.book.hot_limit; warm = h.held.book.warm_limit } }
-{
-    let it = h.into_parts::<N>().into_box();
-    let (hot, warm) = it.limits();
-    (
-        BookHandle::of_parts(BoxParts::of(it)),
-        LimitsTold { hot, warm },
-    )
-}
+#[derive(Drop)]
+struct Limits;
 
-fn limits_at(h: BookHandle) -> (BookHandle, LimitsTold)
-    ensures table { result.0.table ≡ h.table }
-    ensures held { result.0.held ≡ h.held }
-    ensures limits { result.1 ≡ record { hot = h.held.book.hot_limit; warm = h.held.book.warm_limit } }
-{
-    limits_named::<Brand>(h)
+impl BookCall for Limits {
+    type Told = LimitsTold;
+
+    ghost tells = { λ call table before after told.
+        (after ≡ before) × (told ≡ record { hot = before.book.hot_limit; warm = before.book.warm_limit }) };
+
+    fn make<N: Name>(self, it: &mut TaggedBook<N>) -> LimitsTold {
+        let (hot, warm) = it.limits();
+        LimitsTold { hot, warm }
+    }
 }
 
 /// The limits of HOT and of WARM.
@@ -119,29 +91,22 @@ pub extern "C" fn bump_limits(book: &mut BookHandle) -> LimitsTold
     ensures held { book.new.held ≡ book.old.held }
     ensures limits { result ≡ record { hot = book.old.held.book.hot_limit; warm = book.old.held.book.warm_limit } }
 {
-    core::mem::replace_with(
-        book,
-        (),
-        |h: BookHandle, _x: ()| -> (BookHandle, LimitsTold) { limits_at(h) },
-    )
+    book.call(Limits)
 }
 
-fn see_named<N: Name>(h: BookHandle, chunk: u32) -> (BookHandle, Seen)
-    requires table { h.table ≡ N.table }
-    requires one { IsOne N }
-    ensures table { result.0.table ≡ h.table }
-    ensures sees { TellsSeen chunk h.held result.0.held result.1 }
-{
-    let mut it = h.into_parts::<N>().into_box();
-    let said = seen_told(it.see(chunk));
-    (BookHandle::of_parts(BoxParts::of(it)), said)
+#[derive(Drop)]
+struct See {
+    chunk: u32,
 }
 
-fn see_at(h: BookHandle, chunk: u32) -> (BookHandle, Seen)
-    ensures table { result.0.table ≡ h.table }
-    ensures sees { TellsSeen chunk h.held result.0.held result.1 }
-{
-    see_named::<Brand>(h, chunk)
+impl BookCall for See {
+    type Told = Seen;
+
+    ghost tells = { λ call table before after told. TellsSeen call.chunk before after told };
+
+    fn make<N: Name>(self, it: &mut TaggedBook<N>) -> Seen {
+        seen_told(it.see(self.chunk))
+    }
 }
 
 /// What a chunk's word says, its time and its label.
@@ -150,32 +115,26 @@ pub extern "C" fn bump_see(book: &mut BookHandle, chunk: u32) -> Seen
     ensures table { book.new.table ≡ book.old.table }
     ensures sees { TellsSeen chunk book.old.held book.new.held result }
 {
-    core::mem::replace_with(
-        book,
-        (chunk,),
-        |h: BookHandle, x: (u32,)| -> (BookHandle, Seen) { see_at(h, x.0) },
-    )
+    book.call(See { chunk })
 }
 
-fn look_named<N: Name>(h: BookHandle, place: u32, behind: u32) -> (BookHandle, Seen)
-    requires table { h.table ≡ N.table }
-    requires one { IsOne N }
-    ensures table { result.0.table ≡ h.table }
-    ensures looks { TellsLook place behind h.held result.0.held result.1 }
-{
-    let Some(list) = place_of(place) else {
-        return (h, nothing_seen(3));
-    };
-    let mut it = h.into_parts::<N>().into_box();
-    let said = looked_told(it.look(list, given(behind)));
-    (BookHandle::of_parts(BoxParts::of(it)), said)
+#[derive(Drop)]
+struct Look {
+    place: u32,
+    behind: u32,
 }
 
-fn look_at(h: BookHandle, place: u32, behind: u32) -> (BookHandle, Seen)
-    ensures table { result.0.table ≡ h.table }
-    ensures looks { TellsLook place behind h.held result.0.held result.1 }
-{
-    look_named::<Brand>(h, place, behind)
+impl BookCall for Look {
+    type Told = Seen;
+
+    ghost tells = { λ call table before after told. TellsLook call.place call.behind before after told };
+
+    fn make<N: Name>(self, it: &mut TaggedBook<N>) -> Seen {
+        match place_of(self.place) {
+            Some(list) => looked_told(it.look(list, given(self.behind))),
+            None => nothing_seen(3),
+        }
+    }
 }
 
 /// What the word of a list's last chunk says, or of the one before a chunk of it, its time and its label.
@@ -184,38 +143,28 @@ pub extern "C" fn bump_look(book: &mut BookHandle, place: u32, behind: u32) -> S
     ensures table { book.new.table ≡ book.old.table }
     ensures looks { TellsLook place behind book.old.held book.new.held result }
 {
-    core::mem::replace_with(
-        book,
-        (place, behind),
-        |h: BookHandle, x: (u32, u32)| -> (BookHandle, Seen) { look_at(h, x.0, x.1) },
-    )
+    book.call(Look { place, behind })
 }
 
-fn walk_named<N: Name>(h: BookHandle, place: u32, from: u32) -> (BookHandle, WalkTold)
-    requires table { h.table ≡ N.table }
-    requires one { IsOne N }
-    ensures table { result.0.table ≡ h.table }
-    ensures held { result.0.held ≡ h.held }
-    ensures walks { TellsWalk place from h.held result.1 }
-{
-    let Some(list) = place_of(place) else {
-        return (h, NO_SUCH_LIST);
-    };
-    let it = h.into_parts::<N>().into_box();
-    let mut chunks = [0; 32];
-    let walked = it.walk(list, given(from), &mut chunks);
-    (
-        BookHandle::of_parts(BoxParts::of(it)),
-        walked_told(walked, chunks),
-    )
+#[derive(Drop)]
+struct Walk {
+    place: u32,
+    from: u32,
 }
 
-fn walk_at(h: BookHandle, place: u32, from: u32) -> (BookHandle, WalkTold)
-    ensures table { result.0.table ≡ h.table }
-    ensures held { result.0.held ≡ h.held }
-    ensures walks { TellsWalk place from h.held result.1 }
-{
-    walk_named::<Brand>(h, place, from)
+impl BookCall for Walk {
+    type Told = WalkTold;
+
+    ghost tells = { λ call table before after told. (after ≡ before) × TellsWalk call.place call.from before told };
+
+    fn make<N: Name>(self, it: &mut TaggedBook<N>) -> WalkTold {
+        let Some(list) = place_of(self.place) else {
+            return NO_SUCH_LIST;
+        };
+        let mut chunks = [0; 32];
+        let walked = it.walk(list, given(self.from), &mut chunks);
+        walked_told(walked, chunks)
+    }
 }
 
 /// The chunks of a list, front first, from a chunk on: at most 32.
@@ -225,9 +174,5 @@ pub extern "C" fn bump_walk(book: &mut BookHandle, place: u32, from: u32) -> Wal
     ensures held { book.new.held ≡ book.old.held }
     ensures walks { TellsWalk place from book.old.held result }
 {
-    core::mem::replace_with(
-        book,
-        (place, from),
-        |h: BookHandle, x: (u32, u32)| -> (BookHandle, WalkTold) { walk_at(h, x.0, x.1) },
-    )
+    book.call(Walk { place, from })
 }

@@ -10,10 +10,10 @@ ghost use Rattle.bump_c.specs.Opening.{class_config_of, IsConfigOf, IsWhyNotOpen
 use crate::answers::fault_number;
 use crate::book_handle::BookSlot;
 use crate::lane_handle::LaneSlot;
-use crate::store_handle::{StoreHandle, StoreSlot};
+use crate::store_handle::{StoreCall, StoreHandle, StoreSlot};
 use crate::worker_handle::WorkerSlot;
 use box_parts::BoxParts;
-use bump_handles::open;
+use bump_handles::{Opened, open};
 use bump_parts::Blank;
 use bump_readers::Name;
 use bump_rules::{ClassConfig, Config};
@@ -168,33 +168,23 @@ pub extern "C" fn bump_open(
     }
 }
 
-fn take_worker_named<N: Name>(h: StoreHandle, number: u32) -> (StoreHandle, Option<WorkerSlot>)
-    requires table { h.table ≡ N.table }
-    requires one { IsOne N }
-    ensures table { result.0.table ≡ h.table }
-    ensures taken { IfSome result.1 (λ slot. HasTaken TheReaderView number h.table h.held.readers result.0.held.readers
-        slot.slot) }
-    ensures none { IfNone result.1 (TakesPart TheReaderView number h.held.readers result.0.held.readers None) }
-    ensures kept { result.0.held ≡ record h.held { readers = result.0.held.readers } }
-{
-    let mut it = h.into_parts::<N>().into_box();
-    match it.reader(number) {
-        Some(taken) => (
-            StoreHandle::of_parts(BoxParts::of(it)),
-            Some(WorkerSlot::of_parts(BoxParts::of(taken))),
-        ),
-        None => (StoreHandle::of_parts(BoxParts::of(it)), None),
-    }
+#[derive(Drop)]
+struct TakeWorker {
+    number: u32,
 }
 
-fn take_worker_at(h: StoreHandle, number: u32) -> (StoreHandle, Option<WorkerSlot>)
-    ensures table { result.0.table ≡ h.table }
-    ensures taken { IfSome result.1 (λ slot. HasTaken TheReaderView number h.table h.held.readers result.0.held.readers
-        slot.slot) }
-    ensures none { IfNone result.1 (TakesPart TheReaderView number h.held.readers result.0.held.readers None) }
-    ensures kept { result.0.held ≡ record h.held { readers = result.0.held.readers } }
-{
-    take_worker_named::<Brand>(h, number)
+impl StoreCall for TakeWorker {
+    type Told = Option<WorkerSlot>;
+
+    ghost tells = { λ call table before after told.
+        IfSome told (λ slot. HasTaken TheReaderView call.number table before.readers after.readers slot.slot)
+        × IfNone told (TakesPart TheReaderView call.number before.readers after.readers None)
+        × (after ≡ record before { readers = after.readers }) };
+
+    fn make<N: Name>(self, it: &mut Opened<N>) -> Option<WorkerSlot> {
+        let taken = it.reader(self.number)?;
+        Some(WorkerSlot::of_parts(BoxParts::of(taken)))
+    }
 }
 
 /// Takes the worker with this number out of the store, and fills an empty slot with it. `false`: there is none, or it is
@@ -212,12 +202,7 @@ pub extern "C" fn bump_take_worker(
     ensures kept { store.new.held ≡ record store.old.held { readers = store.new.held.readers } }
     ensures unchanged { result ≡ false → part.new ≡ part.old }
 {
-    let taken = core::mem::replace_with(
-        store,
-        (number,),
-        |h: StoreHandle, x: (u32,)| -> (StoreHandle, Option<WorkerSlot>) { take_worker_at(h, x.0) },
-    );
-    match taken {
+    match store.call(TakeWorker { number }) {
         Some(slot) => {
             *part = slot;
             true
@@ -226,33 +211,23 @@ pub extern "C" fn bump_take_worker(
     }
 }
 
-fn take_book_named<N: Name>(h: StoreHandle, number: u32) -> (StoreHandle, Option<BookSlot>)
-    requires table { h.table ≡ N.table }
-    requires one { IsOne N }
-    ensures table { result.0.table ≡ h.table }
-    ensures taken { IfSome result.1 (λ slot. HasTaken TheTaggedBookView number h.table h.held.books result.0.held.books
-        slot.slot) }
-    ensures none { IfNone result.1 (TakesPart TheTaggedBookView number h.held.books result.0.held.books None) }
-    ensures kept { result.0.held ≡ record h.held { books = result.0.held.books } }
-{
-    let mut it = h.into_parts::<N>().into_box();
-    match it.book(number) {
-        Some(taken) => (
-            StoreHandle::of_parts(BoxParts::of(it)),
-            Some(BookSlot::of_parts(BoxParts::of(taken))),
-        ),
-        None => (StoreHandle::of_parts(BoxParts::of(it)), None),
-    }
+#[derive(Drop)]
+struct TakeBook {
+    number: u32,
 }
 
-fn take_book_at(h: StoreHandle, number: u32) -> (StoreHandle, Option<BookSlot>)
-    ensures table { result.0.table ≡ h.table }
-    ensures taken { IfSome result.1 (λ slot. HasTaken TheTaggedBookView number h.table h.held.books result.0.held.books
-        slot.slot) }
-    ensures none { IfNone result.1 (TakesPart TheTaggedBookView number h.held.books result.0.held.books None) }
-    ensures kept { result.0.held ≡ record h.held { books = result.0.held.books } }
-{
-    take_book_named::<Brand>(h, number)
+impl StoreCall for TakeBook {
+    type Told = Option<BookSlot>;
+
+    ghost tells = { λ call table before after told.
+        IfSome told (λ slot. HasTaken TheTaggedBookView call.number table before.books after.books slot.slot)
+        × IfNone told (TakesPart TheTaggedBookView call.number before.books after.books None)
+        × (after ≡ record before { books = after.books }) };
+
+    fn make<N: Name>(self, it: &mut Opened<N>) -> Option<BookSlot> {
+        let taken = it.book(self.number)?;
+        Some(BookSlot::of_parts(BoxParts::of(taken)))
+    }
 }
 
 /// Takes the book of the class with this number out of the store, and fills an empty slot with it. `false`: there is
@@ -266,12 +241,7 @@ pub extern "C" fn bump_take_book(store: &mut StoreHandle, number: u32, part: &mu
     ensures kept { store.new.held ≡ record store.old.held { books = store.new.held.books } }
     ensures unchanged { result ≡ false → part.new ≡ part.old }
 {
-    let taken = core::mem::replace_with(
-        store,
-        (number,),
-        |h: StoreHandle, x: (u32,)| -> (StoreHandle, Option<BookSlot>) { take_book_at(h, x.0) },
-    );
-    match taken {
+    match store.call(TakeBook { number }) {
         Some(slot) => {
             *part = slot;
             true
@@ -280,33 +250,23 @@ pub extern "C" fn bump_take_book(store: &mut StoreHandle, number: u32, part: &mu
     }
 }
 
-fn take_lane_named<N: Name>(h: StoreHandle, number: u32) -> (StoreHandle, Option<LaneSlot>)
-    requires table { h.table ≡ N.table }
-    requires one { IsOne N }
-    ensures table { result.0.table ≡ h.table }
-    ensures taken { IfSome result.1 (λ slot. HasTaken TheDrainerView number h.table h.held.lanes result.0.held.lanes
-        slot.slot) }
-    ensures none { IfNone result.1 (TakesPart TheDrainerView number h.held.lanes result.0.held.lanes None) }
-    ensures kept { result.0.held ≡ record h.held { lanes = result.0.held.lanes } }
-{
-    let mut it = h.into_parts::<N>().into_box();
-    match it.lane(number) {
-        Some(taken) => (
-            StoreHandle::of_parts(BoxParts::of(it)),
-            Some(LaneSlot::of_parts(BoxParts::of(taken))),
-        ),
-        None => (StoreHandle::of_parts(BoxParts::of(it)), None),
-    }
+#[derive(Drop)]
+struct TakeLane {
+    number: u32,
 }
 
-fn take_lane_at(h: StoreHandle, number: u32) -> (StoreHandle, Option<LaneSlot>)
-    ensures table { result.0.table ≡ h.table }
-    ensures taken { IfSome result.1 (λ slot. HasTaken TheDrainerView number h.table h.held.lanes result.0.held.lanes
-        slot.slot) }
-    ensures none { IfNone result.1 (TakesPart TheDrainerView number h.held.lanes result.0.held.lanes None) }
-    ensures kept { result.0.held ≡ record h.held { lanes = result.0.held.lanes } }
-{
-    take_lane_named::<Brand>(h, number)
+impl StoreCall for TakeLane {
+    type Told = Option<LaneSlot>;
+
+    ghost tells = { λ call table before after told.
+        IfSome told (λ slot. HasTaken TheDrainerView call.number table before.lanes after.lanes slot.slot)
+        × IfNone told (TakesPart TheDrainerView call.number before.lanes after.lanes None)
+        × (after ≡ record before { lanes = after.lanes }) };
+
+    fn make<N: Name>(self, it: &mut Opened<N>) -> Option<LaneSlot> {
+        let taken = it.lane(self.number)?;
+        Some(LaneSlot::of_parts(BoxParts::of(taken)))
+    }
 }
 
 /// Takes the lane of the worker with this number out of the store, and fills an empty slot with it. `false`: there is
@@ -320,12 +280,7 @@ pub extern "C" fn bump_take_lane(store: &mut StoreHandle, number: u32, part: &mu
     ensures kept { store.new.held ≡ record store.old.held { lanes = store.new.held.lanes } }
     ensures unchanged { result ≡ false → part.new ≡ part.old }
 {
-    let taken = core::mem::replace_with(
-        store,
-        (number,),
-        |h: StoreHandle, x: (u32,)| -> (StoreHandle, Option<LaneSlot>) { take_lane_at(h, x.0) },
-    );
-    match taken {
+    match store.call(TakeLane { number }) {
         Some(slot) => {
             *part = slot;
             true

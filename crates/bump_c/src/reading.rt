@@ -9,33 +9,27 @@ use crate::answers::{
     Counts, HitTold, Labelled, MarksTold, TimeTold, Touched, WordsTold, counts_told, hit_told,
     is_marked, label_told, marks_told, taken_number, time_told, touch_told, words_told,
 };
-use crate::worker_handle::WorkerHandle;
-use box_parts::BoxParts;
+use crate::worker_handle::{WorkerCall, WorkerHandle};
+use bump_handles::Reader;
 use bump_readers::Name;
 use bump_rules::ItemId;
 use std::marker::Brand;
 
-fn get_named<N: Name>(
-    h: WorkerHandle,
+#[derive(Drop)]
+struct Get {
     hold: u32,
-    chunk: u32,
-    generation: u32,
-) -> (WorkerHandle, u32)
-    requires table { h.table ≡ N.table }
-    requires one { IsOne N }
-    ensures table { result.0.table ≡ h.table }
-    ensures gets { TellsGet hold chunk generation h.held result.0.held result.1 }
-{
-    let mut it = h.into_parts::<N>().into_box();
-    let said = taken_number(it.get(hold, ItemId { chunk, generation }));
-    (WorkerHandle::of_parts(BoxParts::of(it)), said)
+    id: ItemId,
 }
 
-fn get_at(h: WorkerHandle, hold: u32, chunk: u32, generation: u32) -> (WorkerHandle, u32)
-    ensures table { result.0.table ≡ h.table }
-    ensures gets { TellsGet hold chunk generation h.held result.0.held result.1 }
-{
-    get_named::<Brand>(h, hold, chunk, generation)
+impl WorkerCall for Get {
+    type Told = u32;
+
+    ghost tells = { λ call table before after told.
+        TellsGet call.hold call.id.chunk call.id.generation before after told };
+
+    fn make<N: Name>(self, it: &mut Reader<N>) -> u32 {
+        taken_number(it.get(self.hold, self.id))
+    }
 }
 
 /// Takes a hold of an item, by the worker's hold of that number.
@@ -44,29 +38,26 @@ pub extern "C" fn bump_get(worker: &mut WorkerHandle, hold: u32, chunk: u32, gen
     ensures table { worker.new.table ≡ worker.old.table }
     ensures gets { TellsGet hold chunk generation worker.old.held worker.new.held result }
 {
-    core::mem::replace_with(
-        worker,
-        (hold, chunk, generation),
-        |h: WorkerHandle, x: (u32, u32, u32)| -> (WorkerHandle, u32) { get_at(h, x.0, x.1, x.2) },
-    )
+    worker.call(Get {
+        hold,
+        id: ItemId { chunk, generation },
+    })
 }
 
-fn touch_named<N: Name>(h: WorkerHandle, hold: u32, now: u64) -> (WorkerHandle, Touched)
-    requires table { h.table ≡ N.table }
-    requires one { IsOne N }
-    ensures table { result.0.table ≡ h.table }
-    ensures touches { TellsTouch hold now h.held result.0.held result.1 }
-{
-    let mut it = h.into_parts::<N>().into_box();
-    let said = touch_told(it.touch(hold, now));
-    (WorkerHandle::of_parts(BoxParts::of(it)), said)
+#[derive(Drop)]
+struct Touch {
+    hold: u32,
+    now: u64,
 }
 
-fn touch_at(h: WorkerHandle, hold: u32, now: u64) -> (WorkerHandle, Touched)
-    ensures table { result.0.table ≡ h.table }
-    ensures touches { TellsTouch hold now h.held result.0.held result.1 }
-{
-    touch_named::<Brand>(h, hold, now)
+impl WorkerCall for Touch {
+    type Told = Touched;
+
+    ghost tells = { λ call table before after told. TellsTouch call.hold call.now before after told };
+
+    fn make<N: Name>(self, it: &mut Reader<N>) -> Touched {
+        touch_told(it.touch(self.hold, self.now))
+    }
 }
 
 /// A hit of the item that is held.
@@ -75,29 +66,22 @@ pub extern "C" fn bump_touch(worker: &mut WorkerHandle, hold: u32, now: u64) -> 
     ensures table { worker.new.table ≡ worker.old.table }
     ensures touches { TellsTouch hold now worker.old.held worker.new.held result }
 {
-    core::mem::replace_with(
-        worker,
-        (hold, now),
-        |h: WorkerHandle, x: (u32, u64)| -> (WorkerHandle, Touched) { touch_at(h, x.0, x.1) },
-    )
+    worker.call(Touch { hold, now })
 }
 
-fn label_named<N: Name>(h: WorkerHandle, hold: u32) -> (WorkerHandle, Labelled)
-    requires table { h.table ≡ N.table }
-    requires one { IsOne N }
-    ensures table { result.0.table ≡ h.table }
-    ensures reads { TellsLabel hold h.held result.0.held result.1 }
-{
-    let mut it = h.into_parts::<N>().into_box();
-    let said = label_told(it.label(hold));
-    (WorkerHandle::of_parts(BoxParts::of(it)), said)
+#[derive(Drop)]
+struct Label {
+    hold: u32,
 }
 
-fn label_at(h: WorkerHandle, hold: u32) -> (WorkerHandle, Labelled)
-    ensures table { result.0.table ≡ h.table }
-    ensures reads { TellsLabel hold h.held result.0.held result.1 }
-{
-    label_named::<Brand>(h, hold)
+impl WorkerCall for Label {
+    type Told = Labelled;
+
+    ghost tells = { λ call table before after told. TellsLabel call.hold before after told };
+
+    fn make<N: Name>(self, it: &mut Reader<N>) -> Labelled {
+        label_told(it.label(self.hold))
+    }
 }
 
 /// The label of the item that is held.
@@ -106,29 +90,22 @@ pub extern "C" fn bump_label(worker: &mut WorkerHandle, hold: u32) -> Labelled
     ensures table { worker.new.table ≡ worker.old.table }
     ensures reads { TellsLabel hold worker.old.held worker.new.held result }
 {
-    core::mem::replace_with(
-        worker,
-        (hold,),
-        |h: WorkerHandle, x: (u32,)| -> (WorkerHandle, Labelled) { label_at(h, x.0) },
-    )
+    worker.call(Label { hold })
 }
 
-fn marks_named<N: Name>(h: WorkerHandle, hold: u32) -> (WorkerHandle, MarksTold)
-    requires table { h.table ≡ N.table }
-    requires one { IsOne N }
-    ensures table { result.0.table ≡ h.table }
-    ensures sees { TellsMarks hold h.held result.0.held result.1 }
-{
-    let mut it = h.into_parts::<N>().into_box();
-    let said = marks_told(it.head(hold));
-    (WorkerHandle::of_parts(BoxParts::of(it)), said)
+#[derive(Drop)]
+struct Marks {
+    hold: u32,
 }
 
-fn marks_at(h: WorkerHandle, hold: u32) -> (WorkerHandle, MarksTold)
-    ensures table { result.0.table ≡ h.table }
-    ensures sees { TellsMarks hold h.held result.0.held result.1 }
-{
-    marks_named::<Brand>(h, hold)
+impl WorkerCall for Marks {
+    type Told = MarksTold;
+
+    ghost tells = { λ call table before after told. TellsMarks call.hold before after told };
+
+    fn make<N: Name>(self, it: &mut Reader<N>) -> MarksTold {
+        marks_told(it.head(self.hold))
+    }
 }
 
 /// The item that is held: its marks, its list and its references, by a load.
@@ -137,29 +114,22 @@ pub extern "C" fn bump_marks(worker: &mut WorkerHandle, hold: u32) -> MarksTold
     ensures table { worker.new.table ≡ worker.old.table }
     ensures sees { TellsMarks hold worker.old.held worker.new.held result }
 {
-    core::mem::replace_with(
-        worker,
-        (hold,),
-        |h: WorkerHandle, x: (u32,)| -> (WorkerHandle, MarksTold) { marks_at(h, x.0) },
-    )
+    worker.call(Marks { hold })
 }
 
-fn marked_named<N: Name>(h: WorkerHandle, hold: u32) -> (WorkerHandle, bool)
-    requires table { h.table ≡ N.table }
-    requires one { IsOne N }
-    ensures table { result.0.table ≡ h.table }
-    ensures sees { TellsMarked hold h.held result.0.held result.1 }
-{
-    let mut it = h.into_parts::<N>().into_box();
-    let said = is_marked(it.head(hold));
-    (WorkerHandle::of_parts(BoxParts::of(it)), said)
+#[derive(Drop)]
+struct IsMarked {
+    hold: u32,
 }
 
-fn marked_at(h: WorkerHandle, hold: u32) -> (WorkerHandle, bool)
-    ensures table { result.0.table ≡ h.table }
-    ensures sees { TellsMarked hold h.held result.0.held result.1 }
-{
-    marked_named::<Brand>(h, hold)
+impl WorkerCall for IsMarked {
+    type Told = bool;
+
+    ghost tells = { λ call table before after told. TellsMarked call.hold before after told };
+
+    fn make<N: Name>(self, it: &mut Reader<N>) -> bool {
+        is_marked(it.head(self.hold))
+    }
 }
 
 /// Whether the item that is held has both marks, by a load.
@@ -168,29 +138,22 @@ pub extern "C" fn bump_marked(worker: &mut WorkerHandle, hold: u32) -> bool
     ensures table { worker.new.table ≡ worker.old.table }
     ensures sees { TellsMarked hold worker.old.held worker.new.held result }
 {
-    core::mem::replace_with(
-        worker,
-        (hold,),
-        |h: WorkerHandle, x: (u32,)| -> (WorkerHandle, bool) { marked_at(h, x.0) },
-    )
+    worker.call(IsMarked { hold })
 }
 
-fn time_named<N: Name>(h: WorkerHandle, hold: u32) -> (WorkerHandle, TimeTold)
-    requires table { h.table ≡ N.table }
-    requires one { IsOne N }
-    ensures table { result.0.table ≡ h.table }
-    ensures reads { TellsTime hold h.held result.0.held result.1 }
-{
-    let mut it = h.into_parts::<N>().into_box();
-    let said = time_told(it.time(hold));
-    (WorkerHandle::of_parts(BoxParts::of(it)), said)
+#[derive(Drop)]
+struct Time {
+    hold: u32,
 }
 
-fn time_at(h: WorkerHandle, hold: u32) -> (WorkerHandle, TimeTold)
-    ensures table { result.0.table ≡ h.table }
-    ensures reads { TellsTime hold h.held result.0.held result.1 }
-{
-    time_named::<Brand>(h, hold)
+impl WorkerCall for Time {
+    type Told = TimeTold;
+
+    ghost tells = { λ call table before after told. TellsTime call.hold before after told };
+
+    fn make<N: Name>(self, it: &mut Reader<N>) -> TimeTold {
+        time_told(it.time(self.hold))
+    }
 }
 
 /// The time of the item that is held.
@@ -199,33 +162,25 @@ pub extern "C" fn bump_time(worker: &mut WorkerHandle, hold: u32) -> TimeTold
     ensures table { worker.new.table ≡ worker.old.table }
     ensures reads { TellsTime hold worker.old.held worker.new.held result }
 {
-    core::mem::replace_with(
-        worker,
-        (hold,),
-        |h: WorkerHandle, x: (u32,)| -> (WorkerHandle, TimeTold) { time_at(h, x.0) },
-    )
+    worker.call(Time { hold })
 }
 
-fn words_named<N: Name>(h: WorkerHandle, hold: u32, first: u32) -> (WorkerHandle, WordsTold)
-    requires table { h.table ≡ N.table }
-    requires one { IsOne N }
-    ensures table { result.0.table ≡ h.table }
-    ensures copies { TellsWords hold first h.table h.held result.0.held result.1 }
-{
-    let mut it = h.into_parts::<N>().into_box();
-    let mut words = [0; 8];
-    let count = it.words(hold, first, &mut words);
-    (
-        WorkerHandle::of_parts(BoxParts::of(it)),
-        words_told(count, words),
-    )
+#[derive(Drop)]
+struct Words {
+    hold: u32,
+    first: u32,
 }
 
-fn words_at(h: WorkerHandle, hold: u32, first: u32) -> (WorkerHandle, WordsTold)
-    ensures table { result.0.table ≡ h.table }
-    ensures copies { TellsWords hold first h.table h.held result.0.held result.1 }
-{
-    words_named::<Brand>(h, hold, first)
+impl WorkerCall for Words {
+    type Told = WordsTold;
+
+    ghost tells = { λ call table before after told. TellsWords call.hold call.first table before after told };
+
+    fn make<N: Name>(self, it: &mut Reader<N>) -> WordsTold {
+        let mut words = [0; 8];
+        let count = it.words(self.hold, self.first, &mut words);
+        words_told(count, words)
+    }
 }
 
 /// The further words of the item that is held, from one on: at most 8.
@@ -234,29 +189,22 @@ pub extern "C" fn bump_words(worker: &mut WorkerHandle, hold: u32, first: u32) -
     ensures table { worker.new.table ≡ worker.old.table }
     ensures copies { TellsWords hold first worker.old.table worker.old.held worker.new.held result }
 {
-    core::mem::replace_with(
-        worker,
-        (hold, first),
-        |h: WorkerHandle, x: (u32, u32)| -> (WorkerHandle, WordsTold) { words_at(h, x.0, x.1) },
-    )
+    worker.call(Words { hold, first })
 }
 
-fn release_named<N: Name>(h: WorkerHandle, hold: u32) -> (WorkerHandle, bool)
-    requires table { h.table ≡ N.table }
-    requires one { IsOne N }
-    ensures table { result.0.table ≡ h.table }
-    ensures releases { ReaderReleases hold h.held result.0.held result.1 }
-{
-    let mut it = h.into_parts::<N>().into_box();
-    let said = it.release(hold);
-    (WorkerHandle::of_parts(BoxParts::of(it)), said)
+#[derive(Drop)]
+struct Release {
+    hold: u32,
 }
 
-fn release_at(h: WorkerHandle, hold: u32) -> (WorkerHandle, bool)
-    ensures table { result.0.table ≡ h.table }
-    ensures releases { ReaderReleases hold h.held result.0.held result.1 }
-{
-    release_named::<Brand>(h, hold)
+impl WorkerCall for Release {
+    type Told = bool;
+
+    ghost tells = { λ call table before after told. ReaderReleases call.hold before after told };
+
+    fn make<N: Name>(self, it: &mut Reader<N>) -> bool {
+        it.release(self.hold)
+    }
 }
 
 /// Gives back what the hold holds, and tells whether there was something.
@@ -265,34 +213,24 @@ pub extern "C" fn bump_release(worker: &mut WorkerHandle, hold: u32) -> bool
     ensures table { worker.new.table ≡ worker.old.table }
     ensures releases { ReaderReleases hold worker.old.held worker.new.held result }
 {
-    core::mem::replace_with(
-        worker,
-        (hold,),
-        |h: WorkerHandle, x: (u32,)| -> (WorkerHandle, bool) { release_at(h, x.0) },
-    )
+    worker.call(Release { hold })
 }
 
-fn hit_named<N: Name>(
-    h: WorkerHandle,
-    chunk: u32,
-    generation: u32,
+#[derive(Drop)]
+struct Hit {
+    id: ItemId,
     now: u64,
-) -> (WorkerHandle, HitTold)
-    requires table { h.table ≡ N.table }
-    requires one { IsOne N }
-    ensures table { result.0.table ≡ h.table }
-    ensures hits { TellsHit chunk generation now h.held result.0.held result.1 }
-{
-    let mut it = h.into_parts::<N>().into_box();
-    let said = hit_told(it.hit(ItemId { chunk, generation }, now));
-    (WorkerHandle::of_parts(BoxParts::of(it)), said)
 }
 
-fn hit_at(h: WorkerHandle, chunk: u32, generation: u32, now: u64) -> (WorkerHandle, HitTold)
-    ensures table { result.0.table ≡ h.table }
-    ensures hits { TellsHit chunk generation now h.held result.0.held result.1 }
-{
-    hit_named::<Brand>(h, chunk, generation, now)
+impl WorkerCall for Hit {
+    type Told = HitTold;
+
+    ghost tells = { λ call table before after told.
+        TellsHit call.id.chunk call.id.generation call.now before after told };
+
+    fn make<N: Name>(self, it: &mut Reader<N>) -> HitTold {
+        hit_told(it.hit(self.id, self.now))
+    }
 }
 
 /// A whole hit: an item is held, hit, its label read, and given back.
@@ -306,33 +244,23 @@ pub extern "C" fn bump_hit(
     ensures table { worker.new.table ≡ worker.old.table }
     ensures hits { TellsHit chunk generation now worker.old.held worker.new.held result }
 {
-    core::mem::replace_with(
-        worker,
-        (chunk, generation, now),
-        |h: WorkerHandle, x: (u32, u32, u64)| -> (WorkerHandle, HitTold) {
-            hit_at(h, x.0, x.1, x.2)
-        },
-    )
+    worker.call(Hit {
+        id: ItemId { chunk, generation },
+        now,
+    })
 }
 
-fn worker_counts_named<N: Name>(h: WorkerHandle) -> (WorkerHandle, Counts)
-    requires table { h.table ≡ N.table }
-    requires one { IsOne N }
-    ensures table { result.0.table ≡ h.table }
-    ensures held { result.0.held ≡ h.held }
-    ensures counts { result.1 ≡ counts_of h.held.worker.part.accounts }
-{
-    let it = h.into_parts::<N>().into_box();
-    let said = counts_told(it.counts());
-    (WorkerHandle::of_parts(BoxParts::of(it)), said)
-}
+#[derive(Drop)]
+struct WorkerCounts;
 
-fn worker_counts_at(h: WorkerHandle) -> (WorkerHandle, Counts)
-    ensures table { result.0.table ≡ h.table }
-    ensures held { result.0.held ≡ h.held }
-    ensures counts { result.1 ≡ counts_of h.held.worker.part.accounts }
-{
-    worker_counts_named::<Brand>(h)
+impl WorkerCall for WorkerCounts {
+    type Told = Counts;
+
+    ghost tells = { λ call table before after told. (after ≡ before) × (told ≡ counts_of before.worker.part.accounts) };
+
+    fn make<N: Name>(self, it: &mut Reader<N>) -> Counts {
+        counts_told(it.counts())
+    }
 }
 
 /// The worker's counts.
@@ -342,11 +270,7 @@ pub extern "C" fn bump_worker_counts(worker: &mut WorkerHandle) -> Counts
     ensures held { worker.new.held ≡ worker.old.held }
     ensures counts { result ≡ counts_of worker.old.held.worker.part.accounts }
 {
-    core::mem::replace_with(
-        worker,
-        (),
-        |h: WorkerHandle, _x: ()| -> (WorkerHandle, Counts) { worker_counts_at(h) },
-    )
+    worker.call(WorkerCounts)
 }
 
 fn worker_free_named<N: Name>(h: WorkerHandle)

@@ -1,4 +1,4 @@
-//! The handle by which C has a store of any store, and the slot that it lies in.
+//! The handle by which C has a store, and the slot that it lies in.
 ghost use Rattle.std.specs.Prelude.{◌≡◌, List, [], ◌∷◌};
 ghost use Rattle.atomic_table.specs.Seated.{TableId, table_id_coded};
 ghost use Rattle.bump_handles.specs.Views.{OpenedView};
@@ -9,9 +9,20 @@ use box_parts::BoxParts;
 use bump_handles::Opened;
 use bump_heads::Name;
 use std::alloc::Global;
-use std::marker::Model;
+use std::marker::{Brand, Model};
 
-/// A store of the store whose table this is.
+/// A call of a store from C, and what it comes to, whatever stands for the name of the table.
+pub(crate) trait StoreCall: Drop {
+    type Told;
+
+    ghost tells: { Self → TableId → OpenedView → OpenedView → Self.Told → Type 0 };
+
+    fn make<N: Name>(self, it: &mut Opened<N>) -> Self::Told
+        requires one { IsOne N }
+        ensures tells { tells self N.table it.old it.new result };
+}
+
+/// A store and its table.
 #[repr(C)]
 pub struct StoreHandle {
     ptr: *mut (),
@@ -48,9 +59,39 @@ impl StoreHandle {
             alloc,
         }
     }
+
+    fn call_named<N: Name, C: StoreCall>(self, call: C) -> (StoreHandle, C::Told)
+        requires table { self.table ≡ N.table }
+        requires one { IsOne N }
+        ensures table { result.0.table ≡ self.table }
+        ensures tells { C.tells call self.table self.held result.0.held result.1 }
+    {
+        let mut it = self.into_parts::<N>().into_box();
+        let told = call.make(&mut it);
+        (StoreHandle::of_parts(BoxParts::of(it)), told)
+    }
+
+    // A function of its own, since a closure can't pick the name that `Brand` stands for.
+    pub(crate) fn call_at<C: StoreCall>(self, call: C) -> (StoreHandle, C::Told)
+        ensures table { result.0.table ≡ self.table }
+        ensures tells { C.tells call self.table self.held result.0.held result.1 }
+    {
+        self.call_named::<Brand, C>(call)
+    }
+
+    pub(crate) fn call<C: StoreCall>(&mut self, call: C) -> C::Told
+        ensures table { self.new.table ≡ self.old.table }
+        ensures tells { C.tells call self.old.table self.old.held self.new.held result }
+    {
+        core::mem::replace_with(
+            self,
+            call,
+            |it: StoreHandle, call: C| -> (StoreHandle, C::Told) { it.call_at(call) },
+        )
+    }
 }
 
-/// What C passes to be filled: with nothing, or a store and its store's table.
+/// What C passes to be filled: with nothing, or a store and its table.
 #[repr(C)]
 #[derive(Drop)]
 pub struct StoreSlot {

@@ -1,4 +1,4 @@
--- A handle may go to another thread, as a box of what it has may: what that owns names no thread, whatever stands for the name.
+-- A handle may go to another thread, as a box of a cache may: what a cache owns names no thread, whatever stands for the name.
 use denote.Struct.Struct.{exits_of}
 use denote.Struct.Owning.{shape, fields, to}
 use denote.Param.Send.{IsSend, AllSend, owning_send, struct_send, sendable}

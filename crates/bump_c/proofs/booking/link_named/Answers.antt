@@ -1,5 +1,0 @@
-use Rattle.std.proofs.Common.{rules}
-use Rattle.bump_c.proofs.booking.link_named.Goals as goal
-
-pub returns-clause-links : goal.returns-clause-links
-returns-clause-links g c = (c.link.result, c.linked_told-said.ensures, search rules)

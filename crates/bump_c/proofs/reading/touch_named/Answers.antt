@@ -1,5 +1,0 @@
-use Rattle.std.proofs.Common.{rules}
-use Rattle.bump_c.proofs.reading.touch_named.Goals as goal
-
-pub returns-clause-touches : goal.returns-clause-touches
-returns-clause-touches g c = (c.touch.result, c.touch_told-said.ensures, search rules)
