@@ -168,7 +168,12 @@ static inline void bump_cache_locks_clear(bump_cache_locks *locks) {
   }
 }
 
-/* The sums of all parts' statistics, each part's of a moment of its own. */
+/* A sum, at most 2^64 - 1: a count that is at its end stays there, as inside the library. */
+static inline uint64_t bump_cache_locks_sum(uint64_t one, uint64_t other) {
+  return one > UINT64_MAX - other ? UINT64_MAX : one + other;
+}
+
+/* The sums of all parts' statistics, each part's of a moment of its own, and each at most 2^64 - 1. */
 static inline bump_cache_stats_of bump_cache_locks_stats(bump_cache_locks *locks) {
   bump_cache_stats_of sum = { 0, 0, 0, 0, 0, 0, 0, 0, 0, 0, 0, 0, 0, 0 };
   for (uint32_t i = 0; i < locks->config.parts; i++) {
@@ -179,16 +184,16 @@ static inline bump_cache_stats_of bump_cache_locks_stats(bump_cache_locks *locks
     sum.number_warm += own.number_warm;
     sum.number_cold += own.number_cold;
     sum.number_temp += own.number_temp;
-    sum.moves_to_cold += own.moves_to_cold;
-    sum.moves_to_warm += own.moves_to_warm;
-    sum.moves_within_lru += own.moves_within_lru;
-    sum.evicted += own.evicted;
-    sum.evicted_unfetched += own.evicted_unfetched;
-    sum.evicted_active += own.evicted_active;
-    sum.direct_reclaims += own.direct_reclaims;
-    sum.reclaimed += own.reclaimed;
-    sum.expired_unfetched += own.expired_unfetched;
-    sum.crawler_reclaimed += own.crawler_reclaimed;
+    sum.moves_to_cold = bump_cache_locks_sum(sum.moves_to_cold, own.moves_to_cold);
+    sum.moves_to_warm = bump_cache_locks_sum(sum.moves_to_warm, own.moves_to_warm);
+    sum.moves_within_lru = bump_cache_locks_sum(sum.moves_within_lru, own.moves_within_lru);
+    sum.evicted = bump_cache_locks_sum(sum.evicted, own.evicted);
+    sum.evicted_unfetched = bump_cache_locks_sum(sum.evicted_unfetched, own.evicted_unfetched);
+    sum.evicted_active = bump_cache_locks_sum(sum.evicted_active, own.evicted_active);
+    sum.direct_reclaims = bump_cache_locks_sum(sum.direct_reclaims, own.direct_reclaims);
+    sum.reclaimed = bump_cache_locks_sum(sum.reclaimed, own.reclaimed);
+    sum.expired_unfetched = bump_cache_locks_sum(sum.expired_unfetched, own.expired_unfetched);
+    sum.crawler_reclaimed = bump_cache_locks_sum(sum.crawler_reclaimed, own.crawler_reclaimed);
   }
   return sum;
 }

@@ -106,6 +106,7 @@ static void all_calls(void) {
   too_long();
   WANT(found_by_each(LAST, 59) == KEYS && found_by_each(LAST, 60) == 0 && found_by_each("last", 59) == 0);
   WANT(of_part[0] && of_part[1] && of_part[2] && of_part[3]);
+  WANT(bump_cache_locks_sum(UINT64_MAX - 5, 5) == UINT64_MAX && bump_cache_locks_sum(UINT64_MAX, 1) == UINT64_MAX);
   bump_cache_stats_of s = bump_cache_locks_stats(&locks);
   WANT(s.number_hot + s.number_warm + s.number_cold + s.number_temp == KEYS && s.crawler_reclaimed == 0);
   bump_cache_locks_tend(&locks, 59);
