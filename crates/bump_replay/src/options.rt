@@ -165,8 +165,8 @@ fn with_columns<'a>(alloc: Global, command: Command<'a>) -> Result<Command<'a>, 
         .arg(header)
 }
 
-// What says how many items there are.
-fn with_sizes<'a>(alloc: Global, command: Command<'a>) -> Result<Command<'a>, AllocError> {
+// What says how many items a cache has, or how many bytes those of all classes.
+fn with_items<'a>(alloc: Global, command: Command<'a>) -> Result<Command<'a>, AllocError> {
     let items = Arg::new(alloc, "items")
         .long("items")
         .value_name("N")
@@ -186,6 +186,12 @@ fn with_sizes<'a>(alloc: Global, command: Command<'a>) -> Result<Command<'a>, Al
         .help(
             "So many bytes for the items of all classes: each gets chunks for the same share of its keys",
         );
+    command.arg(items)?.arg(bytes)
+}
+
+// What says how large a cache is.
+fn with_sizes<'a>(alloc: Global, command: Command<'a>) -> Result<Command<'a>, AllocError> {
+    let command = with_items(alloc, command)?;
     let classes = Arg::new(alloc, "classes")
         .long("classes")
         .value_name("BYTES")
@@ -205,12 +211,7 @@ fn with_sizes<'a>(alloc: Global, command: Command<'a>) -> Result<Command<'a>, Al
         "N",
         "Runs one key in so many through caches as much smaller: an estimate [default: 1]",
     );
-    command
-        .arg(items)?
-        .arg(bytes)?
-        .arg(sample)?
-        .arg(spare)?
-        .arg(classes)
+    command.arg(sample)?.arg(spare)?.arg(classes)
 }
 
 // What says how HOT and WARM are kept short.
