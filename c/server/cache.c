@@ -72,6 +72,25 @@ void cache_release(struct thread *thread, struct item *item) {
   bump_release(&reader_of(thread, item)->worker, THE_HOLD);
 }
 
+static bool lacks_memory(struct shelf *shelf) {
+  pthread_mutex_lock(&shelf->lock);
+  shelf->counts.outofmemory++;
+  pthread_mutex_unlock(&shelf->lock);
+  return false;
+}
+
+/* Room in memory for what an item is charged. */
+static bool has_room(struct thread *thread, const struct item *item) {
+  struct shelf *shelf = shelf_at(item->shelf);
+  return room_make(&thread->counters, shelf, clock_now()) || lacks_memory(shelf);
+}
+
+/* An open shelf, for an item that may be linked next. */
+static bool has_shelf(const struct item *item) {
+  struct shelf *shelf = shelf_at(item->shelf);
+  return shelf_open(shelf) || lacks_memory(shelf);
+}
+
 struct item *cache_new_item(struct thread *thread, const struct key *key, uint32_t flags, uint32_t expires,
                             size_t bytes) {
   struct item *item = item_new(key, flags, expires, bytes);
@@ -79,13 +98,33 @@ struct item *cache_new_item(struct thread *thread, const struct key *key, uint32
     count(&thread->counters, COUNT_malloc_fails, 1);
     return NULL;
   }
-  struct shelf *shelf = shelf_at(item->shelf);
-  if (shelf_open(shelf) && room_make(&thread->counters, shelf, clock_now())) return item;
+  if (has_shelf(item) && has_room(thread, item)) return item;
   item_free(item);
-  pthread_mutex_lock(&shelf->lock);
-  shelf->counts.outofmemory++;
-  pthread_mutex_unlock(&shelf->lock);
   return NULL;
+}
+
+struct item *cache_begin_item(struct thread *thread, const struct key *key, uint32_t flags, uint32_t expires,
+                              size_t bytes, size_t room) {
+  struct item *item = item_begin(key, flags, expires, bytes, room);
+  if (item == NULL) {
+    count(&thread->counters, COUNT_malloc_fails, 1);
+    return NULL;
+  }
+  if (item_may_have(item, room) && has_room(thread, item)) return item;
+  item_drop(item);
+  return NULL;
+}
+
+bool cache_grow_item(struct thread *thread, struct item *item, size_t room) {
+  if (!item_may_have(item, room) || !has_room(thread, item)) return false;
+  if (item_grow(item, room)) return true;
+  count(&thread->counters, COUNT_malloc_fails, 1);
+  return false;
+}
+
+bool cache_complete_item(struct thread *thread, struct item *item) {
+  item_complete(item);
+  return has_shelf(item) && has_room(thread, item);
 }
 
 /* Whether a new item may take the place of the key's, NULL for none. Under the stripe's lock. */

@@ -39,6 +39,16 @@ struct store_terms {
 struct item *cache_new_item(struct thread *thread, const struct key *key, uint32_t flags, uint32_t expires,
                             size_t bytes);
 
+/* The same of an item whose value is still to come, with memory for so much of it. */
+struct item *cache_begin_item(struct thread *thread, const struct key *key, uint32_t flags, uint32_t expires,
+                              size_t bytes, size_t room);
+
+/* Memory for more of its value. false: there is none. */
+bool cache_grow_item(struct thread *thread, struct item *item, size_t room);
+
+/* Its value is all there, and it is an item as any other from now on. false: there is no room for it as that. */
+bool cache_complete_item(struct thread *thread, struct item *item);
+
 /* Stores an item under its key, in place of the one that the key has. The item is the cache's from then on, or gone.
  * `unique` is its number for cas, where it is stored. */
 enum store_answer cache_store(struct thread *thread, struct item *item, const struct store_terms *terms,

@@ -3,6 +3,7 @@
 #include <stdio.h>
 #include <stdlib.h>
 #include <string.h>
+#include <sys/ioctl.h>
 
 enum { OUT_FIRST = 2048 };
 
@@ -27,6 +28,19 @@ char *connection_room(struct connection *connection, size_t bytes) {
     out->room = room;
   }
   return out->at + out->end;
+}
+
+size_t connection_waiting(const struct connection *connection) {
+  int bytes;
+  return ioctl(connection->file, FIONREAD, &bytes) == 0 && bytes > 0 ? (size_t)bytes : 0;
+}
+
+void connection_drop_value(struct connection *connection) {
+  struct storing *storing = &connection->storing;
+  if (storing->item == NULL) return;
+  if (storing->is_under_way) item_drop(storing->item);
+  else item_free(storing->item);
+  storing->item = NULL;
 }
 
 void connection_put(struct connection *connection, const char *text, size_t bytes) {

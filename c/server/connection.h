@@ -26,7 +26,9 @@ enum connection_state {
 /* A value that is being received. */
 struct storing {
   struct item *item;
-  size_t received; /* with the \r\n behind it */
+  size_t received;   /* with the \r\n behind it */
+  size_t room;       /* for so much of it there is memory */
+  bool is_under_way; /* its item isn't complete */
   struct store_terms terms;
   bool is_meta;
   bool tells_unique;       /* of a meta set's answer: whether the number for cas is told, */
@@ -80,6 +82,12 @@ char *connection_room(struct connection *connection, size_t bytes);
 static inline void connection_put_to(struct connection *connection, const char *end) {
   connection->out.end = (size_t)(end - connection->out.at);
 }
+
+/* The bytes that came and aren't received yet. */
+size_t connection_waiting(const struct connection *connection);
+
+/* Gives back the item of a value that isn't stored; or does nothing where there is none. */
+void connection_drop_value(struct connection *connection);
 
 void connection_put(struct connection *connection, const char *text, size_t bytes);
 void connection_print(struct connection *connection, const char *format, ...) __attribute__((format(printf, 2, 3)));

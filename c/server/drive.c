@@ -82,7 +82,7 @@ static enum received receive(struct connection *connection) {
   size_t bytes;
   if (connection->state == READS_VALUE && buffer_size(in) == 0) {
     char *at = storing->item->value + storing->received;
-    enum received received = receive_to(connection, at, storing->item->bytes + 2 - storing->received, &bytes);
+    enum received received = receive_to(connection, at, storing->room - storing->received, &bytes);
     storing->received += bytes;
     return received;
   }
@@ -97,13 +97,14 @@ static enum received receive(struct connection *connection) {
 static bool step_value(struct connection *connection) {
   struct buffer *in = &connection->in;
   struct storing *storing = &connection->storing;
-  size_t left = storing->item->bytes + 2 - storing->received;
+  size_t left = storing->room - storing->received;
   size_t bytes = buffer_size(in) < left ? buffer_size(in) : left;
   memcpy(storing->item->value + storing->received, in->at + in->begin, bytes);
   storing->received += bytes;
   in->begin += bytes;
   if (bytes < left) return false;
-  text_end_value(connection);
+  if (storing->room < (size_t)storing->item->bytes + 2) text_grow_value(connection);
+  else text_end_value(connection);
   return true;
 }
 
@@ -173,7 +174,7 @@ static bool step_on(struct connection *connection, int *requests) {
 /* Whether there is something to step through, or may be. */
 static bool has_more(const struct connection *connection) {
   const struct storing *storing = &connection->storing;
-  if (connection->state == READS_VALUE && storing->received == (size_t)storing->item->bytes + 2) return true;
+  if (connection->state == READS_VALUE && storing->received == storing->room) return true;
   return buffer_size(&connection->in) > 0 || connection->state == ANSWERS_KEYS || connection->state == DUMPS_ITEMS;
 }
 

@@ -12,6 +12,7 @@ static uint32_t size_of[CLASSES_MOST];
 static uint32_t classes;
 
 static _Atomic uint64_t charged;
+static _Atomic uint64_t under_way; /* of it, what those are charged whose values are still to come */
 static _Atomic uint64_t last_unique;
 
 /* What flush_all says. The one that is to come doesn't undo the one that came. */
@@ -52,25 +53,40 @@ uint32_t class_for(size_t reckoned) {
   return least;
 }
 
-struct item *item_new(const struct key *key, uint32_t flags, uint32_t expires, size_t bytes) {
-  size_t reckoned = item_reckoned(key->bytes, flags, bytes);
-  uint32_t class = class_for(reckoned);
+struct item *item_begin(const struct key *key, uint32_t flags, uint32_t expires, size_t bytes, size_t room) {
   bool in_row = bytes <= ROW_VALUE_MOST;
   struct item *item = malloc(offsetof(struct item, key) + key->bytes + (in_row ? bytes + 2 : 0));
   if (item == NULL) return NULL;
-  char *value = in_row ? item->key + key->bytes : malloc(bytes + 2);
+  char *value = in_row ? item->key + key->bytes : malloc(room);
   if (value == NULL) return free(item), NULL;
   *item = (struct item){ .value = value,
                          .hash = key->hash,
                          .flags = flags,
                          .bytes = (uint32_t)bytes,
-                         .charge = (uint32_t)(reckoned > size_of[class] ? reckoned : size_of[class]),
-                         .shelf = shelf_number(class, key->hash),
+                         .shelf = shelf_number(class_for(item_reckoned(key->bytes, flags, bytes)), key->hash),
                          .key_bytes = (uint8_t)key->bytes };
   atomic_init(&item->expires, expires);
   memcpy(item->key, key->at, key->bytes);
-  memcpy(value + bytes, "\r\n", 2);
-  atomic_fetch_add_explicit(&charged, item->charge, memory_order_relaxed);
+  return item;
+}
+
+static void charge(struct item *item, uint32_t bytes) {
+  atomic_fetch_add_explicit(&charged, bytes, memory_order_relaxed);
+  item->charge += bytes;
+}
+
+/* What an item is charged whose value is all there: its class's size, or where it is larger than any, its own. */
+static uint32_t whole_charge(const struct item *item) {
+  size_t reckoned = item_reckoned(item->key_bytes, item->flags, item->bytes);
+  uint32_t size = size_of[shelf_at(item->shelf)->class];
+  return reckoned > size ? (uint32_t)reckoned : size;
+}
+
+struct item *item_new(const struct key *key, uint32_t flags, uint32_t expires, size_t bytes) {
+  struct item *item = item_begin(key, flags, expires, bytes, bytes + 2);
+  if (item == NULL) return NULL;
+  memcpy(item->value + bytes, "\r\n", 2);
+  charge(item, whole_charge(item));
   return item;
 }
 
@@ -80,7 +96,38 @@ void item_free(struct item *item) {
   free(item);
 }
 
+/* The share is a quarter of the memory, and one value of the greatest size: so that there is room for one whatever -I
+ * says. */
+bool item_may_have(struct item *item, size_t room) {
+  uint64_t most = atomic_load_explicit(&settings.memory, memory_order_relaxed) / 4 + settings.item_most;
+  uint32_t more = (uint32_t)item_reckoned(item->key_bytes, item->flags, room - 2) - item->charge;
+  if (atomic_fetch_add_explicit(&under_way, more, memory_order_relaxed) + more > most) {
+    atomic_fetch_sub_explicit(&under_way, more, memory_order_relaxed);
+    return false;
+  }
+  charge(item, more);
+  return true;
+}
+
+bool item_grow(struct item *item, size_t room) {
+  char *value = realloc(item->value, room);
+  if (value != NULL) item->value = value;
+  return value != NULL;
+}
+
+void item_complete(struct item *item) {
+  atomic_fetch_sub_explicit(&under_way, item->charge, memory_order_relaxed);
+  charge(item, whole_charge(item) - item->charge);
+}
+
+void item_drop(struct item *item) {
+  atomic_fetch_sub_explicit(&under_way, item->charge, memory_order_relaxed);
+  item_free(item);
+}
+
 uint64_t items_charged(void) { return atomic_load_explicit(&charged, memory_order_relaxed); }
+
+uint64_t items_under_way(void) { return atomic_load_explicit(&under_way, memory_order_relaxed); }
 
 uint64_t unique_next(void) { return settings.has_unique ? atomic_fetch_add(&last_unique, 1) + 1 : 0; }
 

@@ -67,8 +67,26 @@ struct item *item_new(const struct key *key, uint32_t flags, uint32_t expires, s
 /* Gives back an item's memory: of one that was never linked, or whose chunk came free. */
 void item_free(struct item *item);
 
-/* The bytes that all items are charged. */
+/* An item whose value is still to come, with its \r\n: it has memory for so much of it, and isn't charged yet. One of
+ * up to ROW_VALUE_MOST bytes has memory for all of it. NULL: no memory. */
+struct item *item_begin(const struct key *key, uint32_t flags, uint32_t expires, size_t bytes, size_t room);
+
+/* Charges such an item for so much of its value, and no more: so who says that much will come, and sends little, takes
+ * little from the others. false: all that are under way have a share of the memory together, which is used up. */
+bool item_may_have(struct item *item, size_t room);
+
+/* Memory for more of its value, which it is charged for already. false: there is none. */
+bool item_grow(struct item *item, size_t room);
+
+/* All of its value came: it is charged as item_new's are. */
+void item_complete(struct item *item);
+
+/* Gives back one that isn't complete. */
+void item_drop(struct item *item);
+
+/* The bytes that all items are charged; and of them, those whose values are still to come. */
 uint64_t items_charged(void);
+uint64_t items_under_way(void);
 
 /* The next number for cas; 0 where items have none. */
 uint64_t unique_next(void);

@@ -133,7 +133,7 @@ static void end_connection(struct connection *connection) {
   *connection->previous = connection->next;
   pthread_mutex_unlock(&thread->lock);
   close(connection->file); /* and so it leaves the epoll */
-  if (connection->storing.item != NULL) item_free(connection->storing.item);
+  connection_drop_value(connection);
   free(connection->in.at);
   free(connection->out.at);
   free(connection);

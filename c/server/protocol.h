@@ -19,6 +19,9 @@ void text_answer_keys(struct connection *connection);
 void text_begin_value(struct connection *connection, const struct key *key, uint32_t flags, uint32_t expires,
                       size_t bytes);
 
+/* Makes room for more of the value than came. Where there is none, the rest of it is to be skipped. */
+void text_grow_value(struct connection *connection);
+
 /* The value that was to come is there, with what stands behind it. */
 void text_end_value(struct connection *connection);
 

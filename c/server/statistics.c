@@ -378,6 +378,7 @@ static void tell_bump_of_class(struct connection *connection, uint32_t class) {
 static void tell_bump(struct connection *connection) {
   for (uint32_t class = 1; class <= class_count(); class++) tell_bump_of_class(connection, class);
   tell_counters(connection, COUNT_get_busy, COUNT_get_stale);
+  tell(connection, "bytes_under_way", items_under_way());
 }
 
 /* --------------------------------------------------------------------------------------------------- the keys */

@@ -8,8 +8,8 @@
 #include "shelf.h"
 #include "table.h"
 
-/* GROUP_MOST: keys of a get that memory is asked for at once. */
-enum { VALUE_LINE_MOST = 64 + KEY_MOST, GROUP_MOST = 32 };
+/* GROUP_MOST: keys of a get that memory is asked for at once. ROOM_LEAST: for a value that is under way. */
+enum { VALUE_LINE_MOST = 64 + KEY_MOST, GROUP_MOST = 32, ROOM_LEAST = ROW_VALUE_MOST + 2 };
 
 bool text_wants_no_reply(struct connection *connection, const struct words *words) {
   connection->is_quiet = words->count > 1 && word_is(&words->word[words->count - 1], "noreply");
@@ -202,8 +202,39 @@ static enum store_answer store(struct connection *connection, struct item *item,
   return answer;
 }
 
+/* Tells that a value isn't stored, and skips what is left of it. */
+static void refuse_value(struct connection *connection, const struct key *key, bool fits, uint64_t left) {
+  const struct storing *storing = &connection->storing;
+  count(connection_counters(connection), fits ? COUNT_store_no_memory : COUNT_store_too_large, 1);
+  if (storing->is_meta) connection_say_always(connection, fits ? OUT_OF_MEMORY : TOO_LARGE);
+  else connection_say(connection, fits ? OUT_OF_MEMORY : TOO_LARGE);
+  if (storing->is_meta || storing->terms.how == STORE_SET)
+    cache_end(connection->thread, key); /* its value is out of date */
+  connection->state = SKIPS_BYTES;
+  connection->skip = left;
+}
+
+/* The same, of one that was under way. */
+static void give_value_up(struct connection *connection, uint64_t left) {
+  const struct item *item = connection->storing.item;
+  const struct key key = { item->key, item->key_bytes, item->hash };
+  refuse_value(connection, &key, true, left);
+  connection_drop_value(connection);
+}
+
+static bool complete_value(struct connection *connection) {
+  struct storing *storing = &connection->storing;
+  if (!storing->is_under_way) return true;
+  storing->is_under_way = false;
+  return cache_complete_item(connection->thread, storing->item);
+}
+
 void text_end_value(struct connection *connection) {
   struct item *item = connection->storing.item;
+  if (!complete_value(connection)) {
+    give_value_up(connection, 0);
+    return;
+  }
   struct shelf_reader *reader = &shelf_at(item->shelf)->reader[connection->thread->number];
   connection->storing.item = NULL;
   connection->state = READS_LINE;
@@ -221,24 +252,37 @@ void text_end_value(struct connection *connection) {
   else tell_stored(connection, answer);
 }
 
+/* Memory for what came of a value and for as much again: so it is at most twice what its client sent, or ROOM_LEAST.
+ * What waits in the socket came, too: so most values have their memory at once, and aren't copied to get more. */
+static size_t room_for(const struct connection *connection, size_t all, size_t came) {
+  if (came * 2 < all) came += connection_waiting(connection);
+  size_t room = came * 2 > ROOM_LEAST ? came * 2 : ROOM_LEAST;
+  return room < all ? room : all;
+}
+
+/* One that is all there already, as most are, is never under way. */
 void text_begin_value(struct connection *connection, const struct key *key, uint32_t flags, uint32_t expires,
                       size_t bytes) {
   struct storing *storing = &connection->storing;
+  struct thread *thread = connection->thread;
+  size_t all = bytes + 2, came = buffer_size(&connection->in);
   bool fits = class_for(item_reckoned(key->bytes, flags, bytes)) != 0;
-  struct item *item = fits ? cache_new_item(connection->thread, key, flags, expires, bytes) : NULL;
-  if (item != NULL) {
-    storing->item = item;
-    storing->received = 0;
-    connection->state = READS_VALUE;
-    return;
-  }
-  count(connection_counters(connection), fits ? COUNT_store_no_memory : COUNT_store_too_large, 1);
-  if (storing->is_meta) connection_say_always(connection, fits ? OUT_OF_MEMORY : TOO_LARGE);
-  else connection_say(connection, fits ? OUT_OF_MEMORY : TOO_LARGE);
-  connection->state = SKIPS_BYTES;
-  connection->skip = bytes + 2;
-  if (storing->is_meta || storing->terms.how == STORE_SET)
-    cache_end(connection->thread, key); /* its value is out of date */
+  storing->received = 0;
+  storing->is_under_way = came < all;
+  storing->room = storing->is_under_way ? room_for(connection, all, came) : all;
+  if (!fits) storing->item = NULL;
+  else if (!storing->is_under_way) storing->item = cache_new_item(thread, key, flags, expires, bytes);
+  else storing->item = cache_begin_item(thread, key, flags, expires, bytes, storing->room);
+  if (storing->item != NULL) connection->state = READS_VALUE;
+  else refuse_value(connection, key, fits, all);
+}
+
+void text_grow_value(struct connection *connection) {
+  struct storing *storing = &connection->storing;
+  size_t all = (size_t)storing->item->bytes + 2;
+  size_t room = room_for(connection, all, storing->received + buffer_size(&connection->in));
+  if (cache_grow_item(connection->thread, storing->item, room)) storing->room = room;
+  else give_value_up(connection, all - storing->received);
 }
 
 static void update(struct connection *connection, struct words *words, enum store_how how) {
