@@ -98,7 +98,7 @@ static void prepare(void) {
   write_process_number();
 }
 
-/* Gives all back, says what was left, and answers the program's status. */
+/* Settles each worker, says what was left, and answers the program's status. */
 static int settle(uint64_t connections) {
   struct shelf_rest all = { 0 };
   uint32_t open = 0;
@@ -109,9 +109,10 @@ static int settle(uint64_t connections) {
     all.applied += rest.applied;
     all.unsettled += rest.unsettled;
     all.held += rest.held;
+    all.charged += rest.charged;
     open++;
   }
-  uint64_t charged = items_charged();
+  uint64_t charged = items_charged() - all.charged; /* of items that are in no shelf: nobody would find them */
   bool right = all.unsettled == 0 && all.held == 0 && charged == 0;
   fprintf(stderr,
           "bump-server: ended with %" PRIu64 " connections and %" PRIu64 " items; %" PRIu64
@@ -138,8 +139,10 @@ int main(int count, char **words) {
   end_thread(MAINTAINER);
   network_unlisten();
   int status = settle(connections);
-  shelves_free();
-  table_free();
+  if (settings.walks) {
+    shelves_free();
+    table_free();
+  }
   if (settings.process_file != NULL) unlink(settings.process_file);
   return status;
 }

@@ -30,6 +30,9 @@ struct settings settings = { .port = 11211,
                              .balance = 0.8,
                              .temporary_ttl = -1 };
 
+/* Those that have no letter. */
+enum { OPTION_WALK = 256 };
+
 static const struct option LONG[] = { { "port", required_argument, NULL, 'p' },
                                       { "udp-port", required_argument, NULL, 'U' },
                                       { "listen", required_argument, NULL, 'l' },
@@ -53,6 +56,7 @@ static const struct option LONG[] = { { "port", required_argument, NULL, 'p' },
                                       { "lock-memory", no_argument, NULL, 'k' },
                                       { "verbose", no_argument, NULL, 'v' },
                                       { "extended", required_argument, NULL, 'o' },
+                                      { "walk", no_argument, NULL, OPTION_WALK },
                                       { "help", no_argument, NULL, 'h' },
                                       { "version", no_argument, NULL, 'V' },
                                       { NULL, 0, NULL, 0 } };
@@ -80,6 +84,7 @@ static const char HELP[] =
     "-P, --pidfile=<file>         write the number of the process there\n"
     "-k, --lock-memory            keep all memory out of swap\n"
     "-v, --verbose                say more on standard error; -vv: each command\n"
+    "    --walk                   free each item at the end, for tools that look for lost memory\n"
     "-h, --help                   this text\n"
     "-V, --version                the version\n"
     "-o, --extended=<name>,<name>=<value>..\n"
@@ -218,6 +223,7 @@ static void read_measure(int option) {
     case 'F': settings.may_flush = false; return;
     case 'A': settings.may_shut_down = true; return;
     case 'o': read_extended(optarg); return;
+    case OPTION_WALK: settings.walks = true; return;
     default: wrong("the command line", "no such option");
   }
 }

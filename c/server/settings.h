@@ -37,6 +37,7 @@ struct settings {
   bool locks_memory;
   bool begins_crawling;
   bool maintains;
+  bool walks;            /* the end frees each item, though the process's end frees all */
   bool may_move_time;    /* for tests */
   uint64_t bytes_before; /* said to be in use already: for tests */
   _Atomic int verbosity;

@@ -182,24 +182,42 @@ static void settle(struct shelf *shelf, uint32_t thread, struct shelf_rest *rest
   if (rested.answer != BUMP_REST_SETTLED || rested.applied != rested.counts.accepted) rest->unsettled++;
 }
 
-struct shelf_rest shelf_close(struct shelf *shelf) {
-  struct shelf_rest rest = { 0 };
-  for (uint32_t thread = 0; thread < (uint32_t)settings.threads; thread++) {
-    settle(shelf, thread, &rest);
-    bump_lane_free(shelf->lane[thread].lane);
-  }
+/* How many items are linked: the lengths of the lists, which bump counts. */
+static uint64_t count_linked(struct shelf *shelf) {
+  static const uint32_t LISTS[] = { BUMP_PLACE_HOT, BUMP_PLACE_WARM, BUMP_PLACE_COLD, BUMP_PLACE_TEMP };
+  uint64_t sum = 0;
+  for (size_t i = 0; i < sizeof LISTS / sizeof *LISTS; i++) sum += bump_size(&shelf->book, LISTS[i]);
+  return sum;
+}
+
+/* Ends each item, and answers how many there were. */
+static uint64_t end_all(struct shelf *shelf) {
+  uint64_t ended = 0;
   for (uint32_t chunk = 0; chunk < shelf->used; chunk++) {
     bump_seen seen = bump_see(&shelf->book, chunk);
     if (!seen.linked) continue;
     table_forget(item_of(seen.label));
     shelf_end(shelf, (struct item_name){ chunk, seen.generation, (uint16_t)shelf->number });
-    rest.items++;
+    ended++;
   }
-  shelf_reap(shelf);
-  rest.held = bump_size(&shelf->book, BUMP_PLACE_DYING);
+  return ended;
+}
+
+static void free_store(struct shelf *shelf) {
+  for (uint32_t thread = 0; thread < (uint32_t)settings.threads; thread++) bump_lane_free(shelf->lane[thread].lane);
   bump_book_free(shelf->book);
   free(shelf->reader);
   free(shelf->lane);
+}
+
+struct shelf_rest shelf_close(struct shelf *shelf) {
+  struct shelf_rest rest = { 0 };
+  for (uint32_t thread = 0; thread < (uint32_t)settings.threads; thread++) settle(shelf, thread, &rest);
+  rest.items = settings.walks ? end_all(shelf) : count_linked(shelf);
+  shelf_reap(shelf);
+  rest.held = bump_size(&shelf->book, BUMP_PLACE_DYING);
+  rest.charged = atomic_load(&shelf->charged);
+  if (settings.walks) free_store(shelf);
   return rest;
 }
 

@@ -105,9 +105,11 @@ struct shelf_rest {
   uint64_t applied;   /* bumps, since its workers were closed */
   uint64_t unsettled; /* workers */
   uint64_t held;      /* chunks that somebody still held */
+  uint64_t charged;   /* bytes of the items that weren't freed one by one */
 };
 
-/* Gives an open shelf back, once no thread uses it: closes each worker, applies its bumps, and frees each item. */
+/* Ends an open shelf, once no thread uses it: closes each worker, applies its bumps, and gives back what was held.
+ * Where the settings say so it frees each item and the store, too; else the process's end does, at once. */
 struct shelf_rest shelf_close(struct shelf *shelf);
 void shelves_free(void);
 
