@@ -1,61 +1,23 @@
 /* bump-server: memcached's protocol over bump. Start, signals, and end. */
 #define _GNU_SOURCE
-#include <errno.h>
-#include <grp.h>
 #include <inttypes.h>
-#include <pwd.h>
 #include <signal.h>
 #include <stdio.h>
 #include <stdlib.h>
-#include <string.h>
 #include <sys/mman.h>
-#include <sys/resource.h>
 #include <unistd.h>
 #include "clock.h"
 #include "maintainer.h"
 #include "network.h"
+#include "process.h"
 #include "settings.h"
 #include "shelf.h"
 #include "table.h"
 #include "thread.h"
 
-/* Files beside connections: listeners, epolls, what the C library opens. */
-enum { FILES_BESIDE = 256 };
-
 static void on_signal(int number) {
   (void)number;
   atomic_store(&is_ending, true);
-}
-
-static void fail(const char *what) {
-  fprintf(stderr, "bump-server: %s\n", what);
-  exit(EXIT_NO_START);
-}
-
-/* As many files may be open as there may be connections. */
-static void raise_files(void) {
-  struct rlimit limit;
-  rlim_t wanted = (rlim_t)settings.connections + FILES_BESIDE;
-  if (getrlimit(RLIMIT_NOFILE, &limit) != 0 || limit.rlim_cur >= wanted) return;
-  limit.rlim_cur = wanted;
-  if (limit.rlim_max < wanted) limit.rlim_max = wanted;
-  if (setrlimit(RLIMIT_NOFILE, &limit) != 0) fail("not so many files may be open: choose a smaller -c");
-}
-
-static void become_user(void) {
-  if (settings.user == NULL || getuid() != 0) return;
-  const struct passwd *user = getpwnam(settings.user);
-  if (user == NULL) fail("there is no such user as -u says");
-  if (user->pw_uid == 0) return;
-  if (setgroups(0, NULL) != 0 || setgid(user->pw_gid) != 0 || setuid(user->pw_uid) != 0)
-    fail("can't become the user of -u");
-}
-
-static void write_process_number(void) {
-  if (settings.process_file == NULL) return;
-  FILE *file = fopen(settings.process_file, "w");
-  if (file == NULL || fprintf(file, "%ld\n", (long)getpid()) < 0 || fclose(file) != 0)
-    fail("can't write the file of -P");
 }
 
 /* The first thread alone is told of signals, and only while it waits for connections. */
@@ -76,8 +38,8 @@ static void take_signals(sigset_t *before) {
 /* The name is what tools show of a thread: at most 15 letters. */
 static void start_thread(struct thread *thread, uint32_t number, const char *name, void *(*run)(void *)) {
   thread->number = number;
-  if (!network_prepare(thread)) fail("can't wait for connections");
-  if (pthread_create(&thread->id, NULL, run, thread) != 0) fail("can't start a thread");
+  if (!network_prepare(thread)) process_fail("can't wait for connections");
+  if (pthread_create(&thread->id, NULL, run, thread) != 0) process_fail("can't start a thread");
   pthread_setname_np(thread->id, name);
 }
 
@@ -87,15 +49,24 @@ static void end_thread(struct thread *thread) {
   close(thread->wake);
 }
 
+/* Ports are taken before, as root alone may take those below 1024; the file of -s is made after, and is the user's. */
+static void listen_and_become(void) {
+  const bool by_file = settings.socket_path != NULL;
+  if (!by_file && !network_listen()) exit(EXIT_NO_START);
+  process_become_user();
+  if (by_file && !network_listen()) exit(EXIT_NO_START);
+}
+
 static void prepare(void) {
+  process_find_user();
   clock_begin();
-  raise_files();
-  if (settings.locks_memory && mlockall(MCL_CURRENT | MCL_FUTURE) != 0) fail("can't lock memory: -k");
+  process_raise_files();
+  if (settings.locks_memory && mlockall(MCL_CURRENT | MCL_FUTURE) != 0) process_fail("can't lock memory: -k");
   classes_make();
-  if (!shelves_make() || !table_make()) fail("no memory, or more than the shelves can have: choose a smaller -m");
-  if (!network_listen()) exit(EXIT_NO_START);
-  become_user();
-  write_process_number();
+  if (!shelves_make() || !table_make())
+    process_fail("no memory, or more than the shelves can have: choose a smaller -m");
+  listen_and_become();
+  process_write_number();
 }
 
 /* Settles each worker, says what was left, and answers the program's status. */
@@ -143,6 +114,6 @@ int main(int count, char **words) {
     shelves_free();
     table_free();
   }
-  if (settings.process_file != NULL) unlink(settings.process_file);
+  process_forget_number();
   return status;
 }

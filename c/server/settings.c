@@ -80,7 +80,7 @@ static const char HELP[] =
     "-C, --disable-cas            items have no number for cas\n"
     "-F, --disable-flush-all      refuse flush_all\n"
     "-A, --enable-shutdown        allow the command shutdown\n"
-    "-u, --user=<name>            whom to become, where root starts it\n"
+    "-u, --user=<name>            whom to become, where root starts it, who has to say so\n"
     "-P, --pidfile=<file>         write the number of the process there\n"
     "-k, --lock-memory            keep all memory out of swap\n"
     "-v, --verbose                say more on standard error; -vv: each command\n"

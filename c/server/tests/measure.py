@@ -45,8 +45,8 @@ class Pair:
         self.words = words
         hard = resource.getrlimit(resource.RLIMIT_NOFILE)[1]
         # valgrind keeps twelve files for itself, and refuses any other limit
-        own = ["-U", "0", "-l", "127.0.0.1", "-u", "root"]
-        self.servers = {"bump-server": ([words.server], []), "memcached": ([words.memcached, *own], ["-c", str(hard - 12)])}
+        own = ["-l", "127.0.0.1", *(["-u", "root"] if os.geteuid() == 0 else [])]
+        self.servers = {"bump-server": ([words.server, *own], []), "memcached": ([words.memcached, "-U", "0", *own], ["-c", str(hard - 12)])}
 
     def start(self, name, *options, before=(), counted=False):
         command, for_valgrind = self.servers[name]
