@@ -41,13 +41,23 @@ void process_become_user(void) {
     process_fail("can't become the user of -u");
 }
 
+/* As many connections as there may be files. At a low limit the files beside them get no more than half. */
+static void take_fewer(rlim_t files) {
+  rlim_t beside = files < 2 * FILES_BESIDE ? files / 2 : FILES_BESIDE;
+  settings.connections = (int)(files - beside);
+  fprintf(stderr, "bump-server: no more than %llu files may be open: it takes %d connections\n",
+          (unsigned long long)files, settings.connections);
+}
+
 void process_raise_files(void) {
-  struct rlimit limit;
+  struct rlimit limit, wider;
   rlim_t wanted = (rlim_t)settings.connections + FILES_BESIDE;
   if (getrlimit(RLIMIT_NOFILE, &limit) != 0 || limit.rlim_cur >= wanted) return;
-  limit.rlim_cur = wanted;
-  if (limit.rlim_max < wanted) limit.rlim_max = wanted;
+  wider = (struct rlimit){ wanted, limit.rlim_max < wanted ? wanted : limit.rlim_max };
+  if (setrlimit(RLIMIT_NOFILE, &wider) == 0) return;
+  limit.rlim_cur = limit.rlim_max; /* which anybody may do */
   if (setrlimit(RLIMIT_NOFILE, &limit) != 0) process_fail("not so many files may be open: choose a smaller -c");
+  take_fewer(limit.rlim_max);
 }
 
 void process_write_number(void) {

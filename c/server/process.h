@@ -11,7 +11,7 @@ void process_find_user(void);
 /* From here on it is that user. */
 void process_become_user(void);
 
-/* As many files may be open as there may be connections. */
+/* As many files may be open as there may be connections. Where they may not it takes fewer, and says so. */
 void process_raise_files(void);
 
 /* The file of the process's number. */
