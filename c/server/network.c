@@ -74,6 +74,7 @@ static bool listen_on_address(const struct addrinfo *info, const char *what) {
   int on = 1, file = socket(info->ai_family, info->ai_socktype | SOCK_NONBLOCK | SOCK_CLOEXEC, info->ai_protocol);
   if (file < 0) return perror(what), false;
   setsockopt(file, SOL_SOCKET, SO_REUSEADDR, &on, sizeof on);
+  setsockopt(file, SOL_SOCKET, SO_KEEPALIVE, &on, sizeof on); /* accepted ones have it, too: so who vanished goes */
   if (info->ai_family == AF_INET6) setsockopt(file, IPPROTO_IPV6, IPV6_V6ONLY, &on, sizeof on);
   if (bind(file, info->ai_addr, info->ai_addrlen) == 0) return add_listener(file, what);
   perror(what);
