@@ -18,6 +18,7 @@
 #include "clock.h"
 #include "connection.h"
 #include "drive.h"
+#include "words.h"
 
 enum {
   LISTENERS_MOST = 16,
@@ -72,7 +73,7 @@ static bool listen_on_path(const char *path) {
 
 static bool listen_on_address(const struct addrinfo *info, const char *what) {
   int on = 1, file = socket(info->ai_family, info->ai_socktype | SOCK_NONBLOCK | SOCK_CLOEXEC, info->ai_protocol);
-  if (file < 0) return perror(what), false;
+  if (file < 0) return perror(what), errno == EAFNOSUPPORT; /* a host may have addresses that this machine hasn't */
   setsockopt(file, SOL_SOCKET, SO_REUSEADDR, &on, sizeof on);
   setsockopt(file, SOL_SOCKET, SO_KEEPALIVE, &on, sizeof on); /* accepted ones have it, too: so who vanished goes */
   if (info->ai_family == AF_INET6) setsockopt(file, IPPROTO_IPV6, IPV6_V6ONLY, &on, sizeof on);
@@ -82,18 +83,54 @@ static bool listen_on_address(const struct addrinfo *info, const char *what) {
   return false;
 }
 
-/* All addresses that a name has. */
-static bool listen_on_name(const char *name) {
-  char port[8];
-  const struct addrinfo wanted = { .ai_flags = AI_PASSIVE, .ai_family = AF_UNSPEC, .ai_socktype = SOCK_STREAM };
+struct place {
+  const char *host; /* NULL: all addresses */
+  const char *port; /* NULL: that of the settings */
+};
+
+/* Cuts HOST or HOST:PORT. IPv6's addresses have brackets where a port is behind; without them two colons are theirs. */
+static bool cut_place(char *name, struct place *place) {
+  char *behind = name;
+  *place = (struct place){ .host = name };
+  if (*name == '[') {
+    place->host = name + 1;
+    behind = strchr(name, ']');
+    if (behind == NULL || (behind[1] != 0 && behind[1] != ':')) return false;
+    *behind++ = 0;
+  }
+  char *colon = strchr(behind, ':');
+  if (colon != NULL && (behind != name || strchr(colon + 1, ':') == NULL)) {
+    *colon = 0;
+    place->port = colon + 1;
+  }
+  if (strcmp(place->host, "*") == 0) place->host = NULL;
+  return true;
+}
+
+/* All addresses that a host has, by that port. */
+static bool listen_on_place(struct place place, const char *what) {
+  const struct addrinfo wanted = { .ai_flags = AI_PASSIVE | AI_NUMERICSERV, .ai_socktype = SOCK_STREAM };
   struct addrinfo *found = NULL;
-  snprintf(port, sizeof port, "%d", settings.port);
-  int fault = getaddrinfo(name, port, &wanted, &found);
-  if (fault != 0) return fprintf(stderr, "bump-server: %s: %s\n", name, gai_strerror(fault)), false;
+  int fault = getaddrinfo(place.host, place.port, &wanted, &found);
+  if (fault != 0) return fprintf(stderr, "bump-server: %s: %s\n", what, gai_strerror(fault)), false;
   bool all = true;
-  for (const struct addrinfo *info = found; info != NULL; info = info->ai_next) all &= listen_on_address(info, name);
+  for (const struct addrinfo *info = found; info != NULL; info = info->ai_next) all &= listen_on_address(info, what);
   freeaddrinfo(found);
   return all;
+}
+
+/* One of those that -l names. */
+static bool listen_on_name(char *name) {
+  char port[8];
+  struct place place;
+  uint64_t number;
+  if (!cut_place(name, &place)) return fprintf(stderr, "bump-server: %s: no address\n", name), false;
+  const char *what = place.host != NULL ? place.host : "*";
+  snprintf(port, sizeof port, "%d", settings.port);
+  if (place.port == NULL) place.port = port;
+  else if (!number_u64(place.port, &number) || number > UINT16_MAX)
+    return fprintf(stderr, "bump-server: %s: %s: no port\n", what, place.port), false;
+  return listen_on_place(place, what);
 }
 
 bool network_listen(void) {

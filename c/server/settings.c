@@ -65,7 +65,8 @@ static const char HELP[] =
     "bump-server: memcached's text and meta protocols over bump\n"
     "\n"
     "-p, --port=<number>          port to listen on (11211)\n"
-    "-l, --listen=<address>       addresses or names to listen on, with commas between (127.0.0.1)\n"
+    "-l, --listen=<address>       addresses or names to listen on, with :<port> behind or without, and with commas\n"
+    "                             between; * is all addresses; -l can be there more than once (127.0.0.1)\n"
     "-s, --unix-socket=<file>     socket to listen on, in place of a port\n"
     "-a, --unix-mask=<mode>       its permissions, in octal (0700)\n"
     "-m, --memory-limit=<number>  megabytes of items (64)\n"
@@ -183,11 +184,20 @@ static void read_extended(char *text) {
   }
 }
 
+/* The addresses of each -l, with commas between. */
+static void add_addresses(const char *text) {
+  static char all[4096];
+  size_t used = strlen(all);
+  int added = snprintf(all + used, sizeof all - used, "%s%s", used > 0 ? "," : "", text);
+  if (added < 0 || (size_t)added >= sizeof all - used) wrong("-l", "too many addresses");
+  settings.address = all;
+}
+
 /* Options that say where the server is and who it is. */
 static bool read_place(int option) {
   switch (option) {
     case 'p': settings.port = whole("-p", optarg, 0, 65535); return true;
-    case 'l': settings.address = optarg; return true;
+    case 'l': add_addresses(optarg); return true;
     case 's': settings.socket_path = optarg; return true;
     case 'a': settings.socket_mode = mode("-a", optarg); return true;
     case 'u': settings.user = optarg; return true;
