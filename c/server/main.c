@@ -4,7 +4,6 @@
 #include <signal.h>
 #include <stdio.h>
 #include <stdlib.h>
-#include <sys/mman.h>
 #include <unistd.h>
 #include "clock.h"
 #include "maintainer.h"
@@ -59,9 +58,12 @@ static void listen_and_become(void) {
 
 static void prepare(void) {
   process_find_user();
+  process_become_daemon();
   clock_begin();
   process_raise_files();
-  if (settings.locks_memory && mlockall(MCL_CURRENT | MCL_FUTURE) != 0) process_fail("can't lock memory: -k");
+  process_allow_cores();
+  process_look_at_pages();
+  process_lock_memory();
   classes_make();
   if (!shelves_make() || !table_make())
     process_fail("no memory, or more than the shelves can have: choose a smaller -m");
@@ -102,6 +104,7 @@ int main(int count, char **words) {
   take_signals(&before);
   for (int i = 0; i < settings.threads; i++) start_thread(&threads[i], (uint32_t)i, "bump-serves", network_serve);
   start_thread(MAINTAINER, 0, "bump-maintains", maintainer_run);
+  process_detach();
   if (settings.verbosity > 0) fprintf(stderr, "bump-server: serves with %d threads\n", settings.threads);
   network_accept(&before);
   uint64_t connections = network_measure().current;

@@ -54,6 +54,9 @@ static const struct option LONG[] = { { "port", required_argument, NULL, 'p' },
                                       { "user", required_argument, NULL, 'u' },
                                       { "pidfile", required_argument, NULL, 'P' },
                                       { "lock-memory", no_argument, NULL, 'k' },
+                                      { "daemon", no_argument, NULL, 'd' },
+                                      { "enable-coredumps", no_argument, NULL, 'r' },
+                                      { "enable-largepages", no_argument, NULL, 'L' },
                                       { "verbose", no_argument, NULL, 'v' },
                                       { "extended", required_argument, NULL, 'o' },
                                       { "walk", no_argument, NULL, OPTION_WALK },
@@ -84,6 +87,9 @@ static const char HELP[] =
     "-u, --user=<name>            whom to become, where root starts it, who has to say so\n"
     "-P, --pidfile=<file>         write the number of the process there\n"
     "-k, --lock-memory            keep all memory out of swap\n"
+    "-d, --daemon                 run apart from the terminal, in /; the command ends once it serves\n"
+    "-r, --enable-coredumps       it may leave a core, as large as the limits allow\n"
+    "-L, --enable-largepages      large pages: the kernel gives them, or it says that it doesn't\n"
     "-v, --verbose                say more on standard error; -vv: each command\n"
     "    --walk                   free each item at the end, for tools that look for lost memory\n"
     "-h, --help                   this text\n"
@@ -203,6 +209,9 @@ static bool read_place(int option) {
     case 'u': settings.user = optarg; return true;
     case 'P': settings.process_file = optarg; return true;
     case 'k': settings.locks_memory = true; return true;
+    case 'd': settings.is_daemon = true; return true;
+    case 'r': settings.dumps_core = true; return true;
+    case 'L': settings.wants_large_pages = true; return true;
     case 'v': settings.verbosity++; return true;
     case 'U':
       if (whole("-U", optarg, 0, 65535) != 0 && settings.verbosity > 0)
@@ -249,7 +258,7 @@ static void read_environment(void) {
 void settings_read(int count, char **words) {
   int option;
   opterr = 0;
-  while ((option = getopt_long(count, words, "p:l:s:a:u:P:kvU:B:Vhm:t:c:b:R:I:f:n:MCFAo:", LONG, NULL)) != -1)
+  while ((option = getopt_long(count, words, "p:l:s:a:u:P:kdrLvU:B:Vhm:t:c:b:R:I:f:n:MCFAo:", LONG, NULL)) != -1)
     if (!read_place(option)) read_measure(option);
   if (optind < count) wrong(words[optind], "not an option");
   if (settings.hot_percent + settings.warm_percent > 80)

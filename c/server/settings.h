@@ -35,6 +35,9 @@ struct settings {
   bool may_flush;
   bool may_shut_down;
   bool locks_memory;
+  bool is_daemon;
+  bool dumps_core;
+  bool wants_large_pages;
   bool begins_crawling;
   bool maintains;
   bool walks;            /* the end frees each item, though the process's end frees all */
