@@ -56,7 +56,8 @@ static void listen_and_become(void) {
   if (by_file && !network_listen()) exit(EXIT_NO_START);
 }
 
-static void prepare(void) {
+/* Signals are taken before anybody can connect: so one that comes at once ends it as any later one does. */
+static void prepare(sigset_t *before) {
   process_find_user();
   process_become_daemon();
   clock_begin();
@@ -67,6 +68,7 @@ static void prepare(void) {
   classes_make();
   if (!shelves_make() || !table_make())
     process_fail("no memory, or more than the shelves can have: choose a smaller -m");
+  take_signals(before);
   listen_and_become();
   process_write_number();
 }
@@ -100,8 +102,7 @@ static int settle(uint64_t connections) {
 int main(int count, char **words) {
   sigset_t before;
   settings_read(count, words);
-  prepare();
-  take_signals(&before);
+  prepare(&before);
   for (int i = 0; i < settings.threads; i++) start_thread(&threads[i], (uint32_t)i, "bump-serves", network_serve);
   start_thread(MAINTAINER, 0, "bump-maintains", maintainer_run);
   process_detach();
