@@ -173,27 +173,30 @@ static inline uint64_t bump_cache_locks_sum(uint64_t one, uint64_t other) {
   return one > UINT64_MAX - other ? UINT64_MAX : one + other;
 }
 
-/* The sums of all parts' statistics, each part's of a moment of its own, and each at most 2^64 - 1. */
+/* Adds the statistics of one more part to those of others: each count is at most 2^64 - 1. */
+static inline void bump_cache_locks_sum_up(bump_cache_stats_of *sum, const bump_cache_stats_of *own) {
+  sum->number_hot += own->number_hot;
+  sum->number_warm += own->number_warm;
+  sum->number_cold += own->number_cold;
+  sum->number_temp += own->number_temp;
+  for (size_t at = offsetof(bump_cache_stats_of, moves_to_cold); at < sizeof *sum; at += sizeof(uint64_t)) {
+    uint64_t one, other;
+    memcpy(&one, (const char *)sum + at, sizeof one);
+    memcpy(&other, (const char *)own + at, sizeof other);
+    one = bump_cache_locks_sum(one, other);
+    memcpy((char *)sum + at, &one, sizeof one);
+  }
+}
+
+/* The sums of all parts' statistics, each part's of a moment of its own, and each count at most 2^64 - 1. */
 static inline bump_cache_stats_of bump_cache_locks_stats(bump_cache_locks *locks) {
-  bump_cache_stats_of sum = { 0, 0, 0, 0, 0, 0, 0, 0, 0, 0, 0, 0, 0, 0 };
+  bump_cache_stats_of sum;
+  memset(&sum, 0, sizeof sum);
   for (uint32_t i = 0; i < locks->config.parts; i++) {
     pthread_mutex_lock(&locks->of[i].mutex);
     bump_cache_stats_of own = bump_cache_stats(&locks->of[i].part);
     pthread_mutex_unlock(&locks->of[i].mutex);
-    sum.number_hot += own.number_hot;
-    sum.number_warm += own.number_warm;
-    sum.number_cold += own.number_cold;
-    sum.number_temp += own.number_temp;
-    sum.moves_to_cold = bump_cache_locks_sum(sum.moves_to_cold, own.moves_to_cold);
-    sum.moves_to_warm = bump_cache_locks_sum(sum.moves_to_warm, own.moves_to_warm);
-    sum.moves_within_lru = bump_cache_locks_sum(sum.moves_within_lru, own.moves_within_lru);
-    sum.evicted = bump_cache_locks_sum(sum.evicted, own.evicted);
-    sum.evicted_unfetched = bump_cache_locks_sum(sum.evicted_unfetched, own.evicted_unfetched);
-    sum.evicted_active = bump_cache_locks_sum(sum.evicted_active, own.evicted_active);
-    sum.direct_reclaims = bump_cache_locks_sum(sum.direct_reclaims, own.direct_reclaims);
-    sum.reclaimed = bump_cache_locks_sum(sum.reclaimed, own.reclaimed);
-    sum.expired_unfetched = bump_cache_locks_sum(sum.expired_unfetched, own.expired_unfetched);
-    sum.crawler_reclaimed = bump_cache_locks_sum(sum.crawler_reclaimed, own.crawler_reclaimed);
+    bump_cache_locks_sum_up(&sum, &own);
   }
   return sum;
 }

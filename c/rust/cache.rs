@@ -55,24 +55,30 @@ pub struct Counts {
     pub dropped: u64,
 }
 
-/// Statistics of a part, or the sums of several, by memcached's names.
-#[repr(C)]
-#[derive(Clone, Copy, Debug, Default, PartialEq, Eq)]
-pub struct Stats {
-    pub number_hot: u32,
-    pub number_warm: u32,
-    pub number_cold: u32,
-    pub number_temp: u32,
-    pub moves_to_cold: u64,
-    pub moves_to_warm: u64,
-    pub moves_within_lru: u64,
-    pub evicted: u64,
-    pub evicted_unfetched: u64,
-    pub evicted_active: u64,
-    pub direct_reclaims: u64,
-    pub reclaimed: u64,
-    pub expired_unfetched: u64,
-    pub crawler_reclaimed: u64,
+macro_rules! stats {
+    ($($size:ident)*; $($count:ident)*) => {
+        /// Statistics of a part, or the sums of several, by memcached's names.
+        #[repr(C)]
+        #[derive(Clone, Copy, Debug, Default, PartialEq, Eq)]
+        pub struct Stats {
+            $(pub $size: u32,)*
+            $(pub $count: u64,)*
+        }
+
+        /// Each count is at most 2^64 - 1.
+        impl AddAssign for Stats {
+            fn add_assign(&mut self, other: Stats) {
+                $(self.$size += other.$size;)*
+                $(self.$count = self.$count.saturating_add(other.$count);)*
+            }
+        }
+    };
+}
+
+stats! {
+    number_hot number_warm number_cold number_temp;
+    moves_to_cold moves_to_warm moves_within_lru
+    evicted evicted_unfetched evicted_active direct_reclaims reclaimed expired_unfetched crawler_reclaimed
 }
 
 /// Why no cache was opened.
@@ -322,25 +328,6 @@ impl Cache {
         let mut sum = Stats::default();
         self.parts().for_each(|mut part| sum += part.stats());
         sum
-    }
-}
-
-impl AddAssign for Stats {
-    fn add_assign(&mut self, other: Stats) {
-        self.number_hot += other.number_hot;
-        self.number_warm += other.number_warm;
-        self.number_cold += other.number_cold;
-        self.number_temp += other.number_temp;
-        self.moves_to_cold += other.moves_to_cold;
-        self.moves_to_warm += other.moves_to_warm;
-        self.moves_within_lru += other.moves_within_lru;
-        self.evicted += other.evicted;
-        self.evicted_unfetched += other.evicted_unfetched;
-        self.evicted_active += other.evicted_active;
-        self.direct_reclaims += other.direct_reclaims;
-        self.reclaimed += other.reclaimed;
-        self.expired_unfetched += other.expired_unfetched;
-        self.crawler_reclaimed += other.crawler_reclaimed;
     }
 }
 

@@ -1,23 +1,14 @@
 /* Commands that aren't about one key. */
 #define _GNU_SOURCE
-#include <ctype.h>
-#include <inttypes.h>
-#include <pthread.h>
 #include <signal.h>
 #include <stdio.h>
 #include <string.h>
 #include <unistd.h>
-#include "aging.h"
 #include "clock.h"
 #include "protocol.h"
+#include "shelf.h"
 
-enum {
-  VERBOSITY_MOST = 2,
-  CRAWLED_WITH_LOCK = 1000,
-  DUMPED_WITH_LOCK = 200,
-  MEGABYTES_LEAST = 8,
-  MEGABYTES_MOST = 1000000000
-};
+enum { VERBOSITY_MOST = 2, MEGABYTES_LEAST = 8, MEGABYTES_MOST = 1000000000 };
 
 void administer_flush(struct connection *connection, struct words *words) {
   int32_t given = 0;
@@ -108,70 +99,6 @@ static uint32_t class_named(const struct word *word) {
   return number_u32(word->at, &class) && class != 0 && class <= class_count() ? class : UINT32_MAX;
 }
 
-static void crawl(struct connection *connection, uint32_t class) {
-  uint32_t now = clock_now();
-  for (uint32_t number = 0; number < shelf_count(); number++) {
-    struct shelf *shelf = shelf_at(number);
-    if (!shelf_is_open(shelf) || (class != 0 && shelf->class != class)) continue;
-    for (uint32_t chunk = 0; chunk != BUMP_NONE;)
-      chunk = shelf_crawl(shelf, connection_counters(connection), chunk, CRAWLED_WITH_LOCK, now);
-  }
-}
-
-/* A key of any bytes, as a part of one line: what is no letter, digit, or one of four signs is told by its number. */
-static void put_encoded(struct connection *connection, const char *key, size_t bytes) {
-  static const char DIGITS[] = "0123456789ABCDEF";
-  char *at = connection_room(connection, bytes * 3);
-  if (at == NULL) return;
-  for (size_t i = 0; i < bytes; i++) {
-    unsigned char byte = (unsigned char)key[i];
-    if (byte != 0 && (isalnum(byte) || strchr("-._~", byte) != NULL)) {
-      *at++ = (char)byte;
-      continue;
-    }
-    *at++ = '%';
-    *at++ = DIGITS[byte >> 4];
-    *at++ = DIGITS[byte & 15];
-  }
-  connection_put_to(connection, at);
-}
-
-/* A line for each linked item among some chunks; and from where to go on. Under the shelf's lock. */
-static void dump_chunks(struct connection *connection, struct shelf *shelf, struct dump *dump) {
-  for (int i = 0; i < DUMPED_WITH_LOCK && dump->chunk < shelf->used; i++, dump->chunk++) {
-    bump_seen seen = bump_see(&shelf->book, dump->chunk);
-    if (!seen.linked) continue;
-    const struct item *item = (const struct item *)(uintptr_t)seen.label;
-    uint32_t expires = atomic_load(&item->expires);
-    connection_put(connection, "key=", 4);
-    put_encoded(connection, item->key, item->key_bytes);
-    connection_print(connection, " exp=%" PRId64 " la=%" PRId64 " cas=%" PRIu64 " fetch=%s cls=%" PRIu32 " size=%zu\n",
-                     expires != 0 ? clock_unix(expires) : -1, clock_unix((uint32_t)seen.time),
-                     atomic_load(&item->unique), seen.fetched ? "yes" : "no", shelf->class,
-                     item_reckoned(item->key_bytes, item->flags, item->bytes));
-  }
-}
-
-void administer_dump(struct connection *connection) {
-  struct dump *dump = &connection->dump;
-  while (!connection->ends && buffer_size(&connection->out) < SEND_MOST && dump->shelf < shelf_count()) {
-    struct shelf *shelf = shelf_at(dump->shelf);
-    bool is_meant = shelf_is_open(shelf) && (dump->class == 0 || dump->class == shelf->class);
-    if (is_meant) {
-      pthread_mutex_lock(&shelf->lock);
-      dump_chunks(connection, shelf, dump);
-      is_meant = dump->chunk < shelf->used;
-      pthread_mutex_unlock(&shelf->lock);
-    }
-    if (is_meant) continue;
-    dump->shelf++;
-    dump->chunk = 0;
-  }
-  if (dump->shelf < shelf_count()) return;
-  connection_put(connection, "END\r\n", 5);
-  connection->state = READS_LINE;
-}
-
 /* lru_crawler crawl CLASS, lru_crawler metadump CLASS */
 static void crawl_or_dump(struct connection *connection, const struct word *word) {
   uint32_t class = class_named(&word[2]);
@@ -183,11 +110,9 @@ static void crawl_or_dump(struct connection *connection, const struct word *word
   } else if (dumps && buffer_size(&connection->out) > 0) {
     connection_say(connection, "ERROR cannot pipeline other commands before metadump");
   } else if (dumps) {
-    connection->dump = (struct dump){ .class = class };
-    connection->state = DUMPS_ITEMS;
+    walk_dumping(connection, class);
   } else {
-    crawl(connection, class);
-    connection_say(connection, "OK");
+    walk_crawling(connection, class);
   }
 }
 

@@ -1,9 +1,18 @@
 #include "aging.h"
-#include "settings.h"
+#include "network.h"
 #include "table.h"
 
-/* memcached's numbers: of pulls while a lock is kept, and of tries to find an item that may be ended. */
-enum { PULLS_MOST = 500, PULLS_WITH_LOCK = 50, TRIES = 5, EVICTIONS_MOST = 100000 };
+/* memcached's numbers: of pulls while a lock is kept, and of tries to find an item that may be ended. And how many
+ * items are evicted in one turn, unless more than an OWED_MOST-th of the memory would be owed then. */
+enum {
+  PULLS_MOST = 500,
+  PULLS_WITH_LOCK = 50,
+  TRIES = 5,
+  EVICTIONS_MOST = 100000,
+  EVICTED_WITH_LOCK = 10,
+  EVICTED_AT_ONCE = 40,
+  OWED_MOST = 16
+};
 
 /* A pull names a list by the number that the list has. */
 _Static_assert((int)BUMP_TAIL_HOT == (int)BUMP_PLACE_HOT && (int)BUMP_TAIL_WARM == (int)BUMP_PLACE_WARM &&
@@ -143,18 +152,23 @@ bool shelf_evict(struct shelf *shelf, struct counters *counters, uint32_t now) {
   return true;
 }
 
-static bool is_over(void) {
-  return items_charged() + settings.bytes_before > atomic_load_explicit(&settings.memory, memory_order_relaxed);
+/* Whether more is charged than the memory, and that part of it where it isn't 0. */
+static bool is_over(uint64_t part) {
+  uint64_t memory = atomic_load_explicit(&settings.memory, memory_order_relaxed);
+  return items_charged() + settings.bytes_before > memory + (part != 0 ? memory / part : 0);
 }
 
-/* Gives back what ended items still had, and where that isn't enough evicts one. Whether something came of it. */
+bool room_is_owed(void) { return settings.evicts && is_over(0); }
+
+/* Gives back what ended items still had, and where that isn't enough evicts some. Whether something came of it. */
 static bool relieve(struct shelf *shelf, struct counters *counters, uint32_t now) {
   if (!shelf_is_open(shelf)) return false;
+  int evicted = 0;
   pthread_mutex_lock(&shelf->lock);
   shelf_reap(shelf);
-  bool done = !is_over() || (settings.evicts && shelf_evict(shelf, counters, now));
+  while (room_is_owed() && evicted < EVICTED_WITH_LOCK && shelf_evict(shelf, counters, now)) evicted++;
   pthread_mutex_unlock(&shelf->lock);
-  return done;
+  return evicted > 0 || !is_over(0);
 }
 
 /* The shelf that gives: this one, unless its items are much younger than those of the oldest one. */
@@ -172,10 +186,11 @@ static struct shelf *largest(void) {
 }
 
 bool room_make(struct counters *counters, struct shelf *shelf, uint32_t now) {
-  for (int tries = 0; is_over(); tries++) {
-    if (tries == EVICTIONS_MOST) return false;
+  for (int evicted = 0; is_over(0); evicted += EVICTED_WITH_LOCK) {
+    if (evicted >= EVICTED_AT_ONCE && settings.evicts && !is_over(OWED_MOST)) return network_wake(MAINTAINER), true;
+    if (evicted >= EVICTIONS_MOST) return false;
     if (!relieve(giver(shelf), counters, now) && !relieve(shelf, counters, now) && !relieve(largest(), counters, now))
-      return !is_over();
+      return !is_over(0);
   }
   return true;
 }

@@ -6,9 +6,14 @@
 
 #include "shelf.h"
 
-/* Makes room for an item of this shelf that is charged already: until what is charged fits into the memory. false: it
- * can't be made. Takes shelves' locks. */
+/* Makes room for an item of this shelf that is charged already: until what is charged fits into the memory, or so many
+ * items were evicted that others should have their turn. What is owed then is little, and is paid by whoever stores
+ * next, by those who go on with a large value, and by the maintainer. false: room can't be made. Takes shelves' locks.
+ */
 bool room_make(struct counters *counters, struct shelf *shelf, uint32_t now);
+
+/* Whether more is charged than fits, and items can be evicted. */
+bool room_is_owed(void);
 
 /* Ends one item, so that memory and a chunk come free: the last of COLD that nobody holds. Under the shelf's lock.
  * false: there is none. */

@@ -2,26 +2,32 @@
 
 static const char DIGITS[] = "ABCDEFGHIJKLMNOPQRSTUVWXYZabcdefghijklmnopqrstuvwxyz0123456789+/";
 
-/* -1: it is no digit. */
+/* A = counts as a digit of value 0. -1: it is none. */
 static int value_of(char digit) {
-  for (int value = 0; value < 64; value++)
-    if (DIGITS[value] == digit) return value;
-  return -1;
+  if (digit >= 'A' && digit <= 'Z') return digit - 'A';
+  if (digit >= 'a' && digit <= 'z') return digit - 'a' + 26;
+  if (digit >= '0' && digit <= '9') return digit - '0' + 52;
+  return digit == '+' ? 62 : digit == '/' ? 63 : digit == '=' ? 0 : -1;
+}
+
+static size_t count_digits(const char *text, size_t bytes) {
+  size_t digits = 0;
+  for (size_t at = 0; at < bytes; at++) digits += value_of(text[at]) >= 0;
+  return digits;
 }
 
 size_t base64_decode(char *text, size_t bytes) {
-  size_t given = 0;
-  if (bytes == 0 || bytes % 4 != 0) return 0;
-  for (size_t at = 0; at < bytes; at += 4) {
-    int digits = 4;
-    if (at + 4 == bytes && text[at + 3] == '=') digits = text[at + 2] == '=' ? 2 : 3;
-    unsigned group = 0;
-    for (int digit = 0; digit < 4; digit++) {
-      int value = digit < digits ? value_of(text[at + (size_t)digit]) : 0;
-      if (value < 0) return 0;
-      group = group << 6 | (unsigned)value;
-    }
-    for (int byte = 0; byte < digits - 1; byte++) text[given++] = (char)(group >> (16 - 8 * byte) & 255);
+  size_t given = 0, digits = 0, fills = 0;
+  unsigned group = 0;
+  if (count_digits(text, bytes) % 4 != 0) return 0;
+  for (size_t at = 0; at < bytes && (fills == 0 || digits % 4 != 0); at++) {
+    int value = value_of(text[at]);
+    if (value < 0) continue;
+    fills += text[at] == '=';
+    group = group << 6 | (unsigned)value;
+    if (++digits % 4 != 0) continue;
+    if (fills > 2) return 0;
+    for (size_t byte = 0; byte < 3 - fills; byte++) text[given++] = (char)(group >> (16 - 8 * byte) & 255);
   }
   return given;
 }

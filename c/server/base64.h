@@ -4,7 +4,8 @@
 
 #include <stddef.h>
 
-/* Decodes in place, and answers how many bytes it gave; 0: it is no base64. */
+/* Decodes in place, and answers how many bytes it gave; 0: it is no base64. As memcached's does, it skips what is no
+ * digit, and ends behind the first four digits of which one is a =. */
 size_t base64_decode(char *text, size_t bytes);
 
 /* Answers the place behind what it wrote: four characters for three bytes. */

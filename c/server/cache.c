@@ -60,6 +60,11 @@ void cache_hit(struct thread *thread, struct item *item, uint32_t now) {
   if (touched >= BUMP_TOUCH_QUEUED && touched <= BUMP_TOUCH_DROPPED_REFS_FULL) shelf_tell_counts(reader);
 }
 
+void cache_count_hit(struct thread *thread, struct item *item) {
+  uint32_t list = bump_marks(&reader_of(thread, item)->worker, THE_HOLD).segment;
+  shelf_count_event(item->shelf, thread->number, (enum shelf_event)(SHELF_hits_to_hot + list));
+}
+
 bool cache_was_hit(struct thread *thread, struct item *item) {
   return bump_marks(&reader_of(thread, item)->worker, THE_HOLD).fetched;
 }
@@ -115,6 +120,10 @@ struct item *cache_begin_item(struct thread *thread, const struct key *key, uint
   return NULL;
 }
 
+bool cache_waits_for_room(struct thread *thread, const struct item *item) {
+  return room_is_owed() && room_make(&thread->counters, shelf_at(item->shelf), clock_now()) && room_is_owed();
+}
+
 bool cache_grow_item(struct thread *thread, struct item *item, size_t room) {
   if (!item_may_have(item, room) || !has_room(thread, item)) return false;
   if (item_grow(item, room)) return true;
@@ -128,8 +137,9 @@ bool cache_complete_item(struct thread *thread, struct item *item) {
 }
 
 /* Whether a new item may take the place of the key's, NULL for none. Under the stripe's lock. */
-static enum store_answer judge(struct counters *counters, const struct store_terms *terms, struct item *item,
+static enum store_answer judge(struct thread *thread, const struct store_terms *terms, struct item *item,
                                struct item *old) {
+  struct counters *counters = &thread->counters;
   switch (terms->how) {
     case STORE_ADD: return old != NULL ? STORE_NOT : STORE_DONE;
     case STORE_REPLACE: return old != NULL ? STORE_DONE : STORE_NOT;
@@ -143,8 +153,16 @@ static enum store_answer judge(struct counters *counters, const struct store_ter
   }
   if (old == NULL) return count(counters, COUNT_cas_misses, 1), STORE_NOT_FOUND;
   uint64_t unique = atomic_load_explicit(&old->unique, memory_order_relaxed);
-  if (unique == terms->unique) return count(counters, COUNT_cas_hits, 1), STORE_DONE;
-  if (!terms->may_be_stale || terms->unique >= unique) return count(counters, COUNT_cas_badval, 1), STORE_EXISTS;
+  if (unique == terms->unique) {
+    count(counters, COUNT_cas_hits, 1);
+    shelf_count_event(old->shelf, thread->number, SHELF_cas_hits);
+    return STORE_DONE;
+  }
+  if (!terms->may_be_stale || terms->unique >= unique) {
+    count(counters, COUNT_cas_badval, 1);
+    shelf_count_event(old->shelf, thread->number, SHELF_cas_badval);
+    return STORE_EXISTS;
+  }
   atomic_store(&item->expires, atomic_load(&old->expires)); /* as long as the one that it can't replace rightly */
   item->is_stale = true;
   item->has_winner = old->has_winner;
@@ -179,7 +197,7 @@ static struct named name_item(struct thread *thread, struct item *item, const st
   table_lock(key.hash);
   struct item **at = table_find(&key), *old = *at;
   bool gone = old != NULL && is_gone(old, now);
-  named.answer = judge(&thread->counters, terms, item, gone ? NULL : old);
+  named.answer = judge(thread, terms, item, gone ? NULL : old);
   if (gone) count_gone(&thread->counters, old, now);
   if (old != NULL && (gone || named.answer == STORE_DONE)) {
     named.old = item_name(old);
@@ -199,8 +217,7 @@ static struct named name_item(struct thread *thread, struct item *item, const st
 enum store_answer cache_store(struct thread *thread, struct item *item, const struct store_terms *terms,
                               uint64_t *unique) {
   uint32_t now = clock_now();
-  struct shelf *shelf = shelf_at(item->shelf);
-  pthread_mutex_lock(&shelf->lock);
+  struct shelf *shelf = shelf_lock_for(item);
   if (!link_item(&thread->counters, shelf, item, now)) {
     shelf->counts.outofmemory++;
     pthread_mutex_unlock(&shelf->lock);
@@ -217,7 +234,7 @@ enum store_answer cache_store(struct thread *thread, struct item *item, const st
   return named.answer;
 }
 
-bool cache_end(struct thread *thread, const struct key *key) {
+struct shelf *cache_end(struct thread *thread, const struct key *key) {
   uint32_t now = clock_now();
   struct item_name old = { 0 };
   bool there = false;
@@ -231,7 +248,7 @@ bool cache_end(struct thread *thread, const struct key *key) {
   }
   table_unlock(key->hash);
   if (old.generation != 0) shelf_end_item(old);
-  return there;
+  return there ? shelf_at(old.shelf) : NULL;
 }
 
 bool cache_set_expiry(struct thread *thread, const struct key *key, uint32_t expires) {
@@ -239,6 +256,7 @@ bool cache_set_expiry(struct thread *thread, const struct key *key, uint32_t exp
   struct held held = cache_hold(thread, key, now);
   if (held.item == NULL) return false;
   atomic_store(&held.item->expires, expires);
+  shelf_count_event(held.item->shelf, thread->number, SHELF_touch_hits);
   cache_hit(thread, held.item, now);
   cache_release(thread, held.item);
   return true;
@@ -271,9 +289,10 @@ static struct item *changed(struct thread *thread, const struct key *key, const 
   return item;
 }
 
-static void count_delta(struct counters *counters, bool goes_up, bool hit) {
-  if (goes_up) count(counters, hit ? COUNT_incr_hits : COUNT_incr_misses, 1);
-  else count(counters, hit ? COUNT_decr_hits : COUNT_decr_misses, 1);
+static void count_delta(struct thread *thread, bool goes_up, const struct delta_done *done, bool hit) {
+  if (goes_up) count(&thread->counters, hit ? COUNT_incr_hits : COUNT_incr_misses, 1);
+  else count(&thread->counters, hit ? COUNT_decr_hits : COUNT_decr_misses, 1);
+  if (hit) shelf_count_event(done->shelf, thread->number, goes_up ? SHELF_incr_hits : SHELF_decr_hits);
 }
 
 /* One try: STORE_AGAIN where another thread stored the key meanwhile. */
@@ -285,6 +304,8 @@ static enum store_answer try_add(struct thread *thread, const struct key *key, c
   struct item *old = held.item, *item = NULL;
   uint64_t number;
   done->expired_before = atomic_load(&old->expires);
+  done->shelf = old->shelf;
+  done->bytes = old->bytes;
   if (delta->has_unique && atomic_load(&old->unique) != delta->unique) {
     *answer = DELTA_EXISTS;
   } else if (!number_of(old, &number)) {
@@ -307,6 +328,6 @@ enum delta_answer cache_add(struct thread *thread, const struct key *key, const 
   while (stored == STORE_AGAIN);
   if (stored == STORE_NO_MEMORY) answer = DELTA_NO_MEMORY;
   if (answer == DELTA_DONE || answer == DELTA_NOT_FOUND)
-    count_delta(&thread->counters, delta->goes_up, answer == DELTA_DONE);
+    count_delta(thread, delta->goes_up, done, answer == DELTA_DONE);
   return answer;
 }

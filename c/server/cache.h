@@ -19,6 +19,7 @@ struct held cache_hold_locked(struct thread *thread, const struct key *key, uint
 
 /* Of the item that is held. */
 void cache_hit(struct thread *thread, struct item *item, uint32_t now);
+void cache_count_hit(struct thread *thread, struct item *item); /* by its list: so before the hit itself */
 bool cache_was_hit(struct thread *thread, struct item *item);
 uint32_t cache_time(struct thread *thread, struct item *item);
 void cache_release(struct thread *thread, struct item *item);
@@ -43,6 +44,9 @@ struct item *cache_new_item(struct thread *thread, const struct key *key, uint32
 struct item *cache_begin_item(struct thread *thread, const struct key *key, uint32_t flags, uint32_t expires,
                               size_t bytes, size_t room);
 
+/* Whether room for more of its value is made later, in another turn: since others that were charged have none yet. */
+bool cache_waits_for_room(struct thread *thread, const struct item *item);
+
 /* Memory for more of its value. false: there is none. */
 bool cache_grow_item(struct thread *thread, struct item *item, size_t room);
 
@@ -54,8 +58,8 @@ bool cache_complete_item(struct thread *thread, struct item *item);
 enum store_answer cache_store(struct thread *thread, struct item *item, const struct store_terms *terms,
                               uint64_t *unique);
 
-/* Ends the key's item. Whether it had one. */
-bool cache_end(struct thread *thread, const struct key *key);
+/* Ends the key's item. Its shelf; NULL: it had none. */
+struct shelf *cache_end(struct thread *thread, const struct key *key);
 
 /* Gives the key's item another time to expire. Whether it has one. */
 bool cache_set_expiry(struct thread *thread, const struct key *key, uint32_t expires);
@@ -76,6 +80,8 @@ struct delta_done {
   uint64_t number;
   uint64_t unique;
   uint32_t expired_before; /* the time to expire that it had */
+  uint32_t bytes;          /* of its value, which is written anew */
+  uint16_t shelf;          /* where it stood before */
 };
 
 /* A value that changes is a new item, as somebody may be reading the old one's. */

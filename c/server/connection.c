@@ -69,3 +69,8 @@ void connection_say(struct connection *connection, const char *line) {
   if (!connection->is_quiet) connection_say_always(connection, line);
   connection->is_quiet = false;
 }
+
+void connection_walk(struct connection *connection, bool (*step)(struct connection *connection), const char *end) {
+  connection->walk = (struct walk){ .step = step, .end = end };
+  connection->state = WALKS;
+}

@@ -19,9 +19,15 @@ enum connection_state {
   READS_LINE,
   READS_VALUE,
   SKIPS_BYTES,  /* of a value that isn't stored */
-  ANSWERS_KEYS, /* of a get that has more than can be sent now */
-  DUMPS_ITEMS
+  CHECKS_KEYS,  /* of a get: whether none of them is too long */
+  ANSWERS_KEYS, /* of a get that has more than one turn answers */
+  WALKS         /* over items, classes or connections, for a command about many of them */
 };
+
+/* What a connection does before others have their turn, in steps of about a nanosecond: so another one waits for some
+ * tenths of a millisecond, whatever is asked. A byte is a step; the others are for a key that is looked up, a chunk
+ * that is looked at, an item that is ended, a line that tells of one, and what tells of a class. */
+enum { TURN_WORK = 150000, WORK_KEY = 500, WORK_LOOKED = 100, WORK_ENDED = 2500, WORK_TOLD = 1500, WORK_CLASS = 15000 };
 
 /* A value that is being received. */
 struct storing {
@@ -38,17 +44,26 @@ struct storing {
 
 /* The keys of a get that are still to be answered: in the buffer of what was received. */
 struct asked_keys {
+  char *begin; /* the first one */
   char *at;
   bool tells_unique;
   bool sets_expiry;
   uint32_t expires;
 };
 
-/* A walk over all items, or those of one class. */
-struct dump {
-  uint32_t shelf;
+/* A walk, of which each turn does a part. By the items of a list that were told last it finds its place again. */
+enum { WALK_KEPT = 8 };
+
+struct walk {
+  bool (*step)(struct connection *connection); /* a bounded part of it: whether that was the last one */
+  const char *end;                             /* what is told then */
+  uint32_t class;                              /* 0: all */
+  uint32_t number;                             /* of the shelf, the class or the file it has come to */
+  uint32_t part;                               /* of that: the thread or the list */
   uint32_t chunk;
-  uint32_t class; /* 0: all */
+  uint32_t left;                    /* so many lines may still be told */
+  uint32_t count;                   /* of what was told */
+  struct item_name last[WALK_KEPT]; /* by that count, from its beginning again and again */
 };
 
 struct connection {
@@ -66,13 +81,19 @@ struct connection {
   struct buffer out;
   struct storing storing;
   struct asked_keys keys;
-  struct dump dump;
+  struct walk walk;
   uint64_t skip;
-  uint32_t active; /* the tick of what it did last */
+  size_t sought;           /* of what was received, for the end of the line */
+  int32_t work;            /* that is left of its turn */
+  _Atomic uint32_t active; /* the tick of what it did last */
+  _Atomic int told;        /* what it does, as told of it by its thread: its state, and DOES_.. */
 };
 
+/* Beside its state, which another thread may not look at. */
+enum { DOES_WAIT = 0, DOES_SEND = 16, DOES_STEPS = 32 };
+
 /* More to send than that isn't made before some was sent. */
-enum { SEND_MOST = 1 << 20 };
+enum { SEND_MOST = 1 << 18 };
 
 static inline size_t buffer_size(const struct buffer *buffer) { return buffer->end - buffer->begin; }
 
@@ -95,6 +116,9 @@ void connection_print(struct connection *connection, const char *format, ...) __
 /* A line of an answer, unless no reply is wanted; and one that is told all the same. */
 void connection_say(struct connection *connection, const char *line);
 void connection_say_always(struct connection *connection, const char *line);
+
+/* Begins a walk, behind whose last step this line is told. */
+void connection_walk(struct connection *connection, bool (*step)(struct connection *connection), const char *end);
 
 static inline struct counters *connection_counters(struct connection *connection) {
   return &connection->thread->counters;

@@ -21,10 +21,13 @@ struct counters {
   _Atomic uint64_t of[COUNTER_COUNT];
 };
 
+static inline uint64_t counted(const struct counters *counters, enum counter which) {
+  return atomic_load_explicit(&counters->of[which], memory_order_relaxed);
+}
+
 /* By the one thread whose counters these are: a store, and no locked step. */
 static inline void count(struct counters *counters, enum counter which, uint64_t by) {
-  uint64_t before = atomic_load_explicit(&counters->of[which], memory_order_relaxed);
-  atomic_store_explicit(&counters->of[which], before + by, memory_order_relaxed);
+  atomic_store_explicit(&counters->of[which], counted(counters, which) + by, memory_order_relaxed);
 }
 
 #endif

@@ -13,7 +13,8 @@ enum {
   SHORT_LINE_MOST = 2048,
   LINE_MOST = 1 << 24,
   KEPT_MOST = 1 << 16,
-  RECEIVES_AT_ONCE = 16,
+  RECEIVED_AT_ONCE = 1 << 17,
+  SENT_AT_ONCE = 1 << 18, /* in a turn */
   BLANKS_MOST = 100,
   BINARY_REQUEST = 0x80
 };
@@ -27,30 +28,35 @@ static void give_back_large(struct buffer *buffer) {
   *buffer = (struct buffer){ 0 };
 }
 
-bool drive_send(struct connection *connection) {
+enum sent drive_send(struct connection *connection) {
   struct buffer *out = &connection->out;
-  while (buffer_size(out) > 0) {
-    ssize_t sent = send(connection->file, out->at + out->begin, buffer_size(out), MSG_NOSIGNAL);
+  for (size_t left = SENT_AT_ONCE; buffer_size(out) > 0;) {
+    if (left == 0) return SENT_SOME;
+    size_t bytes = buffer_size(out) < left ? buffer_size(out) : left;
+    ssize_t sent = send(connection->file, out->at + out->begin, bytes, MSG_NOSIGNAL);
     if (sent >= 0) {
       out->begin += (size_t)sent;
+      left -= (size_t)sent;
       count(connection_counters(connection), COUNT_bytes_written, (uint64_t)sent);
     } else if (errno == EAGAIN || errno == EWOULDBLOCK) {
-      return false;
+      return SENT_AS_MUCH_AS_GOES;
     } else if (errno != EINTR) {
       connection->ends = true; /* nobody is there to read it */
       out->begin = out->end;
     }
   }
   give_back_large(out);
-  return true;
+  return SENT_ALL;
 }
 
 enum received { RECEIVED_ALL, RECEIVED_SOME, RECEIVED_NOTHING, RECEIVED_END };
 
 static enum received receive_to(struct connection *connection, char *at, size_t room, size_t *bytes) {
+  if (room > RECEIVED_AT_ONCE) room = RECEIVED_AT_ONCE;
   ssize_t received = recv(connection->file, at, room, 0);
   if (received > 0) {
     *bytes = (size_t)received;
+    connection->work -= (int32_t)*bytes;
     count(connection_counters(connection), COUNT_bytes_read, *bytes);
     return *bytes < room ? RECEIVED_ALL : RECEIVED_SOME;
   }
@@ -139,11 +145,13 @@ static bool step_line(struct connection *connection) {
       return false;
     }
   }
-  char *end = memchr(line, '\n', buffer_size(in));
+  char *end = memchr(line + connection->sought, '\n', buffer_size(in) - connection->sought);
   if (end == NULL) {
+    connection->sought = buffer_size(in);
     refuse_long_line(connection);
     return false;
   }
+  connection->sought = 0;
   in->begin = (size_t)(end + 1 - in->at);
   if (end - line > 1 && end[-1] == '\r') end--;
   *end = 0;
@@ -151,22 +159,34 @@ static bool step_line(struct connection *connection) {
   return true;
 }
 
+/* One step of a walk; and behind the last one, what is told at its end. */
+static void step_walk(struct connection *connection) {
+  if (!connection->walk.step(connection)) return;
+  connection->state = READS_LINE;
+  connection_say(connection, connection->walk.end);
+}
+
 /* One step. false: it needs more to be received. */
 static bool step(struct connection *connection) {
   switch (connection->state) {
     case READS_VALUE: return step_value(connection);
     case SKIPS_BYTES: return step_skip(connection);
+    case CHECKS_KEYS: text_check_keys(connection); return true;
     case ANSWERS_KEYS: text_answer_keys(connection); return true;
-    case DUMPS_ITEMS: administer_dump(connection); return true;
+    case WALKS: step_walk(connection); return true;
     default: return step_line(connection);
   }
 }
 
-/* Steps on, until more has to be received, or much is to be sent, or others should have their turn. */
+/* Steps on, until more has to be received, or much is to be sent, or others should have their turn. Whatever a step is
+ * for, it may evict. */
 static bool step_on(struct connection *connection, int *requests) {
-  while (!connection->ends && buffer_size(&connection->out) < SEND_MOST && *requests > 0) {
+  const struct counters *counters = connection_counters(connection);
+  while (!connection->ends && buffer_size(&connection->out) < SEND_MOST && *requests > 0 && connection->work > 0) {
+    uint64_t evicted = counted(counters, COUNT_evictions);
     if (connection->state == READS_LINE) --*requests;
     if (!step(connection)) return false;
+    connection->work -= (int32_t)(counted(counters, COUNT_evictions) - evicted) * WORK_ENDED;
   }
   return true;
 }
@@ -175,22 +195,25 @@ static bool step_on(struct connection *connection, int *requests) {
 static bool has_more(const struct connection *connection) {
   const struct storing *storing = &connection->storing;
   if (connection->state == READS_VALUE && storing->received == storing->room) return true;
-  return buffer_size(&connection->in) > 0 || connection->state == ANSWERS_KEYS || connection->state == DUMPS_ITEMS;
+  return buffer_size(&connection->in) > 0 || connection->state >= CHECKS_KEYS;
 }
 
-/* Where less came than there was room for, nothing is left in the socket: the epoll tells when more comes. */
+/* Where less came than there was room for, nothing is left in the socket: the epoll tells when more comes. It tells at
+ * once where the turn is over, and more is there. */
 enum driven drive(struct connection *connection) {
   int requests = settings.requests_at_once;
   bool is_drained = false;
-  for (int receives = 0;;) {
+  connection->work = TURN_WORK;
+  for (;;) {
     bool could_go_on = step_on(connection, &requests);
-    if (!drive_send(connection)) return DRIVE_SENDS;
+    enum sent sent = drive_send(connection);
+    if (sent != SENT_ALL) return sent == SENT_SOME ? DRIVE_YIELDS : DRIVE_SENDS;
     if (connection->ends) return DRIVE_ENDS;
     if (could_go_on && has_more(connection)) {
-      if (requests <= 0) return DRIVE_YIELDS;
+      if (requests <= 0 || connection->work <= 0) return DRIVE_YIELDS;
       continue;
     }
-    if (is_drained || receives++ == RECEIVES_AT_ONCE) return DRIVE_RECEIVES;
+    if (is_drained || connection->work <= 0) return DRIVE_RECEIVES;
     enum received received = receive(connection);
     if (received == RECEIVED_END) return DRIVE_ENDS;
     if (received == RECEIVED_NOTHING) return DRIVE_RECEIVES;

@@ -66,7 +66,7 @@ static void prepare(sigset_t *before) {
   process_look_at_pages();
   process_lock_memory();
   classes_make();
-  if (!shelves_make() || !table_make())
+  if (!shelves_make() || !table_make() || !network_make())
     process_fail("no memory, or more than the shelves can have: choose a smaller -m");
   take_signals(before);
   listen_and_become();
@@ -117,6 +117,7 @@ int main(int count, char **words) {
   if (settings.walks) {
     shelves_free();
     table_free();
+    network_free();
   }
   process_forget_number();
   return status;

@@ -1,5 +1,7 @@
 #define _GNU_SOURCE
 #include "maintainer.h"
+#include <poll.h>
+#include <sys/eventfd.h>
 #include <time.h>
 #include "aging.h"
 #include "clock.h"
@@ -10,6 +12,9 @@ enum { PAUSE_LEAST = 1000000, PAUSE_MOST = 100000000 };
 
 /* Chunks of a shelf that are looked at in one go, and in one round of a second. */
 enum { CRAWLED_WITH_LOCK = 200, CRAWLED_AT_ONCE = 5000 };
+
+/* How often it makes room in one round, before it looks at the rings again. */
+enum { PAYS_AT_ONCE = 20 };
 
 static _Atomic uint64_t juggles;
 static _Atomic uint64_t crawls;
@@ -29,9 +34,22 @@ static void crawl(struct shelf *shelf, struct counters *counters, uint32_t now) 
   }
 }
 
+/* Sleeps, until it is woken or the time is over. */
+static void rest(const struct thread *thread, long nanoseconds) {
+  const struct timespec time = { 0, nanoseconds };
+  struct pollfd wait = { .fd = thread->wake, .events = POLLIN };
+  eventfd_t times;
+  if (ppoll(&wait, 1, &time, NULL) > 0) eventfd_read(thread->wake, &times);
+}
+
 /* One round. Whether there was something to do. */
 static bool attend(struct thread *thread, uint32_t now, bool crawls_now) {
   bool did = false;
+  shelves_open_ahead();
+  for (int times = 0; times < PAYS_AT_ONCE && room_is_owed(); times++) {
+    if (!room_make(&thread->counters, shelf_at(0), now)) break;
+    did = true;
+  }
   for (uint32_t number = 0; number < shelf_count(); number++) {
     struct shelf *shelf = shelf_at(number);
     if (!shelf_is_open(shelf)) continue;
@@ -48,8 +66,7 @@ void *maintainer_run(void *given) {
   long pause = PAUSE_LEAST;
   uint32_t crawled = 0;
   while (!atomic_load(&is_ending)) {
-    struct timespec time = { 0, pause };
-    nanosleep(&time, NULL);
+    rest(thread, pause);
     uint32_t now = clock_now();
     bool did = attend(thread, now, atomic_load(&settings.crawls) && now != crawled);
     crawled = now;

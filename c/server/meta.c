@@ -266,6 +266,9 @@ static void tell_found(struct connection *connection, const struct words *words,
   table_unlock(item->hash);
   put_line(connection, text, at);
   if (meta->tells_value) connection_put(connection, item->value, (size_t)item->bytes + 2);
+  connection->work -= meta->tells_value ? (int32_t)item->bytes : 0;
+  if (meta->has_expiry) shelf_count_event(item->shelf, thread->number, SHELF_touch_hits);
+  else cache_count_hit(thread, item);
   if (!meta->leaves_marks) cache_hit(thread, item, found->now);
   cache_release(thread, item);
   count(&thread->counters, meta->has_expiry ? COUNT_cmd_touch : COUNT_cmd_get, 1);
@@ -375,7 +378,7 @@ void meta_tell_stored(struct connection *connection, enum store_answer answer, u
 /* --------------------------------------------------------------------------------------------------------- md */
 
 /* Ends the key's item, or makes it a stale one. Answers the code that tells what became of it. */
-static const char *end_or_invalidate(const struct key *key, const struct meta *meta) {
+static const char *end_or_invalidate(struct thread *thread, const struct key *key, const struct meta *meta) {
   uint32_t now = clock_now();
   struct item_name old = { 0 };
   const char *code = "NF";
@@ -395,6 +398,7 @@ static const char *end_or_invalidate(const struct key *key, const struct meta *m
   } else if (item != NULL) {
     old = item_name(item);
     table_take_out(at);
+    shelf_count_event(old.shelf, thread->number, SHELF_delete_hits);
     code = "HD";
   }
   table_unlock(key->hash);
@@ -413,7 +417,7 @@ void meta_delete(struct connection *connection, struct words *words) {
   }
   struct key key = table_key(words->word[1].at, words->word[1].bytes);
   char text[ANSWER_MOST];
-  const char *code = end_or_invalidate(&key, &meta);
+  const char *code = end_or_invalidate(connection->thread, &key, &meta);
   bool done = code[0] == 'H';
   if (!done || !meta.invalidates)
     count(connection_counters(connection), done ? COUNT_delete_hits : COUNT_delete_misses, 1);
@@ -447,7 +451,9 @@ static enum store_answer begin_number(struct thread *thread, const struct key *k
 }
 
 static struct reckoned reckon(struct thread *thread, const struct key *key, const struct meta *meta, bool goes_up) {
-  const struct delta delta = { goes_up, meta->by, meta->has_unique, meta->unique, meta->has_expiry, meta->expires };
+  /* A number of 0 for cas is none, as in memcached; and not so in md and ms. */
+  const bool has_unique = meta->has_unique && meta->unique != 0;
+  const struct delta delta = { goes_up, meta->by, has_unique, meta->unique, meta->has_expiry, meta->expires };
   for (;;) {
     struct reckoned reckoned = { 0 };
     reckoned.answer = cache_add(thread, key, &delta, &reckoned.done);
@@ -517,6 +523,7 @@ void meta_arithmetic(struct connection *connection, struct words *words) {
   }
   struct key key = table_key(words->word[1].at, words->word[1].bytes);
   struct reckoned reckoned = reckon(connection->thread, &key, &meta, !goes_down);
+  connection->work -= (int32_t)reckoned.done.bytes;
   tell_reckoned(connection, words, &meta, &reckoned);
 }
 

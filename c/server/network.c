@@ -24,7 +24,9 @@ enum {
   LISTENERS_MOST = 16,
   EVENTS_MOST = 64,
   ACCEPTS_AT_ONCE = 16,
-  FAREWELL_MILLISECONDS = 1000
+  FAREWELL_MILLISECONDS = 1000,
+  FILES_BESIDE = 1024, /* connections have numbers below theirs and that, or aren't told of */
+  TOLD_WITH_LOCK = 16
 };
 
 struct thread threads[THREADS_MOST + 2];
@@ -34,6 +36,11 @@ static int listeners[LISTENERS_MOST];
 static int listeners_count;
 
 static _Atomic uint64_t current, ever, rejected, without_file;
+
+/* The connections by the numbers of their files. */
+static pthread_mutex_t seating = PTHREAD_MUTEX_INITIALIZER;
+static struct connection **seat;
+static int seats;
 
 struct network_measure network_measure(void) {
   return (struct network_measure){ atomic_load(&current), atomic_load(&ever), atomic_load(&rejected),
@@ -150,6 +157,22 @@ void network_unlisten(void) {
 
 /* ------------------------------------------------------------------------------------------------- accepting */
 
+void network_free(void) { free(seat); }
+
+bool network_make(void) {
+  seats = settings.connections + FILES_BESIDE;
+  seat = calloc((size_t)seats, sizeof *seat);
+  return seat != NULL;
+}
+
+/* Who takes a seat is told of by `stats conns`, as long as its file is open. */
+static void sit(int file, struct connection *connection) {
+  if (file >= seats) return;
+  pthread_mutex_lock(&seating);
+  seat[file] = connection;
+  pthread_mutex_unlock(&seating);
+}
+
 /* Both under the lock: so the thread can't end a connection that it isn't told of yet. */
 static bool add_connection(struct connection *connection) {
   struct thread *thread = connection->thread;
@@ -170,6 +193,7 @@ static void end_connection(struct connection *connection) {
   if (connection->next != NULL) connection->next->previous = connection->previous;
   *connection->previous = connection->next;
   pthread_mutex_unlock(&thread->lock);
+  sit(connection->file, NULL);
   close(connection->file); /* and so it leaves the epoll */
   connection_drop_value(connection);
   free(connection->in.at);
@@ -203,6 +227,7 @@ static void take_in(int file) {
   connection->active = clock_now();
   atomic_fetch_add(&current, 1);
   atomic_fetch_add(&ever, 1);
+  sit(file, connection);
   if (!add_connection(connection)) end_connection(connection);
 }
 
@@ -265,12 +290,16 @@ static void yield_to_others(struct connection *connection) {
   thread->yielded = connection;
 }
 
+static void note(struct connection *connection, int does) {
+  atomic_store_explicit(&connection->told, (int)connection->state + does, memory_order_relaxed);
+}
+
 static void attend(struct connection *connection) {
-  if (settings.idle_most > 0) connection->active = clock_now();
+  atomic_store_explicit(&connection->active, clock_now(), memory_order_relaxed);
   switch (drive(connection)) {
-    case DRIVE_RECEIVES: wait_for(connection, false); break;
-    case DRIVE_SENDS: wait_for(connection, true); break;
-    case DRIVE_YIELDS: yield_to_others(connection); break;
+    case DRIVE_RECEIVES: note(connection, DOES_WAIT), wait_for(connection, false); break;
+    case DRIVE_SENDS: note(connection, DOES_SEND), wait_for(connection, true); break;
+    case DRIVE_YIELDS: note(connection, DOES_STEPS), yield_to_others(connection); break;
     case DRIVE_ENDS: end_connection(connection); break;
   }
 }
@@ -288,6 +317,76 @@ static void attend_yielded(struct thread *thread) {
     connection->is_yielded = false;
     attend(connection);
   }
+}
+
+/* ------------------------------------------------------------------------------------------------ stats conns */
+
+static void tell(struct connection *to, int file, const char *name, const char *text) {
+  connection_print(to, "STAT %d:%s %s\r\n", file, name, text);
+}
+
+/* An address of a socket, as memcached writes it. */
+static void tell_address(struct connection *to, int file, const char *name,
+                         int (*ask)(int, struct sockaddr *, socklen_t *)) {
+  struct sockaddr_storage address = { 0 };
+  socklen_t bytes = sizeof address;
+  char host[INET6_ADDRSTRLEN] = "", text[sizeof(struct sockaddr_un) + 64] = "?";
+  const struct sockaddr_in *four = (const struct sockaddr_in *)&address;
+  const struct sockaddr_in6 *six = (const struct sockaddr_in6 *)&address;
+  if (ask(file, (struct sockaddr *)&address, &bytes) != 0) return;
+  if (address.ss_family == AF_INET) {
+    inet_ntop(AF_INET, &four->sin_addr, host, sizeof host);
+    snprintf(text, sizeof text, "tcp:%s:%u", host, (unsigned)ntohs(four->sin_port));
+  } else if (address.ss_family == AF_INET6) {
+    inet_ntop(AF_INET6, &six->sin6_addr, host, sizeof host);
+    snprintf(text, sizeof text, "tcp6:[%s]:%u", host, (unsigned)ntohs(six->sin6_port));
+  } else if (address.ss_family == AF_UNIX) {
+    snprintf(text, sizeof text, "unix:%s", ((const struct sockaddr_un *)&address)->sun_path);
+  }
+  tell(to, file, name, text);
+}
+
+/* memcached's names of what a connection does. */
+static const char *name_of(int told) {
+  if (told >= DOES_STEPS) return "conn_parse_cmd";
+  if (told >= DOES_SEND) return "conn_mwrite";
+  return told == READS_VALUE ? "conn_nread" : told == SKIPS_BYTES ? "conn_swallow" : "conn_read";
+}
+
+static void tell_seconds(struct connection *to, int file, uint32_t since) {
+  uint32_t now = clock_now();
+  connection_print(to, "STAT %d:secs_since_last_cmd %u\r\n", file, now > since ? now - since : 0);
+  to->work -= WORK_TOLD * 4;
+}
+
+static void tell_listeners(struct connection *to) {
+  for (int i = 0; i < listeners_count; i++) {
+    tell_address(to, listeners[i], "addr", getsockname);
+    tell(to, listeners[i], "state", "conn_listening");
+    tell_seconds(to, listeners[i], TICK_FIRST);
+  }
+}
+
+static void tell_connection(struct connection *to, const struct connection *of) {
+  int told = of == to ? DOES_STEPS : atomic_load_explicit(&of->told, memory_order_relaxed);
+  tell_address(to, of->file, "addr", getpeername);
+  tell_address(to, of->file, "listen_addr", getsockname);
+  tell(to, of->file, "state", name_of(told));
+  tell_seconds(to, of->file, atomic_load_explicit(&of->active, memory_order_relaxed));
+}
+
+/* A connection that ends leaves its seat before its file is closed. */
+bool network_tell(struct connection *connection) {
+  struct walk *walk = &connection->walk;
+  if (walk->part++ == 0) tell_listeners(connection);
+  pthread_mutex_lock(&seating);
+  for (int told = 0; told < TOLD_WITH_LOCK && walk->number < (uint32_t)seats && connection->work > 0;) {
+    const struct connection *of = seat[walk->number++];
+    connection->work--;
+    if (of != NULL) tell_connection(connection, of), told++;
+  }
+  pthread_mutex_unlock(&seating);
+  return walk->number == (uint32_t)seats;
 }
 
 /* A connection that did nothing for too long; NULL: there is none. */
@@ -321,7 +420,8 @@ static void farewell(struct thread *thread) {
   while (thread->connections != NULL) {
     struct connection *connection = thread->connections;
     struct pollfd wait = { .fd = connection->file, .events = POLLOUT };
-    for (int64_t left; !drive_send(connection) && (left = end - milliseconds()) > 0;) poll(&wait, 1, (int)left);
+    for (int64_t left; drive_send(connection) != SENT_ALL && (left = end - milliseconds()) > 0;)
+      poll(&wait, 1, (int)left);
     end_connection(connection);
   }
 }

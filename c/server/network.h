@@ -19,6 +19,13 @@ struct network_measure network_measure(void);
 bool network_listen(void);
 void network_unlisten(void);
 
+/* Room for all connections, by their files' numbers. false: no memory. */
+bool network_make(void);
+void network_free(void);
+
+/* One step of a walk that tells of those who listen and of each connection: its address, what it does, since when. */
+bool network_tell(struct connection *connection);
+
 /* Makes what a thread waits by. */
 bool network_prepare(struct thread *thread);
 

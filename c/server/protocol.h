@@ -12,14 +12,16 @@
 /* A line, without its end: 0 stands there. What comes behind it in the buffer may be read as its value. */
 void text_line(struct connection *connection, char *line);
 
-/* Goes on with a get's keys, until they are answered or much is to be sent. */
+/* Go on with a get's keys: looking whether they are keys, and answering them, as many as one turn has work for. */
+void text_check_keys(struct connection *connection);
 void text_answer_keys(struct connection *connection);
 
 /* Prepares for a value of so many bytes, which come next. Where there is no room for it, it is to be skipped. */
 void text_begin_value(struct connection *connection, const struct key *key, uint32_t flags, uint32_t expires,
                       size_t bytes);
 
-/* Makes room for more of the value than came. Where there is none, the rest of it is to be skipped. */
+/* Makes room for more of the value than came, or for a part of that: then it is called again in the next turn. Where
+ * there is none, the rest of it is to be skipped. */
 void text_grow_value(struct connection *connection);
 
 /* The value that was to come is there, with what stands behind it. */
@@ -52,8 +54,11 @@ void administer_shutdown(struct connection *connection, struct words *words);
 void administer_time(struct connection *connection, struct words *words);
 void administer_quit(struct connection *connection, struct words *words);
 
-/* Goes on with a walk over items. */
-void administer_dump(struct connection *connection);
+/* Walks over the items of a class, or of all where it is 0: one that ends what expired, and two that tell what is
+ * there. The last one tells at most so many items, and of one class alone. */
+void walk_crawling(struct connection *connection, uint32_t class);
+void walk_dumping(struct connection *connection, uint32_t class);
+void walk_listing(struct connection *connection, uint32_t class, uint32_t most);
 
 /* `stats`, and what it tells of one thing. */
 void statistics(struct connection *connection, struct words *words);

@@ -220,7 +220,7 @@ static bool read_place(int option) {
     case 'B':
       if (strcmp(optarg, "ascii") != 0 && strcmp(optarg, "auto") != 0) wrong("-B", "there is only ascii");
       return true;
-    case 'V': printf("bump-server %s, over bump %u\n", SERVER_VERSION, bump_version()); exit(EXIT_SETTLED);
+    case 'V': printf("bump-server over bump %u, as memcached %s\n", bump_version(), SERVER_VERSION); exit(EXIT_SETTLED);
     case 'h': fputs(HELP, stdout); exit(EXIT_SETTLED);
     default: return false;
   }

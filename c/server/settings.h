@@ -5,8 +5,8 @@
 #include <stdbool.h>
 #include <stdint.h>
 
-/* What clients are told: the version of memcached whose protocol is spoken, and that it is this server. */
-#define SERVER_VERSION "1.6.18-bump"
+/* What clients are told: the version of memcached whose protocol is spoken, and no more, as some read it as numbers. */
+#define SERVER_VERSION "1.6.18"
 
 /* As memcached's where it has them: sysexits.h names the two of a start that failed. */
 enum { EXIT_SETTLED = 0, EXIT_LEFT = 1, EXIT_WRONG_OPTION = 64, EXIT_NO_START = 71 };

@@ -2,17 +2,26 @@
 #include <stdlib.h>
 #include <string.h>
 #include "clock.h"
-#include "settings.h"
+#include "network.h"
 #include "table.h"
 
 /* A store has at most so many chunks. A ring has room for what comes between two rounds of the maintainer. */
-enum { CHUNKS_MOST = 1000000, SPARE_LEAST = 1024, RING = 1024, REFS_MOST = 65535, HOLDS = 1, CHUNK_BYTES = 48 };
+enum {
+  CHUNKS_FIRST = 2048,
+  CHUNKS_MOST = 1000000,
+  SPARE_LEAST = 1024,
+  RING = 1024,
+  REFS_MOST = 65535,
+  HOLDS = 1,
+  CHUNK_BYTES = 48,
+  SHELVES_TRIED = 8
+};
 
 struct shelf *shelves;
 static uint32_t shelves_count;
 static uint32_t
     first_of[CLASSES_MOST + 1]; /* the number of a class's first shelf; the next class's comes behind its last */
-static pthread_mutex_t opening = PTHREAD_MUTEX_INITIALIZER;
+static _Atomic uint32_t open_of[CLASSES_MOST + 1]; /* so many of a class's shelves are open: the first ones */
 
 /* As many chunks as the memory has room for, and an eighth more: for ended items that are still held, and for a limit
  * that is raised. */
@@ -21,24 +30,45 @@ static uint64_t chunks_of(uint32_t class) {
   return chunks + chunks / 8 + SPARE_LEAST;
 }
 
+/* The chunks of a class's next shelf, behind those that have so many together: as many again. So what a class takes
+ * grows with its items, and few shelves are enough. No small one comes last. */
+static uint32_t chunks_of_next(uint64_t before, uint64_t all) {
+  uint64_t chunks = before < CHUNKS_FIRST ? CHUNKS_FIRST : before;
+  if (before + chunks + chunks / 4 > all) chunks = all - before;
+  return chunks < CHUNKS_MOST ? (uint32_t)chunks : CHUNKS_MOST;
+}
+
+/* Numbers a class's shelves from one on, and answers the number behind them. Without a place for shelves it counts. */
+static uint32_t number_shelves(struct shelf *at, uint32_t class, uint32_t number) {
+  uint64_t all = chunks_of(class);
+  for (uint64_t before = 0; before < all; number++) {
+    uint32_t chunks = chunks_of_next(before, all);
+    if (at != NULL) {
+      at[number].number = number;
+      at[number].class = class;
+      at[number].before = before;
+      at[number].chunks = chunks;
+      pthread_mutex_init(&at[number].lock, NULL);
+    }
+    before += chunks;
+  }
+  return number;
+}
+
 bool shelves_make(void) {
   for (uint32_t class = 1; class <= class_count(); class++)
-    first_of[class + 1] = first_of[class] + (uint32_t)((chunks_of(class) + CHUNKS_MOST - 1) / CHUNKS_MOST);
+    first_of[class + 1] = number_shelves(NULL, class, first_of[class]);
   shelves_count = first_of[class_count() + 1];
   if (shelves_count > UINT16_MAX) return false;
   shelves = calloc(shelves_count, sizeof *shelves);
   if (shelves == NULL) return false;
-  for (uint32_t class = 1; class <= class_count(); class++) {
-    for (uint32_t number = first_of[class]; number < first_of[class + 1]; number++) {
-      shelves[number].number = number;
-      shelves[number].class = class;
-      pthread_mutex_init(&shelves[number].lock, NULL);
-    }
-  }
+  for (uint32_t class = 1; class <= class_count(); class++) number_shelves(shelves, class, first_of[class]);
   return true;
 }
 
 uint32_t shelf_count(void) { return shelves_count; }
+
+uint32_t shelf_first(uint32_t class) { return first_of[class]; }
 
 uint64_t shelves_bytes(void) {
   uint64_t sum = 0;
@@ -47,9 +77,17 @@ uint64_t shelves_bytes(void) {
   return sum;
 }
 
+/* Each of the open ones has its share of the keys, by its chunks. */
 uint16_t shelf_number(uint32_t class, uint32_t hash) {
-  uint32_t count = first_of[class + 1] - first_of[class];
-  return (uint16_t)(count == 1 ? first_of[class] : first_of[class] + (hash >> 8) % count);
+  uint32_t first = first_of[class], last = first + atomic_load(&open_of[class]);
+  if (last-- < first + 2) return (uint16_t)first;
+  uint64_t chunk = (uint64_t)hash * (shelves[last].before + shelves[last].chunks) >> 32;
+  while (first < last) {
+    uint32_t middle = (first + last + 1) / 2;
+    if (shelves[middle].before <= chunk) first = middle;
+    else last = middle - 1;
+  }
+  return (uint16_t)first;
 }
 
 /* Takes all parts out of the store that was opened. No number that isn't there can come: they are those configured. */
@@ -64,14 +102,12 @@ static bool take_parts(struct shelf *shelf, bump_store *store) {
 
 /* Makes an unopened shelf's store and its parts. */
 static bool make(struct shelf *shelf) {
-  size_t threads = (size_t)settings.threads;
-  uint64_t share = chunks_of(shelf->class) / (first_of[shelf->class + 1] - first_of[shelf->class]) + 1;
-  shelf->chunks = share > CHUNKS_MOST ? CHUNKS_MOST : (uint32_t)share;
-  shelf->reader = aligned_alloc(alignof(struct shelf_reader), threads * sizeof *shelf->reader);
-  shelf->lane = calloc(threads, sizeof *shelf->lane);
+  size_t workers = (size_t)settings.threads;
+  shelf->reader = aligned_alloc(alignof(struct shelf_reader), workers * sizeof *shelf->reader);
+  shelf->lane = calloc(workers, sizeof *shelf->lane);
   bump_store store = { 0 };
   const bump_config config = { .store = shelf->number + 1,
-                               .workers = (uint32_t)threads,
+                               .workers = (uint32_t)workers,
                                .capacity = RING,
                                .refs_limit = REFS_MOST,
                                .first_generation = 1,
@@ -85,22 +121,65 @@ static bool make(struct shelf *shelf) {
     shelf->lane = NULL;
     return false;
   }
-  memset(shelf->reader, 0, threads * sizeof *shelf->reader);
+  memset(shelf->reader, 0, workers * sizeof *shelf->reader);
   bool all = take_parts(shelf, &store);
   bump_close(store);
   return all;
 }
 
+/* Its own lock is all that whoever opens it has, and nobody else takes that before: so none of the others waits. */
 bool shelf_open(struct shelf *shelf) {
   if (shelf_is_open(shelf)) return true;
-  pthread_mutex_lock(&opening);
+  pthread_mutex_lock(&shelf->lock);
   bool open = shelf_is_open(shelf);
   if (!open && make(shelf)) {
     atomic_store(&shelf->is_open, true);
+    atomic_store(&open_of[shelf->class], shelf->number + 1 - first_of[shelf->class]);
     open = true;
   }
-  pthread_mutex_unlock(&opening);
+  pthread_mutex_unlock(&shelf->lock);
   return open;
+}
+
+/* The first of a class's shelves that isn't open; NULL: all are. */
+static struct shelf *unopened(uint32_t class) {
+  uint32_t number = first_of[class] + atomic_load(&open_of[class]);
+  return number < first_of[class + 1] ? &shelves[number] : NULL;
+}
+
+void shelves_open_ahead(void) {
+  for (uint32_t class = 1; class <= class_count(); class++) {
+    struct shelf *next = unopened(class);
+    if (next != NULL && next->number > first_of[class] && atomic_load(&shelves[next->number - 1].is_half_full))
+      shelf_open(next);
+  }
+}
+
+/* Whether a chunk is free. Under the shelf's lock. */
+static bool has_chunk(struct shelf *shelf) {
+  if (bump_size(&shelf->book, BUMP_PLACE_UNUSED) == 0) shelf_reap(shelf);
+  return bump_size(&shelf->book, BUMP_PLACE_UNUSED) > 0;
+}
+
+/* Locks a shelf if it has a free chunk. */
+static bool lock_with_chunk(struct shelf *shelf) {
+  pthread_mutex_lock(&shelf->lock);
+  if (has_chunk(shelf)) return true;
+  pthread_mutex_unlock(&shelf->lock);
+  return false;
+}
+
+/* Most have one in the key's own shelf. While a class grows it is the last one that has chunks. */
+struct shelf *shelf_lock_for(struct item *item) {
+  struct shelf *own = &shelves[item->shelf], *next;
+  if (lock_with_chunk(own)) return own;
+  uint32_t first = first_of[own->class], number = first + atomic_load(&open_of[own->class]);
+  for (int tries = 0; number > first && tries < SHELVES_TRIED; tries++)
+    if (lock_with_chunk(&shelves[--number])) return &shelves[item->shelf = (uint16_t)number];
+  while ((next = unopened(own->class)) != NULL && shelf_open(next))
+    if (lock_with_chunk(next)) return &shelves[item->shelf = (uint16_t)next->number];
+  pthread_mutex_lock(&own->lock);
+  return own;
 }
 
 static struct item *item_of(uint64_t label) { return (struct item *)(uintptr_t)label; }
@@ -119,6 +198,13 @@ void shelf_give_back(struct shelf *shelf, const uint32_t *chunks, uint32_t count
   for (uint32_t i = 0; i < count; i++) give_back(shelf, shelf_item(shelf, chunks[i]));
 }
 
+/* From then on the class needs its next shelf soon: the maintainer opens it, so that nobody waits for it. */
+static void note_half_full(struct shelf *shelf) {
+  if (bump_size(&shelf->book, BUMP_PLACE_UNUSED) > shelf->chunks / 2) return;
+  atomic_store(&shelf->is_half_full, true);
+  if (shelf->number + 1 < first_of[shelf->class + 1]) network_wake(MAINTAINER);
+}
+
 bool shelf_link(struct shelf *shelf, struct item *item, bool temporary, uint32_t now) {
   uint64_t label = (uintptr_t)item;
   bump_linked linked = temporary ? bump_link_temp(&shelf->book, label, now) : bump_link(&shelf->book, label, now);
@@ -129,6 +215,7 @@ bool shelf_link(struct shelf *shelf, struct item *item, bool temporary, uint32_t
   if (shelf->used <= linked.chunk) shelf->used = linked.chunk + 1;
   shelf->requested += item_reckoned(item->key_bytes, item->flags, item->bytes);
   atomic_fetch_add_explicit(&shelf->charged, item->charge, memory_order_relaxed);
+  if (!atomic_load_explicit(&shelf->is_half_full, memory_order_relaxed)) note_half_full(shelf);
   return true;
 }
 
@@ -151,6 +238,19 @@ void shelf_reap(struct shelf *shelf) {
     freed = bump_sweep_told(&shelf->book);
     shelf_give_back(shelf, freed.chunks, freed.count);
   } while (freed.count == BUMP_MOST_CHUNKS);
+}
+
+uint64_t shelf_counted(const struct shelf *shelf, enum shelf_event event) {
+  uint64_t sum = 0;
+  for (uint32_t thread = 0; thread < (uint32_t)settings.threads; thread++)
+    sum += atomic_load_explicit(&shelf->reader[thread].of[event], memory_order_relaxed);
+  return sum;
+}
+
+uint64_t shelf_moves(struct shelf *shelf) {
+  uint64_t sum = 0;
+  for (uint32_t thread = 0; thread < (uint32_t)settings.threads; thread++) sum += bump_moves(&shelf->book, thread);
+  return sum;
 }
 
 static void tell(_Atomic uint64_t *at, uint64_t number) { atomic_store_explicit(at, number, memory_order_relaxed); }

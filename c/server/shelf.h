@@ -1,7 +1,6 @@
 /* Shelves: where items stand in bump. A shelf is a store of bump's with one class of chunks, with a mutex for its book,
- * a worker for each thread that serves, and the lanes, which the maintainer has. A class of sizes has one shelf; or
- * several, among which a key's hash chooses, where it can have more items than the chunks of one store. A shelf is
- * opened when its first item comes.
+ * a worker for each thread that serves, and the lanes, which the maintainer has. A class of sizes begins with a small
+ * shelf, and gets further ones, larger and larger, as its items come; among those that are open a key's hash chooses.
  *
  * An item's label in bump is the address of its row. So whatever call tells that a chunk came free, tells which memory
  * goes back. A row may be read under its shelf's lock while its chunk is linked, under its stripe's lock while it is
@@ -27,11 +26,20 @@ struct shelf_counts {
   uint64_t moves_to_cold, moves_to_warm, moves_within_lru, direct_reclaims;
 };
 
+/* What a thread counts of a shelf, by the names that `stats slabs` and `stats items` tell it by. Those of hits are in
+ * the order of bump's lists. */
+#define SHELF_EVENTS(X)                                                                                                \
+  X(hits_to_hot) X(hits_to_warm) X(hits_to_cold) X(hits_to_temp) X(cmd_set) X(delete_hits) X(incr_hits) X(decr_hits)   \
+  X(cas_hits) X(cas_badval) X(touch_hits)
+
+#define SHELF_EVENT_AS_NAME(name) SHELF_##name,
+enum shelf_event { SHELF_EVENTS(SHELF_EVENT_AS_NAME) SHELF_EVENT_COUNT };
+
 /* A thread's part of a shelf. Its counts of bumps are bump's own, told again by the thread when they changed. */
 struct shelf_reader {
   alignas(64) bump_worker worker;
+  _Atomic uint64_t of[SHELF_EVENT_COUNT];
   _Atomic uint64_t attempted, accepted, full, busy, refs;
-  _Atomic uint64_t get_hits, cmd_set;
 };
 
 struct shelf_lane {
@@ -40,9 +48,11 @@ struct shelf_lane {
 };
 
 struct shelf {
-  _Atomic bool is_open; /* set once, when all below is there */
+  _Atomic bool is_open;      /* set once, when all below is there */
+  _Atomic bool is_half_full; /* or was once */
   uint32_t number;
   uint32_t class;
+  uint64_t before; /* the chunks of the class's shelves before it */
   pthread_mutex_t lock; /* of the book, and of what stands below it */
   bump_book book;
   uint32_t chunks;
@@ -50,6 +60,8 @@ struct shelf {
   uint32_t crawled;   /* up to here, in this round */
   uint64_t requested; /* bytes of items that aren't given back, as memcached reckons them */
   struct shelf_counts counts;
+  uint64_t forgotten[SHELF_EVENT_COUNT]; /* what was counted when `stats reset` was asked for last */
+  uint64_t forgotten_moves;              /* and of what bump counts, how many items bumps brought to WARM */
   _Atomic uint64_t charged; /* the same as they are charged */
   _Atomic uint32_t age;     /* of the item that would be evicted next, when the maintainer looked last */
   struct shelf_reader *reader;
@@ -60,6 +72,9 @@ struct shelf {
 bool shelves_make(void);
 uint32_t shelf_count(void);
 
+/* The number of a class's first shelf. Behind its last one comes the next class's first. */
+uint32_t shelf_first(uint32_t class);
+
 extern struct shelf *shelves;
 static inline struct shelf *shelf_at(uint32_t number) {
   return &shelves[number];
@@ -68,13 +83,30 @@ static inline struct shelf *shelf_at(uint32_t number) {
 /* About how much memory the open ones' stores take, beside their items. */
 uint64_t shelves_bytes(void);
 
-/* Where a key's item of a class stands. */
+/* Where a key's item of a class is to stand: one that is open, or the first one. */
 uint16_t shelf_number(uint32_t class, uint32_t hash);
 
-/* Opens a shelf, unless it is open. false: no memory. */
+/* Opens a shelf, unless it is open: the first of its class, or the one behind those that are open. false: no memory. */
 bool shelf_open(struct shelf *shelf);
 
+/* Opens the next shelf of each class whose last one is half full. The maintainer's. */
+void shelves_open_ahead(void);
+
+/* Locks the shelf where an item is to be linked: its own where that has a free chunk, or else another one of its class
+ * which has one, and which is its own from then on. Where none has one, its own is locked, for one to be evicted. */
+struct shelf *shelf_lock_for(struct item *item);
+
 static inline bool shelf_is_open(const struct shelf *shelf) { return atomic_load(&shelf->is_open); }
+
+/* Counts an event for a thread. By this thread. */
+static inline void shelf_count_event(uint32_t number, uint32_t thread, enum shelf_event event) {
+  _Atomic uint64_t *of = &shelf_at(number)->reader[thread].of[event];
+  atomic_store_explicit(of, atomic_load_explicit(of, memory_order_relaxed) + 1, memory_order_relaxed);
+}
+
+/* How often it was counted, by all threads; and how many items bumps brought to WARM, with the shelf's lock. */
+uint64_t shelf_counted(const struct shelf *shelf, enum shelf_event event);
+uint64_t shelf_moves(struct shelf *shelf);
 
 /* The calls below are made under the shelf's lock. */
 

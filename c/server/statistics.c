@@ -30,14 +30,14 @@ static const char *yes_or_no(bool yes) { return yes ? "yes" : "no"; }
 
 #define COUNTER_AS_TEXT(name) #name,
 static const char *const COUNTER_NAMES[] = { COUNTERS(COUNTER_AS_TEXT) };
+static const char *const EVENT_NAMES[] = { SHELF_EVENTS(COUNTER_AS_TEXT) };
 
 /* What was counted when `stats reset` was asked for last: so no thread's counters are written by another. */
 static _Atomic uint64_t forgotten[COUNTER_COUNT];
 
 static uint64_t counted_ever(enum counter which) {
   uint64_t sum = 0;
-  for (size_t i = 0; i < sizeof threads / sizeof *threads; i++)
-    sum += atomic_load_explicit(&threads[i].counters.of[which], memory_order_relaxed);
+  for (size_t i = 0; i < sizeof threads / sizeof *threads; i++) sum += counted(&threads[i].counters, which);
   return sum;
 }
 
@@ -51,23 +51,60 @@ static void reset(void) {
     if (which != COUNT_total_items) atomic_store(&forgotten[which], counted_ever(which));
   for (uint32_t number = 0; number < shelf_count(); number++) {
     struct shelf *shelf = shelf_at(number);
+    if (!shelf_is_open(shelf)) continue;
     pthread_mutex_lock(&shelf->lock);
     shelf->counts = (struct shelf_counts){ 0 };
+    for (enum shelf_event event = 0; event < SHELF_EVENT_COUNT; event++)
+      shelf->forgotten[event] = shelf_counted(shelf, event);
+    shelf->forgotten_moves = shelf_moves(shelf);
     pthread_mutex_unlock(&shelf->lock);
   }
 }
 
 /* ---------------------------------------------------------------------------------------------------- general */
 
-static uint64_t bytes_requested(void) {
-  uint64_t sum = 0;
+static void add_counts(struct shelf_counts *to, const struct shelf_counts *from) {
+  to->evicted += from->evicted;
+  to->evicted_nonzero += from->evicted_nonzero;
+  if (from->evicted_time > to->evicted_time) to->evicted_time = from->evicted_time;
+  to->evicted_unfetched += from->evicted_unfetched;
+  to->evicted_active += from->evicted_active;
+  to->outofmemory += from->outofmemory;
+  to->reclaimed += from->reclaimed;
+  to->expired_unfetched += from->expired_unfetched;
+  to->crawler_reclaimed += from->crawler_reclaimed;
+  to->crawler_items_checked += from->crawler_items_checked;
+  to->lrutail_reflocked += from->lrutail_reflocked;
+  to->moves_to_cold += from->moves_to_cold;
+  to->moves_to_warm += from->moves_to_warm;
+  to->moves_within_lru += from->moves_within_lru;
+  to->direct_reclaims += from->direct_reclaims;
+}
+
+/* What all shelves have together. */
+struct general_measure {
+  uint64_t requested, dropped;
+  struct shelf_counts counts;
+};
+
+static uint64_t read_count(const _Atomic uint64_t *count) { return atomic_load_explicit(count, memory_order_relaxed); }
+
+static struct general_measure measure_all(void) {
+  struct general_measure all = { 0 };
   for (uint32_t number = 0; number < shelf_count(); number++) {
     struct shelf *shelf = shelf_at(number);
+    if (!shelf_is_open(shelf)) continue;
     pthread_mutex_lock(&shelf->lock);
-    sum += shelf->requested;
+    all.requested += shelf->requested;
+    add_counts(&all.counts, &shelf->counts);
+    all.counts.moves_to_warm += shelf_moves(shelf) - shelf->forgotten_moves;
     pthread_mutex_unlock(&shelf->lock);
+    for (uint32_t thread = 0; thread < (uint32_t)settings.threads; thread++) {
+      const struct shelf_reader *reader = &shelf->reader[thread];
+      all.dropped += read_count(&reader->full) + read_count(&reader->busy) + read_count(&reader->refs);
+    }
   }
-  return sum;
+  return all;
 }
 
 static void tell_process(struct connection *connection) {
@@ -114,6 +151,23 @@ static const char *const LOGS[] = { "log_worker_dropped",   "log_worker_written"
                                     "round_robin_fallback", NULL };
 static const char *const AUTHENTICATION[] = { "auth_cmds", "auth_errors", NULL };
 
+static void tell_items_of_all(struct connection *connection, uint64_t items) {
+  struct general_measure all = measure_all();
+  tell(connection, "bytes", all.requested);
+  tell(connection, "curr_items", items);
+  tell_counters(connection, COUNT_total_items, COUNT_total_items);
+  tell(connection, "slab_global_page_pool", 0);
+  tell_counters(connection, COUNT_expired_unfetched, COUNT_evicted_unfetched);
+  if (settings.maintains) tell_counters(connection, COUNT_evicted_active, COUNT_evicted_active);
+  tell_counters(connection, COUNT_evictions, COUNT_lrutail_reflocked);
+  if (!settings.maintains) return;
+  tell(connection, "moves_to_cold", all.counts.moves_to_cold);
+  tell(connection, "moves_to_warm", all.counts.moves_to_warm);
+  tell(connection, "moves_within_lru", all.counts.moves_within_lru);
+  tell(connection, "direct_reclaims", all.counts.direct_reclaims);
+  tell(connection, "lru_bumps_dropped", all.dropped);
+}
+
 static void tell_general(struct connection *connection) {
   struct network_measure network = network_measure();
   tell_process(connection);
@@ -142,17 +196,22 @@ static void tell_general(struct connection *connection) {
   if (settings.maintains) tell(connection, "lru_maintainer_juggles", maintainer_rounds().juggles);
   tell_counters(connection, COUNT_malloc_fails, COUNT_malloc_fails);
   tell_nothing_of(connection, LOGS);
-  tell(connection, "bytes", bytes_requested());
-  tell(connection, "curr_items", table.items);
-  tell_counters(connection, COUNT_total_items, COUNT_total_items);
-  tell(connection, "slab_global_page_pool", 0);
-  tell_counters(connection, COUNT_expired_unfetched, COUNT_evicted_unfetched);
-  if (settings.maintains) tell_counters(connection, COUNT_evicted_active, COUNT_evicted_active);
-  tell_counters(connection, COUNT_evictions, COUNT_lrutail_reflocked);
+  tell_items_of_all(connection, table.items);
+}
+
+static void tell_lists(struct connection *connection) {
+  int ttl = atomic_load(&settings.temporary_ttl);
+  tell_word(connection, "lru_maintainer_thread", yes_or_no(settings.maintains));
+  tell_word(connection, "lru_segmented", "yes");
+  tell(connection, "hot_lru_pct", (uint64_t)atomic_load(&settings.hot_percent));
+  tell(connection, "warm_lru_pct", (uint64_t)atomic_load(&settings.warm_percent));
+  connection_print(connection, "STAT hot_max_factor %.2f\r\n", atomic_load(&settings.hot_factor));
+  connection_print(connection, "STAT warm_max_factor %.2f\r\n", atomic_load(&settings.warm_factor));
+  tell_word(connection, "temp_lru", yes_or_no(ttl >= 0));
+  connection_print(connection, "STAT temporary_ttl %d\r\n", ttl);
 }
 
 static void tell_settings(struct connection *connection) {
-  int ttl = atomic_load(&settings.temporary_ttl);
   tell(connection, "maxbytes", atomic_load(&settings.memory));
   tell(connection, "maxconns", (uint64_t)settings.connections);
   tell(connection, "tcpport", settings.socket_path != NULL ? 0 : (uint64_t)settings.port);
@@ -167,6 +226,7 @@ static void tell_settings(struct connection *connection) {
   connection_print(connection, "STAT growth_factor %.2f\r\n", settings.growth_factor);
   tell(connection, "chunk_size", settings.chunk_least);
   tell(connection, "num_threads", (uint64_t)settings.threads);
+  tell_word(connection, "detail_enabled", "no");
   tell(connection, "reqs_per_event", (uint64_t)settings.requests_at_once);
   tell_word(connection, "cas_enabled", yes_or_no(settings.has_unique));
   tell(connection, "tcp_backlog", (uint64_t)settings.backlog);
@@ -180,18 +240,15 @@ static void tell_settings(struct connection *connection) {
   tell(connection, "slab_chunk_max", settings.chunk_most);
   tell(connection, "idle_timeout", (uint64_t)settings.idle_most);
   tell_word(connection, "lru_crawler", yes_or_no(atomic_load(&settings.crawls)));
+  tell(connection, "tail_repair_time", 0);
   tell_word(connection, "flush_enabled", yes_or_no(settings.may_flush));
   tell_word(connection, "dump_enabled", "yes");
   tell_word(connection, "hash_algorithm", "murmur3");
-  tell_word(connection, "lru_maintainer_thread", yes_or_no(settings.maintains));
-  tell_word(connection, "lru_segmented", "yes");
-  tell(connection, "hot_lru_pct", (uint64_t)atomic_load(&settings.hot_percent));
-  tell(connection, "warm_lru_pct", (uint64_t)atomic_load(&settings.warm_percent));
-  connection_print(connection, "STAT hot_max_factor %.2f\r\n", atomic_load(&settings.hot_factor));
-  connection_print(connection, "STAT warm_max_factor %.2f\r\n", atomic_load(&settings.warm_factor));
-  tell_word(connection, "temp_lru", yes_or_no(ttl >= 0));
-  connection_print(connection, "STAT temporary_ttl %d\r\n", ttl);
+  tell_lists(connection);
+  tell(connection, "read_buf_mem_limit", 0);
+  tell_word(connection, "track_sizes", "no");
   tell_word(connection, "ssl_enabled", "no");
+  tell_word(connection, "memory_file", "(null)");
 }
 
 /* ---------------------------------------------------------------------------------------------- class by class */
@@ -199,54 +256,40 @@ static void tell_settings(struct connection *connection) {
 /* What a class's shelves have together. */
 struct class_measure {
   uint64_t size[BUMP_PLACE_RETIRED + 1]; /* of each list */
-  uint64_t chunks, requested, charged, moves, age;
-  uint64_t get_hits, cmd_set;
+  uint64_t age[BUMP_PLACE_COLD + 1];     /* of the last item of each, but TEMP's */
+  uint64_t chunks, requested, charged;
+  uint64_t of[SHELF_EVENT_COUNT];
   struct shelf_counts counts;
   bool is_open;
 };
 
-static void add_counts(struct shelf_counts *to, const struct shelf_counts *from) {
-  to->evicted += from->evicted;
-  to->evicted_nonzero += from->evicted_nonzero;
-  if (from->evicted_time > to->evicted_time) to->evicted_time = from->evicted_time;
-  to->evicted_unfetched += from->evicted_unfetched;
-  to->evicted_active += from->evicted_active;
-  to->outofmemory += from->outofmemory;
-  to->reclaimed += from->reclaimed;
-  to->expired_unfetched += from->expired_unfetched;
-  to->crawler_reclaimed += from->crawler_reclaimed;
-  to->crawler_items_checked += from->crawler_items_checked;
-  to->lrutail_reflocked += from->lrutail_reflocked;
-  to->moves_to_cold += from->moves_to_cold;
-  to->moves_to_warm += from->moves_to_warm;
-  to->moves_within_lru += from->moves_within_lru;
-  to->direct_reclaims += from->direct_reclaims;
+static void add_ages(struct class_measure *to, struct shelf *shelf, uint32_t now) {
+  for (uint32_t place = 0; place <= BUMP_PLACE_COLD; place++) {
+    bump_seen last = bump_look(&shelf->book, place, BUMP_NONE);
+    uint64_t age = last.answer == BUMP_SEE_SEEN && now > last.time ? now - last.time : 0;
+    if (age > to->age[place]) to->age[place] = age;
+  }
 }
 
 static void add_shelf(struct class_measure *to, struct shelf *shelf) {
   to->is_open = true;
   pthread_mutex_lock(&shelf->lock);
   for (uint32_t place = 0; place <= BUMP_PLACE_RETIRED; place++) to->size[place] += bump_size(&shelf->book, place);
-  for (uint32_t thread = 0; thread < (uint32_t)settings.threads; thread++)
-    to->moves += bump_moves(&shelf->book, thread);
+  add_ages(to, shelf, clock_now());
   to->chunks += shelf->chunks;
   to->requested += shelf->requested;
   add_counts(&to->counts, &shelf->counts);
+  to->counts.moves_to_warm += shelf_moves(shelf) - shelf->forgotten_moves;
+  for (enum shelf_event event = 0; event < SHELF_EVENT_COUNT; event++)
+    to->of[event] += shelf_counted(shelf, event) - shelf->forgotten[event];
   pthread_mutex_unlock(&shelf->lock);
   to->charged += atomic_load(&shelf->charged);
-  if (atomic_load(&shelf->age) > to->age) to->age = atomic_load(&shelf->age);
-  for (uint32_t thread = 0; thread < (uint32_t)settings.threads; thread++) {
-    to->get_hits += atomic_load_explicit(&shelf->reader[thread].get_hits, memory_order_relaxed);
-    to->cmd_set += atomic_load_explicit(&shelf->reader[thread].cmd_set, memory_order_relaxed);
-  }
 }
 
 static struct class_measure measure(uint32_t class) {
   struct class_measure all = { 0 };
-  for (uint32_t number = 0; number < shelf_count(); number++) {
-    struct shelf *shelf = shelf_at(number);
-    if (shelf->class == class && shelf_is_open(shelf)) add_shelf(&all, shelf);
-  }
+  for (uint32_t number = shelf_first(class); number < shelf_first(class + 1); number++)
+    if (shelf_is_open(shelf_at(number))) add_shelf(&all, shelf_at(number));
   return all;
 }
 
@@ -270,7 +313,9 @@ static void tell_items_of(struct connection *connection, uint32_t class, const s
     { "number_warm", of->size[BUMP_PLACE_WARM] },
     { "number_cold", of->size[BUMP_PLACE_COLD] },
     { "number_temp", of->size[BUMP_PLACE_TEMP] },
-    { "age", of->age },
+    { "age_hot", of->age[BUMP_PLACE_HOT] },
+    { "age_warm", of->age[BUMP_PLACE_WARM] },
+    { "age", of->age[BUMP_PLACE_COLD] },
     { "mem_requested", of->requested },
     { "evicted", of->counts.evicted },
     { "evicted_nonzero", of->counts.evicted_nonzero },
@@ -285,48 +330,63 @@ static void tell_items_of(struct connection *connection, uint32_t class, const s
     { "crawler_items_checked", of->counts.crawler_items_checked },
     { "lrutail_reflocked", of->counts.lrutail_reflocked },
     { "moves_to_cold", of->counts.moves_to_cold },
-    { "moves_to_warm", of->counts.moves_to_warm + of->moves },
+    { "moves_to_warm", of->counts.moves_to_warm },
     { "moves_within_lru", of->counts.moves_within_lru },
     { "direct_reclaims", of->counts.direct_reclaims },
   };
   for (size_t i = 0; i < sizeof TOLD / sizeof *TOLD; i++)
     tell_of(connection, "items:", class, TOLD[i].name, TOLD[i].number);
+  for (enum shelf_event event = SHELF_hits_to_hot; event <= SHELF_hits_to_temp; event++)
+    tell_of(connection, "items:", class, EVENT_NAMES[event], of->of[event]);
 }
 
-static void tell_items(struct connection *connection) {
-  for (uint32_t class = 1; class <= class_count(); class++) {
-    struct class_measure all = measure(class);
-    if (used(&all) > 0) tell_items_of(connection, class, &all);
-  }
+/* The class that a walk over classes comes to next; 0: it is over. */
+static uint32_t next_class(struct connection *connection) {
+  connection->work -= WORK_CLASS;
+  return connection->walk.number < class_count() ? ++connection->walk.number : 0;
+}
+
+static bool step_items(struct connection *connection) {
+  uint32_t class = next_class(connection);
+  if (class == 0) return true;
+  struct class_measure all = measure(class);
+  if (used(&all) > 0) tell_items_of(connection, class, &all);
+  return false;
 }
 
 /* There are no pages: a class is told to have as many as its items would fill, which memcached's tool wants. */
 enum { MEGABYTE = 1 << 20 };
 
-static void tell_slabs(struct connection *connection) {
-  uint64_t active = 0;
-  for (uint32_t class = 1; class <= class_count(); class++) {
-    struct class_measure all = measure(class);
-    if (!all.is_open) continue;
-    if (used(&all) > 0) active++;
-    tell_of(connection, "", class, "chunk_size", class_size(class));
-    tell_of(connection, "", class, "chunks_per_page", MEGABYTE / class_size(class));
-    tell_of(connection, "", class, "total_pages", (all.charged + MEGABYTE - 1) / MEGABYTE);
-    tell_of(connection, "", class, "total_chunks", all.chunks);
-    tell_of(connection, "", class, "used_chunks", used(&all));
-    tell_of(connection, "", class, "free_chunks", all.size[BUMP_PLACE_UNUSED]);
-    tell_of(connection, "", class, "free_chunks_end", all.size[BUMP_PLACE_UNUSED]);
-    tell_of(connection, "", class, "mem_charged", all.charged);
-    tell_of(connection, "", class, "get_hits", all.get_hits);
-    tell_of(connection, "", class, "cmd_set", all.cmd_set);
+static void tell_slabs_of(struct connection *connection, uint32_t class, const struct class_measure *of) {
+  tell_of(connection, "", class, "chunk_size", class_size(class));
+  tell_of(connection, "", class, "chunks_per_page", MEGABYTE / class_size(class));
+  tell_of(connection, "", class, "total_pages", (of->charged + MEGABYTE - 1) / MEGABYTE);
+  tell_of(connection, "", class, "total_chunks", of->chunks);
+  tell_of(connection, "", class, "used_chunks", used(of));
+  tell_of(connection, "", class, "free_chunks", of->size[BUMP_PLACE_UNUSED]);
+  tell_of(connection, "", class, "free_chunks_end", of->size[BUMP_PLACE_UNUSED]);
+  tell_of(connection, "", class, "mem_charged", of->charged);
+  uint64_t hits = 0;
+  for (enum shelf_event event = SHELF_hits_to_hot; event <= SHELF_hits_to_temp; event++) hits += of->of[event];
+  tell_of(connection, "", class, "get_hits", hits);
+  for (enum shelf_event event = SHELF_cmd_set; event < SHELF_EVENT_COUNT; event++)
+    tell_of(connection, "", class, EVENT_NAMES[event], of->of[event]);
+}
+
+static bool step_slabs(struct connection *connection) {
+  uint32_t class = next_class(connection);
+  if (class == 0) {
+    tell(connection, "active_slabs", connection->walk.count);
+    tell(connection, "total_malloced", settings.bytes_before + items_charged() + shelves_bytes());
+    return true;
   }
-  tell(connection, "active_slabs", active);
-  tell(connection, "total_malloced", settings.bytes_before + items_charged() + shelves_bytes());
+  struct class_measure all = measure(class);
+  if (all.is_open) tell_slabs_of(connection, class, &all);
+  if (used(&all) > 0) connection->walk.count++;
+  return false;
 }
 
 /* ------------------------------------------------------------------------------------------------ bump's counts */
-
-static uint64_t read_count(const _Atomic uint64_t *count) { return atomic_load_explicit(count, memory_order_relaxed); }
 
 /* What became of a thread's bumps of a class. */
 struct bump_measure {
@@ -348,10 +408,8 @@ static void add_bumps(struct bump_measure *to, struct shelf *shelf, uint32_t thr
 
 static void tell_bumps_of_thread(struct connection *connection, uint32_t class, uint32_t thread) {
   struct bump_measure all = { 0 };
-  for (uint32_t number = 0; number < shelf_count(); number++) {
-    struct shelf *shelf = shelf_at(number);
-    if (shelf->class == class && shelf_is_open(shelf)) add_bumps(&all, shelf, thread);
-  }
+  for (uint32_t number = shelf_first(class); number < shelf_first(class + 1); number++)
+    if (shelf_is_open(shelf_at(number))) add_bumps(&all, shelf_at(number), thread);
   const struct {
     const char *name;
     uint64_t number;
@@ -365,90 +423,68 @@ static void tell_bumps_of_thread(struct connection *connection, uint32_t class, 
                      TOLD[i].number);
 }
 
-static void tell_bump_of_class(struct connection *connection, uint32_t class) {
+static void tell_bump_of_class(struct connection *connection, uint32_t class, const struct class_measure *of) {
   static const char *const PLACES[] = { "hot", "warm", "cold", "temp", "dying", "unused", "retired" };
-  struct class_measure all = measure(class);
-  if (!all.is_open) return;
   for (uint32_t place = 0; place <= BUMP_PLACE_RETIRED; place++)
-    tell_of(connection, "bump:", class, PLACES[place], all.size[place]);
-  for (uint32_t thread = 0; thread < (uint32_t)settings.threads; thread++)
-    tell_bumps_of_thread(connection, class, thread);
+    tell_of(connection, "bump:", class, PLACES[place], of->size[place]);
 }
 
-static void tell_bump(struct connection *connection) {
-  for (uint32_t class = 1; class <= class_count(); class++) tell_bump_of_class(connection, class);
-  tell_counters(connection, COUNT_get_busy, COUNT_get_stale);
-  tell(connection, "bytes_under_way", items_under_way());
-}
-
-/* --------------------------------------------------------------------------------------------------- the keys */
-
-/* The items of a list, front first, at most so many; answers how many. Binary keys are left out, as they may have ends
- * of lines. Under the shelf's lock. */
-static uint32_t dump_list(struct connection *connection, struct shelf *shelf, uint32_t place, uint32_t most) {
-  uint32_t told = 0;
-  for (uint32_t from = BUMP_NONE; told < most;) {
-    bump_walked walked = bump_walk(&shelf->book, place, from);
-    for (uint32_t i = 0; i < walked.count && told < most; i++, told++) {
-      const struct item *item = shelf_item(shelf, walked.chunks[i]);
-      if (item->has_binary_key) continue;
-      uint32_t expires = atomic_load(&item->expires);
-      connection_print(connection, "ITEM %.*s [%" PRIu32 " b; %" PRId64 " s]\r\n", (int)item->key_bytes, item->key,
-                       item->bytes, expires != 0 ? clock_unix(expires) : 0);
-    }
-    from = walked.next;
-    if (from == BUMP_NONE) break;
+/* A class, and then a thread of this class. */
+static bool step_bump(struct connection *connection) {
+  struct walk *walk = &connection->walk;
+  if (walk->part < walk->left) {
+    connection->work -= WORK_CLASS;
+    tell_bumps_of_thread(connection, walk->number, walk->part++);
+    return false;
   }
-  return told;
-}
-
-/* memcached tells two megabytes at most. */
-enum { DUMP_MOST = 20000 };
-
-static void dump_class(struct connection *connection, uint32_t class, uint32_t most) {
-  static const uint32_t PLACES[] = { BUMP_PLACE_COLD, BUMP_PLACE_HOT, BUMP_PLACE_WARM, BUMP_PLACE_TEMP };
-  if (most == 0 || most > DUMP_MOST) most = DUMP_MOST;
-  for (uint32_t number = 0; number < shelf_count(); number++) {
-    struct shelf *shelf = shelf_at(number);
-    if (shelf->class != class || !shelf_is_open(shelf)) continue;
-    pthread_mutex_lock(&shelf->lock);
-    for (int i = 0; i < 4; i++) most -= dump_list(connection, shelf, PLACES[i], most);
-    pthread_mutex_unlock(&shelf->lock);
+  uint32_t class = next_class(connection);
+  if (class == 0) {
+    tell_counters(connection, COUNT_get_busy, COUNT_get_stale);
+    tell(connection, "bytes_under_way", items_under_way());
+    return true;
   }
+  struct class_measure all = measure(class);
+  walk->part = 0;
+  walk->left = all.is_open ? (uint32_t)settings.threads : 0;
+  if (all.is_open) tell_bump_of_class(connection, class, &all);
+  return false;
 }
 
-/* stats cachedump CLASS LIMIT. Whether something was told. */
-static bool dump(struct connection *connection, const struct words *words) {
+/* ------------------------------------------------------------------------------------------------ which it is */
+
+/* stats cachedump CLASS LIMIT */
+static void dump(struct connection *connection, const struct words *words) {
   uint32_t class, most;
-  const char *fault = NULL;
-  if (words->count < 4) fault = "CLIENT_ERROR bad command line";
-  else if (!number_u32(words->word[2].at, &class) || !number_u32(words->word[3].at, &most)) fault = WRONG_FORMAT;
-  else if (class >= CLASSES_MOST) fault = "CLIENT_ERROR Illegal slab id";
-  if (fault == NULL) dump_class(connection, class, most);
-  else connection_say(connection, fault);
-  return fault == NULL;
+  if (words->count < 4) {
+    connection_say(connection, "CLIENT_ERROR bad command line");
+  } else if (!number_u32(words->word[2].at, &class) || !number_u32(words->word[3].at, &most)) {
+    connection_say(connection, WRONG_FORMAT);
+  } else if (class >= CLASSES_MOST) {
+    connection_say(connection, "CLIENT_ERROR Illegal slab id");
+  } else {
+    walk_listing(connection, class, most);
+  }
 }
 
-/* Whether END follows. */
-static bool tell_named(struct connection *connection, const struct words *words) {
-  const struct word *what = &words->word[1];
-  if (word_is(what, "settings")) tell_settings(connection);
-  else if (word_is(what, "items")) tell_items(connection);
-  else if (word_is(what, "slabs")) tell_slabs(connection);
-  else if (word_is(what, "bump")) tell_bump(connection);
-  else if (word_is(what, "sizes")) tell_word(connection, "sizes_status", "disabled");
-  else if (word_is(what, "conns")) return true; /* nothing is told of single ones */
-  else if (word_is(what, "cachedump")) return dump(connection, words);
-  else if (word_is(what, "reset")) return reset(), connection_say(connection, "RESET"), false;
-  else if (word_is(what, "detail"))
-    return connection_say(connection, "CLIENT_ERROR usage: stats detail on|off|dump"), false;
-  else return connection_say(connection, "ERROR"), false;
+/* What is told at once, and then END. false: it is something else. */
+static bool is_told(struct connection *connection, const struct words *words) {
+  if (words->count == 1) tell_general(connection);
+  else if (word_is(&words->word[1], "settings")) tell_settings(connection);
+  else if (word_is(&words->word[1], "sizes")) tell_word(connection, "sizes_status", "disabled");
+  else return false;
+  connection_say(connection, "END");
   return true;
 }
 
 void statistics(struct connection *connection, struct words *words) {
-  bool ends = true;
-  if (words->count == 1) tell_general(connection);
-  else ends = tell_named(connection, words);
-  if (ends) connection_put(connection, "END\r\n", 5);
+  const struct word *what = &words->word[1];
+  if (is_told(connection, words)) return;
+  if (word_is(what, "items")) connection_walk(connection, step_items, "END");
+  else if (word_is(what, "slabs")) connection_walk(connection, step_slabs, "END");
+  else if (word_is(what, "bump")) connection_walk(connection, step_bump, "END");
+  else if (word_is(what, "conns")) connection_walk(connection, network_tell, "END");
+  else if (word_is(what, "cachedump")) dump(connection, words);
+  else if (word_is(what, "reset")) reset(), connection_say(connection, "RESET");
+  else if (word_is(what, "detail")) connection_say(connection, "CLIENT_ERROR usage: stats detail on|off|dump");
+  else connection_say(connection, "ERROR");
 }

@@ -3,6 +3,7 @@
 #include <inttypes.h>
 #include <stdio.h>
 #include <string.h>
+#include "aging.h"
 #include "clock.h"
 #include "protocol.h"
 #include "shelf.h"
@@ -22,6 +23,7 @@ bool text_wants_no_reply(struct connection *connection, const struct words *word
 static void put_item(struct connection *connection, const struct item *item, bool tells_unique) {
   char *at = connection_room(connection, VALUE_LINE_MOST + item->bytes + 2);
   if (at == NULL) return;
+  connection->work -= (int32_t)item->bytes;
   memcpy(at, "VALUE ", 6);
   memcpy(at + 6, item->key, item->key_bytes);
   at += 6 + item->key_bytes;
@@ -38,11 +40,6 @@ static void put_item(struct connection *connection, const struct item *item, boo
   connection_put_to(connection, at + 2 + item->bytes + 2);
 }
 
-static void count_hit(struct connection *connection, const struct item *item) {
-  _Atomic uint64_t *hits = &shelf_at(item->shelf)->reader[connection->thread->number].get_hits;
-  atomic_store_explicit(hits, atomic_load_explicit(hits, memory_order_relaxed) + 1, memory_order_relaxed);
-}
-
 static void answer_key(struct connection *connection, const struct key *key, uint32_t now) {
   const struct asked_keys *keys = &connection->keys;
   struct thread *thread = connection->thread;
@@ -54,8 +51,9 @@ static void answer_key(struct connection *connection, const struct key *key, uin
   }
   if (keys->sets_expiry) atomic_store(&held.item->expires, keys->expires);
   put_item(connection, held.item, keys->tells_unique);
+  if (keys->sets_expiry) shelf_count_event(held.item->shelf, thread->number, SHELF_touch_hits);
+  else cache_count_hit(thread, held.item);
   cache_hit(thread, held.item, now);
-  count_hit(connection, held.item);
   cache_release(thread, held.item);
   count(&thread->counters, keys->sets_expiry ? COUNT_touch_hits : COUNT_get_hits, 1);
 }
@@ -76,32 +74,48 @@ static int next_keys(char *at, struct key *group) {
   return count;
 }
 
+/* Whether its turn goes on, and more can be made for it to send. */
+static bool may_go_on(const struct connection *connection) {
+  return !connection->ends && connection->work > 0 && buffer_size(&connection->out) < SEND_MOST;
+}
+
 void text_answer_keys(struct connection *connection) {
   struct key group[GROUP_MOST];
   uint32_t now = clock_now();
-  connection->state = ANSWERS_KEYS;
-  while (!connection->ends && buffer_size(&connection->out) < SEND_MOST) {
+  while (may_go_on(connection)) {
     int count = next_keys(connection->keys.at, group);
     if (count == 0) {
       connection_put(connection, "END\r\n", 5);
       connection->state = READS_LINE;
       return;
     }
-    for (int i = 0; i < count && !connection->ends && buffer_size(&connection->out) < SEND_MOST; i++) {
+    for (int i = 0; i < count && may_go_on(connection); i++) {
       connection->keys.at = (char *)group[i].at + group[i].bytes;
       answer_key(connection, &group[i], now);
+      connection->work -= WORK_KEY;
     }
   }
 }
 
-/* No key is answered where one of them is too long. */
-static bool are_keys(char *at) {
-  for (;;) {
-    at = word_begin(at);
-    char *end = word_end(at);
-    if (at == end) return true;
-    if (end - at > KEY_MOST) return false;
-    at = end;
+/* No key is answered where one of them is too long. They are looked at before, as many in a turn as go: a line may have
+ * millions. */
+void text_check_keys(struct connection *connection) {
+  for (char *at = connection->keys.at, *end; connection->work > 0; at = end) {
+    end = at = word_begin(at);
+    while (*end != 0 && *end != ' ' && end - at <= KEY_MOST) end++;
+    connection->work -= (int32_t)(end - connection->keys.at);
+    connection->keys.at = end;
+    if (end - at > KEY_MOST) {
+      connection->state = READS_LINE;
+      connection_say(connection, WRONG_FORMAT);
+      return;
+    }
+    if (at == end) {
+      connection->keys.at = connection->keys.begin;
+      connection->state = ANSWERS_KEYS;
+      text_answer_keys(connection);
+      return;
+    }
   }
 }
 
@@ -125,12 +139,9 @@ static void get(struct connection *connection, char *at, bool tells_unique, bool
     connection->keys.expires = clock_expiry(given);
     at = keys;
   }
-  if (!are_keys(at)) {
-    connection_say(connection, WRONG_FORMAT);
-    return;
-  }
-  connection->keys.at = at;
-  text_answer_keys(connection);
+  connection->keys.begin = connection->keys.at = at;
+  connection->state = CHECKS_KEYS;
+  text_check_keys(connection);
 }
 
 /* Whether a line is one of the gets, which is answered then. */
@@ -161,13 +172,14 @@ static void tell_stored(struct connection *connection, enum store_answer answer)
 }
 
 /* The key's value with another one behind it or before it, as a new item; NULL: no memory, or too large for an item. */
-static struct item *joined(struct thread *thread, const struct key *key, const struct item *old,
+static struct item *joined(struct connection *connection, const struct key *key, const struct item *old,
                            const struct item *more, bool behind) {
   uint32_t expires = atomic_load(&old->expires);
   size_t bytes = (size_t)old->bytes + more->bytes;
   if (class_for(item_reckoned(key->bytes, old->flags, bytes)) == 0) return NULL;
-  struct item *item = cache_new_item(thread, key, old->flags, expires, bytes);
+  struct item *item = cache_new_item(connection->thread, key, old->flags, expires, bytes);
   if (item == NULL) return NULL;
+  connection->work -= (int32_t)bytes;
   const struct item *first = behind ? old : more, *second = behind ? more : old;
   memcpy(item->value, first->value, first->bytes);
   memcpy(item->value + first->bytes, second->value, second->bytes);
@@ -176,8 +188,9 @@ static struct item *joined(struct thread *thread, const struct key *key, const s
 }
 
 /* One try to append or prepend: STORE_AGAIN where another thread stored the key meanwhile. */
-static enum store_answer try_join(struct thread *thread, const struct item *more, const struct store_terms *terms,
-                                  uint64_t *unique) {
+static enum store_answer try_join(struct connection *connection, const struct item *more,
+                                  const struct store_terms *terms, uint64_t *unique) {
+  struct thread *thread = connection->thread;
   const struct key key = { more->key, more->key_bytes, more->hash };
   struct held held = cache_hold(thread, &key, clock_now());
   if (held.item == NULL) return STORE_NOT;
@@ -186,7 +199,7 @@ static enum store_answer try_join(struct thread *thread, const struct item *more
     return STORE_EXISTS;
   }
   const struct store_terms swap = { .how = STORE_SWAP, .expected = item_name(held.item) };
-  struct item *item = joined(thread, &key, held.item, more, terms->how == STORE_APPEND);
+  struct item *item = joined(connection, &key, held.item, more, terms->how == STORE_APPEND);
   cache_release(thread, held.item);
   return item != NULL ? cache_store(thread, item, &swap, unique) : STORE_NOT;
 }
@@ -196,7 +209,7 @@ static enum store_answer store(struct connection *connection, struct item *item,
   const struct store_terms *terms = &connection->storing.terms;
   if (terms->how != STORE_APPEND && terms->how != STORE_PREPEND) return cache_store(thread, item, terms, unique);
   enum store_answer answer;
-  do answer = try_join(thread, item, terms, unique);
+  do answer = try_join(connection, item, terms, unique);
   while (answer == STORE_AGAIN);
   item_free(item);
   return answer;
@@ -235,11 +248,10 @@ void text_end_value(struct connection *connection) {
     give_value_up(connection, 0);
     return;
   }
-  struct shelf_reader *reader = &shelf_at(item->shelf)->reader[connection->thread->number];
   connection->storing.item = NULL;
   connection->state = READS_LINE;
   count(connection_counters(connection), COUNT_cmd_set, 1);
-  atomic_fetch_add_explicit(&reader->cmd_set, 1, memory_order_relaxed);
+  shelf_count_event(item->shelf, connection->thread->number, SHELF_cmd_set);
   if (memcmp(item->value + item->bytes, "\r\n", 2) != 0) {
     item_free(item);
     if (connection->storing.is_meta) connection_say_always(connection, "CLIENT_ERROR bad data chunk");
@@ -253,9 +265,10 @@ void text_end_value(struct connection *connection) {
 }
 
 /* Memory for what came of a value and for as much again: so it is at most twice what its client sent, or ROOM_LEAST.
- * What waits in the socket came, too: so most values have their memory at once, and aren't copied to get more. */
+ * What waits in the socket came, too: so most values have their memory at once, and aren't copied to get more. But for
+ * those that have to wait for room. */
 static size_t room_for(const struct connection *connection, size_t all, size_t came) {
-  if (came * 2 < all) came += connection_waiting(connection);
+  if (came * 2 < all && !room_is_owed()) came += connection_waiting(connection);
   size_t room = came * 2 > ROOM_LEAST ? came * 2 : ROOM_LEAST;
   return room < all ? room : all;
 }
@@ -279,6 +292,10 @@ void text_begin_value(struct connection *connection, const struct key *key, uint
 
 void text_grow_value(struct connection *connection) {
   struct storing *storing = &connection->storing;
+  if (cache_waits_for_room(connection->thread, storing->item)) {
+    connection->work = 0;
+    return;
+  }
   size_t all = (size_t)storing->item->bytes + 2;
   size_t room = room_for(connection, all, storing->received + buffer_size(&connection->in));
   if (cache_grow_item(connection->thread, storing->item, room)) storing->room = room;
@@ -315,7 +332,7 @@ static void cas(struct connection *connection, struct words *words) { update(con
 static void arithmetic(struct connection *connection, struct words *words, bool goes_up) {
   struct word *word = words->word;
   struct delta delta = { .goes_up = goes_up };
-  struct delta_done done;
+  struct delta_done done = { 0 };
   text_wants_no_reply(connection, words);
   if (word[1].bytes > KEY_MOST) {
     connection_say(connection, WRONG_FORMAT);
@@ -327,7 +344,9 @@ static void arithmetic(struct connection *connection, struct words *words, bool 
   }
   struct key key = table_key(word[1].at, word[1].bytes);
   char text[24] = { 0 };
-  switch (cache_add(connection->thread, &key, &delta, &done)) {
+  enum delta_answer answer = cache_add(connection->thread, &key, &delta, &done);
+  connection->work -= (int32_t)done.bytes;
+  switch (answer) {
     case DELTA_DONE:
       put_u64(text, done.number);
       connection_say(connection, text);
@@ -357,9 +376,10 @@ static void delete_key(struct connection *connection, struct words *words) {
     return;
   }
   struct key key = table_key(word[1].at, word[1].bytes);
-  bool there = cache_end(connection->thread, &key);
-  count(connection_counters(connection), there ? COUNT_delete_hits : COUNT_delete_misses, 1);
-  connection_say(connection, there ? "DELETED" : "NOT_FOUND");
+  const struct shelf *shelf = cache_end(connection->thread, &key);
+  count(connection_counters(connection), shelf != NULL ? COUNT_delete_hits : COUNT_delete_misses, 1);
+  if (shelf != NULL) shelf_count_event(shelf->number, connection->thread->number, SHELF_delete_hits);
+  connection_say(connection, shelf != NULL ? "DELETED" : "NOT_FOUND");
 }
 
 static void touch(struct connection *connection, struct words *words) {

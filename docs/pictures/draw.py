@@ -90,30 +90,29 @@ def chunk():
 
 
 def crates():
-    at = {"bump_links": (330, 600), "bump_rules": (330, 540), "bump_state": (60, 460), "bump_core": (60, 380),
+    at = {"bump_links": (330, 600), "bump_rules": (330, 540), "model_state": (60, 460), "bump_core": (60, 380),
           "bump_word": (620, 480), "bump_steps": (620, 420), "bump_readers": (620, 360), "bump_heads": (520, 300),
-          "bump_ring": (720, 300), "bump_class": (620, 240), "bump_parts": (620, 180), "bump_store": (475, 120),
-          "bump_handles": (620, 120), "bump_c": (620, 60), "box_parts": (455, 60), "trace_lines": (330, 460),
+          "bump_ring": (720, 300), "bump_class": (620, 240), "bump_unlocked": (620, 180), "bump_store": (475, 120),
+          "bump_handles": (620, 120), "bump_c": (620, 60), "open_box": (455, 60), "trace_lines": (330, 460),
           "bump_trace": (200, 300), "worked_traces": (150, 225), "store_trace": (330, 180), "bumpsim": (330, 110), "cache_lists": (900, 320),
-          "cache_part": (900, 268), "cache_shelf": (900, 216), "cache_making": (900, 164), "cache_readers": (1080, 240), "cache_nests": (1080, 300),
-          "pen_words": (1080, 360), "call_log": (900, 400), "entry_times": (1080, 410), "packed_words": (900, 460),
+          "cache_part": (900, 268), "cache_shelf": (900, 216), "cache_config": (900, 164), "cache_readers": (1080, 240), "cache_index": (1080, 300),
+          "call_log": (900, 400), "packed_words": (900, 460),
           "keyed_hash": (1080, 460), "bump_cache": (900, 112), "replay_runs": (900, 60), "bump_replay": (1080, 60),
-          "access_logs": (1080, 120), "replay_policies": (1080, 180), "cache_handles": (760, 60), "byte_words": (760, 460)}
-    down = [("bump_rules", "bump_links"), ("bump_state", "bump_rules"), ("bump_core", "bump_state"),
+          "access_logs": (1080, 120), "replay_policies": (1080, 180), "cache_handles": (760, 60)}
+    down = [("bump_rules", "bump_links"), ("model_state", "bump_rules"), ("bump_core", "model_state"),
             ("bump_word", "bump_rules"), ("bump_steps", "bump_word"), ("bump_readers", "bump_steps"),
             ("bump_heads", "bump_readers"), ("bump_ring", "bump_readers"), ("bump_class", "bump_heads"),
-            ("bump_class", "bump_ring"), ("bump_parts", "bump_class"), ("bump_store", "bump_parts"),
-            ("bump_handles", "bump_parts"), ("bump_c", "bump_handles"), ("trace_lines", "bump_rules"),
+            ("bump_class", "bump_ring"), ("bump_unlocked", "bump_class"), ("bump_store", "bump_unlocked"),
+            ("bump_handles", "bump_unlocked"), ("bump_c", "bump_handles"), ("trace_lines", "bump_rules"),
             ("bump_trace", "trace_lines"), ("bump_trace", "bump_core"), ("worked_traces", "bump_trace"), ("store_trace", "bump_trace"), ("bumpsim", "store_trace"),
             ("cache_shelf", "cache_part"), ("cache_part", "cache_lists"),
-            ("cache_readers", "cache_nests"), ("cache_nests", "pen_words"), ("cache_making", "cache_shelf"), ("bump_cache", "cache_making"),
+            ("cache_readers", "cache_index"), ("cache_config", "cache_shelf"), ("bump_cache", "cache_config"),
             ("replay_runs", "bump_cache"),
             ("bump_replay", "access_logs"), ("cache_handles", "bump_cache"), ("cache_handles", "bump_handles")]
     used = {"bump_core", "bump_store", "bump_c", "bumpsim", "bump_links", "bump_cache", "bump_replay"}
     boxes = [(x, y, 130, name, MOVE if name in used else STEP) for name, (x, y) in at.items()]
     arrows = [([(at[a][0] + 65, at[a][1] + 33), (at[b][0] + 65, at[b][1])], "", None) for a, b in down]
     arrows += [([(460, 196), (500, 196), (500, 153)], "", None), ([(620, 76), (585, 76)], "", None), ([(750, 76), (760, 76)], "", None),
-               ([(890, 476), (900, 476)], "", None),
                ([(900, 180), (750, 190)], "", None), ([(900, 336), (750, 262)], "", None), ([(1030, 284), (1080, 310)], "", None),
                ([(1030, 180), (1050, 180), (1050, 250), (1080, 250)], "", None),
                ([(1080, 76), (1030, 76)], "", None), ([(1210, 76), (1225, 76), (1225, 196), (1210, 196)], "", None),

@@ -7,12 +7,12 @@ use Rattle.std.specs.declared.io.buffered.BufReader.{BufReader}
 use Rattle.std.proofs.KnownBytes.{prepend_known-nil}
 
 -- what follows of known bytes
-pub if_known : (known : Option (List ℕ)) (P Q : List ℕ → Type 0) → ((bytes : List ℕ) → P bytes → Q bytes) → IfSome known P → IfSome known Q
+pub if_known : {A : Type 0} (known : Option A) (P Q : A → Type 0) → ((bytes : A) → P bytes → Q bytes) → IfSome known P → IfSome known Q
 if_known None P Q follows p = tt
 if_known (Some bytes) P Q follows p = follows bytes p
 
 -- what holds of any bytes holds of known ones
-pub if_any : (known : Option (List ℕ)) (Q : List ℕ → Type 0) → ((bytes : List ℕ) → Q bytes) → IfSome known Q
+pub if_any : {A : Type 0} (known : Option A) (Q : A → Type 0) → ((bytes : A) → Q bytes) → IfSome known Q
 if_any None Q all = tt
 if_any (Some bytes) Q all = all bytes
 

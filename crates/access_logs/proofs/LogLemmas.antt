@@ -1,6 +1,6 @@
 -- Lemmas on a log that was read.
 use Rattle.std.proofs.Common.{◌≡◌, refl, ℕ, ◌<◌, Bool, true, false, ◌&&◌, List, [], ◌∷◌, map, All, length, sym, subst, ◌∙◌, true≢false}
-use Rattle.std.specs.Prelude.{Option, None, Some, Result, Ok, Err, IfOk, IfSome, bytes_eq}
+use Rattle.std.specs.Prelude.{Option, None, Some, Result, Ok, Err, IfOk, IfErr, IfSome, bytes_eq}
 use Rattle.std.specs.List.{list_all, AllByRecursion}
 use Rattle.std.proofs.lemmas.List.Elements.{All-from_recursion}
 use Rattle.access_logs.specs.Drafts.{IsLogOf}
@@ -46,3 +46,8 @@ pub if_known_read : (known : Option (List ℕ)) (result : Result Log LogFault) (
     → IfSome known (λ bytes. IfOk result (P bytes)) → IfSome known (λ bytes. IfOk result (Q bytes))
 if_known_read None result P Q follows p = tt
 if_known_read (Some bytes) result P Q follows p = if_read result (P bytes) (Q bytes) (follows bytes) p
+
+-- the same of why no log was read
+pub if_refused : (result : Result Log LogFault) (P Q : LogFault → Type 0) → ((why : LogFault) → P why → Q why) → IfErr result P → IfErr result Q
+if_refused (Ok log) P Q follows p = tt
+if_refused (Err why) P Q follows p = follows why p

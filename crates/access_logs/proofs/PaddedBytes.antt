@@ -1,19 +1,7 @@
 -- Lemmas on known bytes behind which come line feeds.
-use Rattle.std.proofs.Common.{◌≡◌, ℕ, zero, suc, ◌+◌, ◌-◌, ◌<◌, ◌≤◌, false, List, [], ◌++◌, ◌∷◌, length, take, refl, sym, ap, ◌∙◌, arith, append_assoc, append-nil, true≢false}
-use Rattle.std.specs.Prelude.{Option, None, Some, IfSome, replicate, ◌==◌}
-use Rattle.std.specs.Io.KnownBytes.{append_known, Keeps, Consumes, IsAtEnd}
-
--- what is consumed of the bytes is consumed of all
-pub consumed-padded : (old new : Option (List ℕ)) (bytes padding : List ℕ) → Consumes old new bytes → Consumes (append_known old padding) (append_known new padding) bytes
-consumed-padded None new bytes padding consumed = tt
-consumed-padded (Some x) None bytes padding consumed = absurd consumed
-consumed-padded (Some x) (Some y) bytes padding consumed = ap (λ l. l ++ padding) consumed ∙ append_assoc bytes y padding
-
--- what is kept is kept
-pub kept-padded : (old new : Option (List ℕ)) (padding : List ℕ) → Keeps old new → Keeps (append_known old padding) (append_known new padding)
-kept-padded None new padding kept = tt
-kept-padded (Some x) None padding kept = absurd kept
-kept-padded (Some x) (Some y) padding kept = ap (λ l. l ++ padding) kept
+use Rattle.std.proofs.Common.{◌≡◌, ℕ, zero, suc, ◌+◌, ◌-◌, ◌<◌, ◌≤◌, false, List, [], ◌++◌, ◌∷◌, length, take, refl, sym, ap, ◌∙◌, arith, append-nil, true≢false}
+use Rattle.std.specs.Prelude.{Option, None, Some, replicate, ◌==◌}
+use Rattle.std.specs.Io.KnownBytes.{append_known, Consumes, IsAtEnd}
 
 -- so many of a byte, in two parts
 pub replicate-parts : (n m byte : ℕ) → replicate (n + m) byte ≡ replicate n byte ++ replicate m byte
@@ -36,11 +24,6 @@ padding-consumed (Some x) (Some y) left count byte bytes consumed end is few =
 pub padding-end : (new : Option (List ℕ)) (left byte : ℕ) → IsAtEnd new → left ≡ 0 → IsAtEnd (append_known new (replicate left byte))
 padding-end None left byte end none = tt
 padding-end (Some y) left byte end none = ap (λ n. y ++ replicate n byte) none ∙ append-nil y ∙ end
-
--- what holds of the known bytes with those behind them
-pub if_padded : (known : Option (List ℕ)) (padding : List ℕ) (P : List ℕ → Type 0) → IfSome (append_known known padding) P → IfSome known (λ bytes. P (bytes ++ padding))
-if_padded None padding P p = tt
-if_padded (Some bytes) padding P p = p
 
 -- the front of two lists is the first
 pub take-front : (xs ys : List ℕ) (n : ℕ) → length xs ≡ n → take n (xs ++ ys) ≡ xs

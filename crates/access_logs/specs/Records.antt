@@ -1,10 +1,13 @@
 -- The records of a CSV text, and what each says.
-use Rattle.std.specs.Prelude.{ℕ, ◌+◌, ◌-◌, ◌≡◌, ◌==◌, ◌++◌, ◌||◌, ⊤, Result, Ok, Err, nat_lt, Bool, List, [], ◌∷◌, length, map, drop, replicate, Option, Some, None}
+use Rattle.std.specs.Prelude.{ℕ, ◌+◌, ◌-◌, ◌≡◌, ◌==◌, ◌++◌, ◌||◌, ⊤, true, false, Result, Ok, Err, nat_lt, Bool, List, [], ◌∷◌, length, map, drop, replicate, Option, Some, None, IfSome}
 use Rattle.std.specs.Prelude.{option_and_then, option_map, if◌then◌else◌}
 use Rattle.std.specs.Io.KnownBytes.{append_known}
-use Rattle.csv.specs.Reading.{records, default_config, strip_bom}
+use Rattle.csv.specs.Reading.{Ready, records, records_from, default_config, reader_config, reader_state, reader_trim, source_of, strip_bom}
 use Rattle.csv.specs.Records.{field_at}
+use Rattle.csv.specs.declared.reader.Reader.{Reader}
+use Rattle.csv.specs.declared.reader.Trim.TheVariants as trim
 use Rattle.access_logs.specs.Columns.{has_name, columns_in}
+use Rattle.access_logs.specs.Drafts.{IsLogOf}
 use Rattle.access_logs.specs.Entries.{Said, Taken, Unread, RefusesLog}
 use Rattle.access_logs.specs.Lines.{longest_key}
 use Rattle.access_logs.specs.Numerals.{size_of_field, time_of_field, ttl_of_field}
@@ -12,6 +15,7 @@ use Rattle.access_logs.specs.Operations.{operation_of}
 use Rattle.access_logs.specs.declared.log.Defect.TheVariants as defect
 use Rattle.access_logs.specs.declared.log.Field.{Field}
 use Rattle.access_logs.specs.declared.log.Field.TheVariants as field
+use Rattle.access_logs.specs.declared.log.Log.{Log}
 use Rattle.access_logs.specs.declared.log.LogFault.{LogFault}
 use Rattle.access_logs.specs.declared.log.LogFault.TheVariants as fault
 use Rattle.access_logs.specs.declared.operations.Operation.{Operation}
@@ -118,6 +122,21 @@ padded_of remaining reader = append_known (remaining reader.inner.inner) (replic
 abbrev pub records_of : List ℕ → List (List (List ℕ))
 records_of bytes = records default_config (strip_bom (bytes ++ line_feeds))
 
+-- a reader that takes each record as it stands, the first as any other
+abbrev pub IsPlain : {R : Type 0} → Reader R → Type 0
+IsPlain rows = (reader_trim rows ≡ trim.None) × Ready rows × (reader_config rows ≡ default_config)
+
+-- the records that a reader has left, where its bytes are known
+abbrev pub rows_left : {R : Type 0} → (R → Option (List ℕ)) → Reader R → Option (List (List (List ℕ)))
+rows_left remaining rows = option_map (λ bytes. records_from default_config (length bytes + 1) (reader_state rows) bytes) (source_of remaining rows)
+
+-- of the records before, where they are known, one with these fields was read and the others are left, or there was none
+abbrev pub ReadsRow : Option (List (List (List ℕ))) → Bool → List (List ℕ) → Option (List (List (List ℕ))) → Type 0
+ReadsRow None found fields left = ⊤
+ReadsRow (Some before) true fields None = ⊥
+ReadsRow (Some before) true fields (Some left) = before ≡ fields ∷ left
+ReadsRow (Some before) false fields left = before ≡ []
+
 -- the number of the first record that has a key: a header is record 1, and there is one where a column has a name
 abbrev pub first_record : Bool → AskedColumns → ℕ
 first_record header asked = if header || has_name asked then 2 else 1
@@ -135,6 +154,11 @@ entries_from first columns rows = map (entry_of_record columns) (drop (first - 1
 abbrev pub entries_by : ℕ → Result Columns Field → List (List (List ℕ)) → List Said
 entries_by first (Ok columns) rows = entries_from first columns rows
 entries_by first (Err lacking) rows = []
+
+-- the log of records, the first of which has the columns that are asked for: of these, where they are known
+abbrev pub IsLogOfRows : Bool → ℕ → AskedColumns → Option (List (List (List ℕ))) → Log → Type 0
+IsLogOfRows strict first asked known log = (rows : List (List (List ℕ))) × (columns : Columns) × (columns_in (header_of rows) asked ≡ Ok columns)
+    × IsLogOf strict first (entries_from first columns rows) log × IfSome known (λ left. left ≡ rows)
 
 -- the columns that are asked for of a text, by its first record
 abbrev pub columns_of : AskedColumns → List ℕ → Result Columns Field

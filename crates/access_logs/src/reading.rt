@@ -1,6 +1,6 @@
 //! A log from a reader.
 
-ghost use Rattle.std.specs.Prelude.{◌≡◌, ◌<◌, List, [], ℕ, true, false, None, Ok, All, length, IfOk, IfErr, IfSome, OnOk};
+ghost use Rattle.std.specs.Prelude.{◌≡◌, ◌<◌, List, [], ◌∷◌, ℕ, true, false, None, Ok, All, length, IfOk, IfErr, IfSome, OnOk};
 ghost use Rattle.std.specs.Result.{result_err};
 ghost use Rattle.access_logs.specs.Columns.{columns_in};
 ghost use Rattle.access_logs.specs.Drafts.{IsLogOf};
@@ -8,14 +8,15 @@ ghost use Rattle.access_logs.specs.Entries.{Said, keys_in, sizes_in, times_in, o
 ghost use Rattle.access_logs.specs.Formats.{entries_of, lacking, first_number, has_sizes, has_times, has_operations, has_ttls, Refuses};
 ghost use Rattle.access_logs.specs.Keys.{distinct, numbers_of};
 ghost use Rattle.access_logs.specs.Lines.{entries_of_lines};
-ghost use Rattle.access_logs.specs.Records.{entries_of_records, entries_from, first_record, header_of, columns_of, RefusesRecords};
+ghost use Rattle.access_logs.specs.Records.{entries_of_records, entries_from, first_record, header_of, columns_of, rows_left, IsLogOfRows, IsPlain, RefusesBy, RefusesRecords};
+ghost use Rattle.csv.specs.Records.{fields_of};
 
 use crate::columns::{AskedColumns, Columns, columns_in};
 use crate::drafts::Draft;
 use crate::lines::{entry_of_line, read_line};
 use crate::log::{Format, Log, LogFault};
 use crate::records::{first_record, open_rows, read_row, take_record};
-use csv::ByteRecord;
+use csv::{ByteRecord, Reader};
 use std::alloc::Global;
 use std::io::{BufReader, Read};
 
@@ -46,6 +47,60 @@ pub fn read_lines<R: Read + Drop>(alloc: Global, source: R, strict: bool) -> Res
     Err(LogFault::TooManyLines)
 }
 
+// The log of a first record, and of those that a reader has left behind it.
+fn read_behind<R: Read>(
+    alloc: Global,
+    rows: &mut Reader<R>,
+    row: &mut ByteRecord,
+    columns: Columns,
+    first: u64,
+    strict: bool,
+) -> Result<Log, LogFault>
+    requires plain { IsPlain rows.old }
+    requires first { 0 < first }
+    ensures log { IfOk result (λ log. (rest : List (List (List ℕ)))
+        × IsLogOf strict first (entries_from first columns (fields_of row.old ∷ rest)) log
+        × IfSome (rows_left R.remaining rows.old) (λ left. left ≡ rest)) }
+    ensures refusal { IfErr result (λ why. IfSome (rows_left R.remaining rows.old) (λ left.
+        RefusesLog strict first (entries_from first columns (fields_of row.old ∷ left)) why)) }
+{
+    let mut draft = Draft::new(alloc, strict);
+    take_record(&mut draft, row, columns, 1, first)?;
+    for number in 2..u64::MAX {
+        if !read_row(rows, row, number)? {
+            return Ok(draft.finish());
+        }
+        take_record(&mut draft, row, columns, number, first)?;
+    }
+    Err(LogFault::TooManyLines)
+}
+
+// The log of the records that a reader has left, with the columns that are asked for of the first.
+fn read_rows<R: Read>(
+    alloc: Global,
+    rows: &mut Reader<R>,
+    asked: AskedColumns<'_>,
+    first: u64,
+    strict: bool,
+) -> Result<Log, LogFault>
+    requires plain { IsPlain rows.old }
+    requires first { 0 < first }
+    ensures log { IfOk result (IsLogOfRows strict first asked.entry (rows_left R.remaining rows.old)) }
+    ensures refusal { IfErr result (λ why. IfSome (rows_left R.remaining rows.old) (λ left.
+        RefusesBy strict first (columns_in (header_of left) asked.entry) left why)) }
+{
+    let mut row = ByteRecord::new(alloc);
+    let found = read_row(rows, &mut row, 1)?;
+    let columns = match columns_in(&row, asked) {
+        Ok(columns) => columns,
+        Err(lacking) => return Err(LogFault::NoColumn(lacking)),
+    };
+    if !found {
+        return Ok(Draft::new(alloc, strict).finish());
+    }
+    read_behind(alloc, rows, &mut row, columns, first, strict)
+}
+
 /// The log of a reader's CSV records, with the columns of each. With a header the first has no key. `NoColumn` where the
 /// first lacks the name of a column, or there is none.
 pub fn read_records<R: Read + Drop>(
@@ -63,29 +118,8 @@ pub fn read_records<R: Read + Drop>(
     ensures columns { IfSome (R.remaining source) (λ bytes. OnOk result (result_err (columns_of asked.entry bytes) ≡ None)) }
     ensures refusal { IfSome (R.remaining source) (λ bytes. IfErr result (RefusesRecords strict asked.entry header bytes)) }
 {
-    let first = first_record(header, asked);
     let mut rows = open_rows(alloc, source);
-    let mut row = ByteRecord::new(alloc);
-    let mut draft = Draft::new(alloc, strict);
-    if !read_row(&mut rows, &mut row, 1)? {
-        row.clear();
-        match columns_in(&row, asked) {
-            Ok(_) => return Ok(draft.finish()),
-            Err(lacking) => return Err(LogFault::NoColumn(lacking)),
-        }
-    }
-    let columns = match columns_in(&row, asked) {
-        Ok(columns) => columns,
-        Err(lacking) => return Err(LogFault::NoColumn(lacking)),
-    };
-    take_record(&mut draft, &row, columns, 1, first)?;
-    for number in 2..u64::MAX {
-        if !read_row(&mut rows, &mut row, number)? {
-            return Ok(draft.finish());
-        }
-        take_record(&mut draft, &row, columns, number, first)?;
-    }
-    Err(LogFault::TooManyLines)
+    read_rows(alloc, &mut rows, asked, first_record(header, asked), strict)
 }
 
 /// The log that a reader gives. Where it is strict, each line or record has to be readable; else those that aren't are

@@ -1,17 +1,12 @@
 //! The records of a CSV text.
 
-ghost use Rattle.std.specs.Prelude.{◌≡◌, ◌+◌, ◌-◌, ◌<◌, ◌^◌, ◌++◌, ◌∷◌, [], Bool, ℕ, List, true, length};
+ghost use Rattle.std.specs.Prelude.{◌≡◌, ◌+◌, ◌-◌, ◌<◌, ◌^◌, ◌++◌, ◌∷◌, [], Bool, ℕ, List, true, false, length};
 ghost use Rattle.std.specs.Prelude.{option_map, IfOk, IfErr, OnOk};
-ghost use Rattle.std.specs.Io.KnownBytes.{append_known};
-ghost use Rattle.csv.specs.Reading.{Ready, ReadRecord, reader_trim, reader_config, reader_state, is_flexible};
-ghost use Rattle.csv.specs.Reading.{default_config, source_of, strip_bom};
-ghost use Rattle.csv.specs.declared.parser.State.TheVariants as st;
-ghost use Rattle.csv.specs.declared.reader.Trim.TheVariants as trim;
 ghost use Rattle.csv.specs.Records.{fields_of};
 ghost use Rattle.access_logs.specs.Drafts.{IsDraftOf};
 ghost use Rattle.access_logs.specs.Entries.{RefusesLog, said_by};
 ghost use Rattle.access_logs.specs.Lines.{IsReadOrMemory};
-ghost use Rattle.access_logs.specs.Records.{key_of_record, size_of_record, time_of_record, operation_of_record, ttl_of_record, asked_size, asked_time, asked_operation, asked_ttl, is_long, entry_of_record, entries_from, first_record, line_feeds, padded_of};
+ghost use Rattle.access_logs.specs.Records.{key_of_record, size_of_record, time_of_record, operation_of_record, ttl_of_record, asked_size, asked_time, asked_operation, asked_ttl, is_long, entry_of_record, entries_from, first_record, padded_of, records_of, rows_left, IsPlain, ReadsRow};
 
 use crate::columns::{AskedColumns, Columns, has_name};
 use crate::drafts::Draft;
@@ -186,11 +181,8 @@ fn entry_of_record(row: &ByteRecord, columns: Columns) -> Entry<'_>
 /// The records of a text, with none read. Behind the text come line feeds: they are no records, but a quote that is never
 /// closed takes them, so that its record is too long.
 pub fn open_rows<R: Read + Drop>(alloc: Global, source: R) -> Reader<Padded<Patient<R>>>
-    ensures source { source_of (padded_of R.remaining) result ≡ option_map strip_bom (append_known (R.remaining source) line_feeds) }
-    ensures state { reader_state result ≡ st.StartRecord }
-    ensures trim { reader_trim result ≡ trim.None }
-    ensures ready { Ready result }
-    ensures config { reader_config result ≡ default_config }
+    ensures plain { IsPlain result }
+    ensures rows { rows_left (padded_of R.remaining) result ≡ option_map records_of (R.remaining source) }
 {
     let padded = Padded::new(Patient::new(source), LONGEST_KEY + 1);
     ReaderBuilder::new()
@@ -199,22 +191,25 @@ pub fn open_rows<R: Read + Drop>(alloc: Global, source: R) -> Reader<Padded<Pati
         .from_reader(alloc, padded)
 }
 
-/// Reads the next record, of this number. Whether there was one. The reader has to give a header as any other record;
-/// where it takes records of any length, only itself and memory can fail.
+/// Reads the next record, of this number. Whether there was one: else the record has no fields. The reader has to give a
+/// header as any other record; where it takes records of any length, only itself and memory can fail.
 pub fn read_row<R: Read>(
     rows: &mut Reader<R>,
     row: &mut ByteRecord,
     number: u64,
 ) -> Result<bool, LogFault>
-    requires trim { reader_trim rows.old ≡ trim.None }
-    requires ready { Ready rows.old }
-    ensures reads { IfOk result (λ found. ReadRecord R.remaining rows.old rows.new found (fields_of row.new)) }
-    ensures trim { IfOk result (λ found. found ≡ true → reader_trim rows.new ≡ trim.None) }
-    ensures ready { IfOk result (λ found. found ≡ true → Ready rows.new) }
+    requires plain { IsPlain rows.old }
+    ensures reads { IfOk result (λ found. ReadsRow (rows_left R.remaining rows.old) found (fields_of row.new) (rows_left R.remaining rows.new)) }
+    ensures none { IfOk result (λ found. found ≡ false → fields_of row.new ≡ []) }
+    ensures plain { IfOk result (λ found. found ≡ true → IsPlain rows.new) }
     ensures refusal { IfErr result (IsReadOrMemory number) }
 {
     match rows.read_byte_record(row) {
-        Ok(found) => Ok(found),
+        Ok(true) => Ok(true),
+        Ok(false) => {
+            row.clear();
+            Ok(false)
+        }
         Err(e) => Err(match e.kind() {
             ErrorKind::Io(e) => LogFault::Read {
                 number,

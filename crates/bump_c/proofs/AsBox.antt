@@ -1,4 +1,4 @@
--- A handle and its parts own what a box at the same type owns, whatever stands for the name.
+-- A handle and its open box own what a box at the same type owns, whatever stands for the name.
 use mir.Syntax.{Sym, impl, tnil, dnil}
 use mathlib.Core.List.{[]}
 use mathlib.Core.Path.{◌≡◌, subst}
@@ -15,7 +15,7 @@ use Rattle.std_alloc.specs.contracts.boxed.Box as Box
 use Rattle.std_heap.specs.contracts.Global as Heap
 use Rattle.std_heap.specs.contracts.GlobalAllocator.TheImpl.{ghosts, dict}
 use Rattle.std_heap.proofs.Global.TheLaws as heap
-use Rattle.box_parts.specs.contracts.parts.BoxParts as Parts
+use Rattle.open_box.specs.contracts.boxes.OpenBox as Opened
 use Rattle.atomic_table.specs.Seated.{TableId}
 use Rattle.bump_c.specs.One.{IsOne, as_fact, trivial_proposition}
 
@@ -23,16 +23,16 @@ use Rattle.bump_c.specs.One.{IsOne, as_fact, trivial_proposition}
 abbrev pub boxed : (R : RattleType) → Laws R → Bx
 boxed R laws = record { row = R; laws = laws; al = record { row = Heap.the_row; laws = heap.the_row_laws; g = ghosts; d = dict; drops = impl [] tnil dnil } }
 
--- the box itself, and its parts
+-- the box itself, and the open one
 abbrev pub BoxOf : RattleType → RattleType
 BoxOf R = Box.the_row (param 0 R) (param 1 Heap.the_row) ghosts
 
-abbrev pub PartsOf : RattleType → RattleType
-PartsOf R = Parts.the_row R Heap.the_row ghosts
+abbrev pub OpenedOf : RattleType → RattleType
+OpenedOf R = Opened.the_row R Heap.the_row ghosts
 
--- the name of the struct of its parts
-abbrev pub PartsName : RattleType → Sym
-PartsName R = (Parts.the_type R Heap.the_row ghosts).name
+-- the name of the struct of an open box
+abbrev pub OpenedName : RattleType → Sym
+OpenedName R = (Opened.the_type R Heap.the_row ghosts).name
 
 module _ {M : Type 1} {𝓤 : Ura M} (𝓛 : Logic 𝓤) (A : Type 0) (is : IsOne A) where
   -- what is owned where a type of one value stands for the name is owned where the unit does

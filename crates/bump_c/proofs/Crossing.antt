@@ -29,7 +29,7 @@ use Rattle.bump_steps.specs.contracts.laws.AnyRow as AnyRow
 use Rattle.bump_steps.specs.contracts.laws.AnyRowRowLaw.TheImpl as any_row
 use Rattle.bump_class.specs.contracts.lanes.RawLane as RawLane
 use Rattle.bump_class.proofs.lanes.RawLane.TheSendSync as raw_lane
-use Rattle.bump_parts.specs.contracts.closing.ClosedWorker as ClosedWorker
+use Rattle.bump_unlocked.specs.contracts.closing.ClosedWorker as ClosedWorker
 use Rattle.bump_handles.specs.contracts.books.TaggedBook as TaggedBook
 use Rattle.bump_handles.specs.contracts.drainers.Drainer as Drainer
 use Rattle.bump_handles.specs.contracts.opening.Opened as Opened

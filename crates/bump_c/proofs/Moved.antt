@@ -1,5 +1,5 @@
 -- A function that takes a struct of a pointer and its allocator apart and makes another one of the two: what a box at the
--- same type owns goes with them. So `of_parts` and `into_parts` of each handle and each slot are proved at once.
+-- same type owns goes with them. So `of_open` and `into_open` of each handle and each slot are proved at once.
 use mathlib.Core.List.{List, [], ◌∷◌, ◌++◌}
 use mathlib.Core.Path.{refl, sym, subst}
 use seplogic.Ra.Ura.{Ura}

@@ -1,8 +1,10 @@
 -- How C reads what a cache answers: numbers in the order of the enums of c/bump_cache.h, and plain records.
 use Rattle.std.specs.Prelude.{ℕ, true, false, Option, Some, None}
+use Rattle.cache_lists.specs.declared.evictions.Statistic.TheVariants.{Evicted}
+use Rattle.cache_lists.specs.Counts.{count_of}
 use Rattle.cache_part.specs.declared.stats.Stats.{Stats}
-use Rattle.cache_making.specs.declared.config.CacheFault.TheVariants as fault
-use Rattle.cache_making.specs.Sums.{bumps_of, dropped_of, hits_of, misses_of}
+use Rattle.cache_config.specs.declared.config.CacheFault.TheVariants as fault
+use Rattle.cache_config.specs.Sums.{bumps_of, dropped_of, hits_of, misses_of}
 use Rattle.cache_handles.specs.declared.config.ByteFault.{ByteFault}
 use Rattle.cache_handles.specs.declared.config.ByteFault.TheVariants as byte
 use Rattle.cache_handles.specs.declared.looking.LookTold.{LookTold}
@@ -120,11 +122,6 @@ told_of_stats stats = record {
   moves_to_cold = stats.moves_to_cold;
   moves_to_warm = stats.moves_to_warm;
   moves_within_lru = stats.moves_within_lru;
-  evicted = stats.evicted;
-  evicted_unfetched = stats.evicted_unfetched;
-  evicted_active = stats.evicted_active;
-  direct_reclaims = stats.direct_reclaims;
-  reclaimed = stats.reclaimed;
-  expired_unfetched = stats.expired_unfetched;
-  crawler_reclaimed = stats.crawler_reclaimed;
+  evicted = count_of Evicted stats.evictions;
+  evictions = stats.evictions.counts;
 }

@@ -21,8 +21,8 @@ use Rattle.bump_class.specs.declared.ending.UnlinkRefusal.{UnlinkRefusal}
 use Rattle.bump_class.specs.declared.ending.UnlinkRefusal.TheVariants as unlink
 use Rattle.bump_class.specs.declared.linking.LinkRefusal.{LinkRefusal}
 use Rattle.bump_class.specs.declared.running.RunEnd.{RunEnd}
-use Rattle.bump_parts.specs.declared.refusals.GetRefusal.{GetRefusal}
-use Rattle.bump_parts.specs.declared.refusals.GetRefusal.TheVariants as refused
+use Rattle.bump_unlocked.specs.declared.refusals.GetRefusal.{GetRefusal}
+use Rattle.bump_unlocked.specs.declared.refusals.GetRefusal.TheVariants as refused
 use Rattle.bump_handles.specs.declared.drainers.NotClosed.{NotClosed}
 use Rattle.bump_handles.specs.declared.drainers.NotClosed.TheVariants as not_closed
 use Rattle.bump_handles.specs.declared.drainers.OtherClass.{OtherClass}

@@ -15,7 +15,7 @@ use Rattle.bump_rules.specs.Places.{place_number}
 use Rattle.bump_class.specs.declared.ending.UnlinkRefusal.{UnlinkRefusal}
 use Rattle.bump_class.specs.declared.linking.LinkRefusal.{LinkRefusal}
 use Rattle.bump_class.specs.declared.running.RunEnd.{RunEnd}
-use Rattle.bump_parts.specs.declared.refusals.GetRefusal.{GetRefusal}
+use Rattle.bump_unlocked.specs.declared.refusals.GetRefusal.{GetRefusal}
 use Rattle.bump_handles.specs.declared.drainers.OtherClass.{OtherClass}
 use Rattle.bump_handles.specs.declared.drainers.Rested.{Rested}
 use Rattle.bump_handles.specs.declared.linking.WordsRefusal.{WordsRefusal}
@@ -156,5 +156,5 @@ TellsRest before after said = (answer : Rested) × (said ≡ rest_of answer) × 
 pub record IsClosedBy (reader : ReaderView) (before after : DrainerView) : Type 0 where
   pub has : IsSome after.closed
   pub closed : IfSome after.closed (λ closed. (closed.sender.sent ≡ reader.worker.sender.sent)
-      × (closed.part ≡ reader.worker.part))
+      × (closed.sheet ≡ reader.worker.sheet))
   pub kept : after ≡ record before { closed = after.closed }

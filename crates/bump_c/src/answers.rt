@@ -13,10 +13,10 @@ use bump_handles::{
     NotClosed, NotThere, OtherClass, RestState, Rested, RunEnd, Sight, Taken, Walked, WholeHit,
     WordsRefusal,
 };
-use bump_parts::GetRefusal;
 use bump_rules::{
     Accounts, ConfigFault, Dropped, Ended, Head, ItemId, Place, Pulled, Segment, Tail, Touch,
 };
+use bump_unlocked::GetRefusal;
 
 /// What became of a touch.
 #[repr(C)]

@@ -5,9 +5,9 @@ ghost use Rattle.bump_handles.specs.Views.{TaggedBookView};
 ghost use Rattle.bump_c.specs.One.{IsOne};
 ghost use Rattle.bump_c.specs.Seals.{book_row, owns, part_coded, slot_owns, slot_coded};
 
-use box_parts::BoxParts;
 use bump_handles::TaggedBook;
 use bump_heads::Name;
+use open_box::OpenBox;
 use std::alloc::Global;
 use std::marker::{Brand, Model};
 
@@ -36,25 +36,25 @@ impl Model for BookHandle {
 }
 
 impl BookHandle {
-    pub(crate) fn of_parts<N: Name>(parts: BoxParts<TaggedBook<N>, Global>) -> BookHandle
+    pub(crate) fn of_open<N: Name>(apart: OpenBox<TaggedBook<N>, Global>) -> BookHandle
         requires one { IsOne N }
         ensures table { result.table ≡ N.table }
-        ensures held { result.held ≡ parts.value }
+        ensures held { result.held ≡ apart.value }
     {
-        let BoxParts { ptr, alloc } = parts;
+        let OpenBox { ptr, alloc } = apart;
         BookHandle {
             ptr: ptr as *mut (),
             alloc,
         }
     }
 
-    pub(crate) fn into_parts<N: Name>(self) -> BoxParts<TaggedBook<N>, Global>
+    pub(crate) fn into_open<N: Name>(self) -> OpenBox<TaggedBook<N>, Global>
         requires table { self.table ≡ N.table }
         requires one { IsOne N }
         ensures { result.value ≡ self.held }
     {
         let BookHandle { ptr, alloc } = self;
-        BoxParts {
+        OpenBox {
             ptr: ptr as *mut TaggedBook<N>,
             alloc,
         }
@@ -66,9 +66,9 @@ impl BookHandle {
         ensures table { result.0.table ≡ self.table }
         ensures tells { C.tells call self.table self.held result.0.held result.1 }
     {
-        let mut it = self.into_parts::<N>().into_box();
+        let mut it = self.into_open::<N>().into_box();
         let told = call.make(&mut it);
-        (BookHandle::of_parts(BoxParts::of(it)), told)
+        (BookHandle::of_open(OpenBox::of(it)), told)
     }
 
     // A function of its own, since a closure can't pick the name that `Brand` stands for.
@@ -105,11 +105,11 @@ impl Model for BookSlot {
 }
 
 impl BookSlot {
-    pub(crate) fn of_parts<N: Name>(parts: BoxParts<TaggedBook<N>, Global>) -> BookSlot
+    pub(crate) fn of_open<N: Name>(apart: OpenBox<TaggedBook<N>, Global>) -> BookSlot
         requires one { IsOne N }
-        ensures { result.slot ≡ (N.table, parts.value) ∷ [] }
+        ensures { result.slot ≡ (N.table, apart.value) ∷ [] }
     {
-        let BoxParts { ptr, alloc } = parts;
+        let OpenBox { ptr, alloc } = apart;
         BookSlot {
             ptr: ptr as *mut (),
             alloc,

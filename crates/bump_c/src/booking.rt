@@ -242,7 +242,7 @@ fn book_free_named<N: Name>(h: BookHandle)
     requires table { h.table ≡ N.table }
     requires one { IsOne N }
 {
-    drop(h.into_parts::<N>().into_box());
+    drop(h.into_open::<N>().into_box());
 }
 
 /// Ends a book.

@@ -6,6 +6,7 @@ ghost use Rattle.bump_c.specs.CacheNumbers.{not_put, number_of_byte_fault, put_o
 use cache_handles::{
     ByteFault, CacheFault, EntryTold, GetTold, HeldTold, LookTold, PutTold, Stats,
 };
+use cache_lists::STATISTICS;
 
 /// What was got, and the first words of its bytes.
 #[repr(C)]
@@ -136,23 +137,8 @@ pub struct CacheStats {
     /// Items that were evicted which hadn't expired.
     pub evicted: u64,
 
-    /// Those of them that were never hit.
-    pub evicted_unfetched: u64,
-
-    /// Those of them that were ACTIVE when they ended.
-    pub evicted_active: u64,
-
-    /// Items that a put's own thread evicted: all of them.
-    pub direct_reclaims: u64,
-
-    /// Items that ended to make room, and had expired.
-    pub reclaimed: u64,
-
-    /// Items that ended since they had expired, and were never hit.
-    pub expired_unfetched: u64,
-
-    /// Items that a tend ended since they had expired.
-    pub crawler_reclaimed: u64,
+    /// What was counted of items that ended, in the order of its names, as C names them from `evicted_unfetched` on.
+    pub evictions: [u64; STATISTICS],
 }
 
 /// The number of a fault of a cache's configuration.
@@ -318,12 +304,7 @@ pub fn stats_told(stats: Stats) -> CacheStats
         moves_to_cold: stats.moves_to_cold,
         moves_to_warm: stats.moves_to_warm,
         moves_within_lru: stats.moves_within_lru,
-        evicted: stats.evicted,
-        evicted_unfetched: stats.evicted_unfetched,
-        evicted_active: stats.evicted_active,
-        direct_reclaims: stats.direct_reclaims,
-        reclaimed: stats.reclaimed,
-        expired_unfetched: stats.expired_unfetched,
-        crawler_reclaimed: stats.crawler_reclaimed,
+        evicted: stats.evicted(),
+        evictions: stats.evictions.counts,
     }
 }

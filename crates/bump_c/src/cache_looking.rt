@@ -74,7 +74,7 @@ struct Chunks;
 impl CachePartCall for Chunks {
     type Told = u32;
 
-    ghost tells = { λ call table before after told. (after ≡ before) × (told ≡ before.shelf.part.book.part.count) };
+    ghost tells = { λ call table before after told. (after ≡ before) × (told ≡ before.shelf.part.book.sheet.count) };
 
     fn make<N: Name>(self, it: &mut BytePart<N>) -> u32 {
         it.chunks()
@@ -86,7 +86,7 @@ impl CachePartCall for Chunks {
 pub extern "C" fn bump_cache_chunks(part: &mut CachePartHandle) -> u32
     ensures table { part.new.table ≡ part.old.table }
     ensures held { part.new.held ≡ part.old.held }
-    ensures chunks { result ≡ part.old.held.shelf.part.book.part.count }
+    ensures chunks { result ≡ part.old.held.shelf.part.book.sheet.count }
 {
     part.call(Chunks)
 }
@@ -202,7 +202,7 @@ fn part_free_named<N: Name>(h: CachePartHandle)
     requires table { h.table ≡ N.table }
     requires one { IsOne N }
 {
-    drop(h.into_parts::<N>().into_box());
+    drop(h.into_open::<N>().into_box());
 }
 
 /// Ends a part.

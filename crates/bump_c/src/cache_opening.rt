@@ -1,7 +1,7 @@
 //! A cache is opened for C, its parts and readers are taken out, and it is given back.
 ghost use Rattle.std.specs.Prelude.{◌≡◌, ◌+◌, ◌<◌, IfOk, IfErr, IfSome, IfNone, None, true, false, unwrap_or};
 ghost use Rattle.bump_handles.specs.Opening.{TakesPart};
-ghost use Rattle.cache_making.specs.Configs.{IsStoreOf};
+ghost use Rattle.cache_config.specs.Configs.{IsStoreOf};
 ghost use Rattle.cache_handles.specs.Configs.{default_config, first_byte_fault, key_words_of, part_of_key};
 ghost use Rattle.cache_handles.specs.Configs.{value_words_of};
 ghost use Rattle.cache_handles.specs.Views.{BytePartView as TheBytePartView, ByteReaderView as TheByteReaderView};
@@ -15,10 +15,10 @@ use crate::cache_answers::byte_fault_number;
 use crate::cache_handle::{CacheCall, CacheHandle, CacheSlot};
 use crate::cache_part_handle::CachePartSlot;
 use crate::cache_reader_handle::CacheReaderSlot;
-use box_parts::BoxParts;
 use bump_heads::{Blank, Name};
 use bump_rules::Config;
 use cache_handles::{ByteConfig, CacheConfig, OpenedCache, Seed, open};
+use open_box::OpenBox;
 use std::alloc::{AllocError, Global};
 use std::marker::Brand;
 
@@ -174,7 +174,7 @@ fn open_named<N: Name>(
 {
     let opened = open::<N>(alloc, blank, store, config, places)?;
     let boxed = Box::new(alloc, opened)?;
-    Ok(CacheSlot::of_parts(BoxParts::of(boxed)))
+    Ok(CacheSlot::of_open(OpenBox::of(boxed)))
 }
 
 fn open_at(
@@ -268,7 +268,7 @@ impl CacheCall for TakePart {
 
     fn make<N: Name>(self, it: &mut OpenedCache<N>) -> Option<CachePartSlot> {
         let taken = it.part(self.number)?;
-        Some(CachePartSlot::of_parts(BoxParts::of(taken)))
+        Some(CachePartSlot::of_open(OpenBox::of(taken)))
     }
 }
 
@@ -311,7 +311,7 @@ impl CacheCall for TakeReader {
 
     fn make<N: Name>(self, it: &mut OpenedCache<N>) -> Option<CacheReaderSlot> {
         let taken = it.reader(self.number)?;
-        Some(CacheReaderSlot::of_parts(BoxParts::of(taken)))
+        Some(CacheReaderSlot::of_open(OpenBox::of(taken)))
     }
 }
 
@@ -344,7 +344,7 @@ fn close_named<N: Name>(h: CacheHandle)
     requires table { h.table ≡ N.table }
     requires one { IsOne N }
 {
-    drop(h.into_parts::<N>().into_box());
+    drop(h.into_open::<N>().into_box());
 }
 
 /// Ends what wasn't taken out of a cache.

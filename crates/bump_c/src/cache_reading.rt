@@ -160,7 +160,7 @@ fn reader_free_named<N: Name>(h: CacheReaderHandle)
     requires table { h.table ≡ N.table }
     requires one { IsOne N }
 {
-    drop(h.into_parts::<N>().into_box());
+    drop(h.into_open::<N>().into_box());
 }
 
 /// Ends a reader, and gives back what it holds.

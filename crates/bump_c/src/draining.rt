@@ -11,9 +11,9 @@ use crate::answers::{
 use crate::book_handle::{BookCall, BookHandle};
 use crate::lane_handle::{LaneCall, LaneHandle};
 use crate::worker_handle::{WorkerCall, WorkerHandle, WorkerSlot};
-use box_parts::{BoxParts, replace_both};
 use bump_handles::{Drainer, Reader, TaggedBook};
 use bump_readers::Name;
+use open_box::{OpenBox, replace_both};
 use std::marker::Brand;
 
 const OTHER_STORE: Ran = Ran {
@@ -119,12 +119,12 @@ fn run_named<N: Name>(
     ensures lane { result.1.table ≡ lane.table }
     ensures applies { TellsRun now limit book.held lane.held result.0.held result.1.held result.2 }
 {
-    let mut tagged = book.into_parts::<N>().into_box();
-    let mut drainer = lane.into_parts::<N>().into_box();
+    let mut tagged = book.into_open::<N>().into_box();
+    let mut drainer = lane.into_open::<N>().into_box();
     let said = run_told(drainer.apply(&mut tagged, now, limit));
     (
-        BookHandle::of_parts(BoxParts::of(tagged)),
-        LaneHandle::of_parts(BoxParts::of(drainer)),
+        BookHandle::of_open(OpenBox::of(tagged)),
+        LaneHandle::of_open(OpenBox::of(drainer)),
         said,
     )
 }
@@ -187,13 +187,13 @@ fn run_told_named<N: Name>(
     ensures lane { result.1.table ≡ lane.table }
     ensures applies { TellsFreeingRun now limit book.held lane.held result.0.held result.1.held result.2 }
 {
-    let mut tagged = book.into_parts::<N>().into_box();
-    let mut drainer = lane.into_parts::<N>().into_box();
+    let mut tagged = book.into_open::<N>().into_box();
+    let mut drainer = lane.into_open::<N>().into_box();
     let mut chunks = [0; 32];
     let end = drainer.apply_into(&mut tagged, now, limit, &mut chunks);
     (
-        BookHandle::of_parts(BoxParts::of(tagged)),
-        LaneHandle::of_parts(BoxParts::of(drainer)),
+        BookHandle::of_open(OpenBox::of(tagged)),
+        LaneHandle::of_open(OpenBox::of(drainer)),
         freeing_run_told(end, chunks),
     )
 }
@@ -251,7 +251,7 @@ fn worker_back_named<N: Name>(h: WorkerHandle) -> WorkerSlot
     requires one { IsOne N }
     ensures { result.slot ≡ (h.table, h.held) ∷ [] }
 {
-    WorkerSlot::of_parts(h.into_parts::<N>())
+    WorkerSlot::of_open(h.into_open::<N>())
 }
 
 // A worker that goes back to C.
@@ -278,17 +278,17 @@ fn close_named<N: Name>(
     ensures done { IfNone result.1.1 (result.1.0 ≡ 0) }
     ensures back { IfSome result.1.1 (λ slot. 0 < result.1.0) }
 {
-    let mut drainer = lane.into_parts::<N>().into_box();
-    let reader = worker.into_parts::<N>().into_box();
+    let mut drainer = lane.into_open::<N>().into_box();
+    let reader = worker.into_open::<N>().into_box();
     if let Some(why) = drainer.why_not_closed(&reader) {
-        let left = WorkerSlot::of_parts(BoxParts::of(reader));
+        let left = WorkerSlot::of_open(OpenBox::of(reader));
         return (
-            LaneHandle::of_parts(BoxParts::of(drainer)),
+            LaneHandle::of_open(OpenBox::of(drainer)),
             (not_closed_number(why), Some(left)),
         );
     }
     drainer.close(Box::into_inner(reader));
-    (LaneHandle::of_parts(BoxParts::of(drainer)), (0, None))
+    (LaneHandle::of_open(OpenBox::of(drainer)), (0, None))
 }
 
 fn close_at(lane: LaneHandle, worker: WorkerHandle) -> (LaneHandle, (u32, Option<WorkerSlot>))
@@ -347,7 +347,7 @@ fn lane_free_named<N: Name>(h: LaneHandle)
     requires table { h.table ≡ N.table }
     requires one { IsOne N }
 {
-    drop(h.into_parts::<N>().into_box());
+    drop(h.into_open::<N>().into_box());
 }
 
 /// Ends a lane.

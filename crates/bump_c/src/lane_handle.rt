@@ -5,9 +5,9 @@ ghost use Rattle.bump_handles.specs.Views.{DrainerView};
 ghost use Rattle.bump_c.specs.One.{IsOne};
 ghost use Rattle.bump_c.specs.Seals.{lane_row, owns, part_coded, slot_owns, slot_coded};
 
-use box_parts::BoxParts;
 use bump_handles::Drainer;
 use bump_heads::Name;
+use open_box::OpenBox;
 use std::alloc::Global;
 use std::marker::{Brand, Model};
 
@@ -36,25 +36,25 @@ impl Model for LaneHandle {
 }
 
 impl LaneHandle {
-    pub(crate) fn of_parts<N: Name>(parts: BoxParts<Drainer<N>, Global>) -> LaneHandle
+    pub(crate) fn of_open<N: Name>(apart: OpenBox<Drainer<N>, Global>) -> LaneHandle
         requires one { IsOne N }
         ensures table { result.table ≡ N.table }
-        ensures held { result.held ≡ parts.value }
+        ensures held { result.held ≡ apart.value }
     {
-        let BoxParts { ptr, alloc } = parts;
+        let OpenBox { ptr, alloc } = apart;
         LaneHandle {
             ptr: ptr as *mut (),
             alloc,
         }
     }
 
-    pub(crate) fn into_parts<N: Name>(self) -> BoxParts<Drainer<N>, Global>
+    pub(crate) fn into_open<N: Name>(self) -> OpenBox<Drainer<N>, Global>
         requires table { self.table ≡ N.table }
         requires one { IsOne N }
         ensures { result.value ≡ self.held }
     {
         let LaneHandle { ptr, alloc } = self;
-        BoxParts {
+        OpenBox {
             ptr: ptr as *mut Drainer<N>,
             alloc,
         }
@@ -66,9 +66,9 @@ impl LaneHandle {
         ensures table { result.0.table ≡ self.table }
         ensures tells { C.tells call self.table self.held result.0.held result.1 }
     {
-        let mut it = self.into_parts::<N>().into_box();
+        let mut it = self.into_open::<N>().into_box();
         let told = call.make(&mut it);
-        (LaneHandle::of_parts(BoxParts::of(it)), told)
+        (LaneHandle::of_open(OpenBox::of(it)), told)
     }
 
     // A function of its own, since a closure can't pick the name that `Brand` stands for.
@@ -105,11 +105,11 @@ impl Model for LaneSlot {
 }
 
 impl LaneSlot {
-    pub(crate) fn of_parts<N: Name>(parts: BoxParts<Drainer<N>, Global>) -> LaneSlot
+    pub(crate) fn of_open<N: Name>(apart: OpenBox<Drainer<N>, Global>) -> LaneSlot
         requires one { IsOne N }
-        ensures { result.slot ≡ (N.table, parts.value) ∷ [] }
+        ensures { result.slot ≡ (N.table, apart.value) ∷ [] }
     {
-        let BoxParts { ptr, alloc } = parts;
+        let OpenBox { ptr, alloc } = apart;
         LaneSlot {
             ptr: ptr as *mut (),
             alloc,

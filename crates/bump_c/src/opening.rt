@@ -12,11 +12,11 @@ use crate::book_handle::BookSlot;
 use crate::lane_handle::LaneSlot;
 use crate::store_handle::{StoreCall, StoreHandle, StoreSlot};
 use crate::worker_handle::WorkerSlot;
-use box_parts::BoxParts;
 use bump_handles::{Opened, open};
-use bump_parts::Blank;
 use bump_readers::Name;
 use bump_rules::{ClassConfig, Config};
+use bump_unlocked::Blank;
+use open_box::OpenBox;
 use std::alloc::Global;
 use std::marker::Brand;
 
@@ -122,7 +122,7 @@ fn open_named<N: Name>(
     let Ok(opened) = Box::new(alloc, opened) else {
         return None;
     };
-    Some(StoreSlot::of_parts(BoxParts::of(opened)))
+    Some(StoreSlot::of_open(OpenBox::of(opened)))
 }
 
 fn open_at(
@@ -183,7 +183,7 @@ impl StoreCall for TakeWorker {
 
     fn make<N: Name>(self, it: &mut Opened<N>) -> Option<WorkerSlot> {
         let taken = it.reader(self.number)?;
-        Some(WorkerSlot::of_parts(BoxParts::of(taken)))
+        Some(WorkerSlot::of_open(OpenBox::of(taken)))
     }
 }
 
@@ -226,7 +226,7 @@ impl StoreCall for TakeBook {
 
     fn make<N: Name>(self, it: &mut Opened<N>) -> Option<BookSlot> {
         let taken = it.book(self.number)?;
-        Some(BookSlot::of_parts(BoxParts::of(taken)))
+        Some(BookSlot::of_open(OpenBox::of(taken)))
     }
 }
 
@@ -265,7 +265,7 @@ impl StoreCall for TakeLane {
 
     fn make<N: Name>(self, it: &mut Opened<N>) -> Option<LaneSlot> {
         let taken = it.lane(self.number)?;
-        Some(LaneSlot::of_parts(BoxParts::of(taken)))
+        Some(LaneSlot::of_open(OpenBox::of(taken)))
     }
 }
 
@@ -301,7 +301,7 @@ fn close_named<N: Name>(h: StoreHandle)
     requires table { h.table ≡ N.table }
     requires one { IsOne N }
 {
-    drop(h.into_parts::<N>().into_box());
+    drop(h.into_open::<N>().into_box());
 }
 
 /// Ends what wasn't taken out of a store.

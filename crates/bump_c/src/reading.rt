@@ -256,7 +256,7 @@ struct WorkerCounts;
 impl WorkerCall for WorkerCounts {
     type Told = Counts;
 
-    ghost tells = { λ call table before after told. (after ≡ before) × (told ≡ counts_of before.worker.part.accounts) };
+    ghost tells = { λ call table before after told. (after ≡ before) × (told ≡ counts_of before.worker.sheet.accounts) };
 
     fn make<N: Name>(self, it: &mut Reader<N>) -> Counts {
         counts_told(it.counts())
@@ -268,7 +268,7 @@ impl WorkerCall for WorkerCounts {
 pub extern "C" fn bump_worker_counts(worker: &mut WorkerHandle) -> Counts
     ensures table { worker.new.table ≡ worker.old.table }
     ensures held { worker.new.held ≡ worker.old.held }
-    ensures counts { result ≡ counts_of worker.old.held.worker.part.accounts }
+    ensures counts { result ≡ counts_of worker.old.held.worker.sheet.accounts }
 {
     worker.call(WorkerCounts)
 }
@@ -277,7 +277,7 @@ fn worker_free_named<N: Name>(h: WorkerHandle)
     requires table { h.table ≡ N.table }
     requires one { IsOne N }
 {
-    drop(h.into_parts::<N>().into_box());
+    drop(h.into_open::<N>().into_box());
 }
 
 /// Ends a worker, and gives back what it holds.

@@ -5,9 +5,9 @@ ghost use Rattle.bump_handles.specs.Views.{OpenedView};
 ghost use Rattle.bump_c.specs.One.{IsOne};
 ghost use Rattle.bump_c.specs.Seals.{store_row, owns, part_coded, slot_owns, slot_coded};
 
-use box_parts::BoxParts;
 use bump_handles::Opened;
 use bump_heads::Name;
+use open_box::OpenBox;
 use std::alloc::Global;
 use std::marker::{Brand, Model};
 
@@ -36,25 +36,25 @@ impl Model for StoreHandle {
 }
 
 impl StoreHandle {
-    pub(crate) fn of_parts<N: Name>(parts: BoxParts<Opened<N>, Global>) -> StoreHandle
+    pub(crate) fn of_open<N: Name>(apart: OpenBox<Opened<N>, Global>) -> StoreHandle
         requires one { IsOne N }
         ensures table { result.table ≡ N.table }
-        ensures held { result.held ≡ parts.value }
+        ensures held { result.held ≡ apart.value }
     {
-        let BoxParts { ptr, alloc } = parts;
+        let OpenBox { ptr, alloc } = apart;
         StoreHandle {
             ptr: ptr as *mut (),
             alloc,
         }
     }
 
-    pub(crate) fn into_parts<N: Name>(self) -> BoxParts<Opened<N>, Global>
+    pub(crate) fn into_open<N: Name>(self) -> OpenBox<Opened<N>, Global>
         requires table { self.table ≡ N.table }
         requires one { IsOne N }
         ensures { result.value ≡ self.held }
     {
         let StoreHandle { ptr, alloc } = self;
-        BoxParts {
+        OpenBox {
             ptr: ptr as *mut Opened<N>,
             alloc,
         }
@@ -66,9 +66,9 @@ impl StoreHandle {
         ensures table { result.0.table ≡ self.table }
         ensures tells { C.tells call self.table self.held result.0.held result.1 }
     {
-        let mut it = self.into_parts::<N>().into_box();
+        let mut it = self.into_open::<N>().into_box();
         let told = call.make(&mut it);
-        (StoreHandle::of_parts(BoxParts::of(it)), told)
+        (StoreHandle::of_open(OpenBox::of(it)), told)
     }
 
     // A function of its own, since a closure can't pick the name that `Brand` stands for.
@@ -105,11 +105,11 @@ impl Model for StoreSlot {
 }
 
 impl StoreSlot {
-    pub(crate) fn of_parts<N: Name>(parts: BoxParts<Opened<N>, Global>) -> StoreSlot
+    pub(crate) fn of_open<N: Name>(apart: OpenBox<Opened<N>, Global>) -> StoreSlot
         requires one { IsOne N }
-        ensures { result.slot ≡ (N.table, parts.value) ∷ [] }
+        ensures { result.slot ≡ (N.table, apart.value) ∷ [] }
     {
-        let BoxParts { ptr, alloc } = parts;
+        let OpenBox { ptr, alloc } = apart;
         StoreSlot {
             ptr: ptr as *mut (),
             alloc,

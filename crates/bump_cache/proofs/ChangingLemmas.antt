@@ -1,21 +1,17 @@
 -- A look and then a put, told of the state before the look; and what each call's answer tells.
-use Rattle.std.proofs.Common.{◌≡◌, ◌≢◌, ℕ, Bool, false, List, Option, Some, None, IfSome, MatchOption, is_some, option_map, refl, sym, ap, ◌∙◌, subst}
+use Rattle.std.proofs.Common.{◌≡◌, ◌≢◌, ℕ, Bool, false, List, Option, Some, None, IfSome, is_some, option_map, refl, sym, ap, ◌∙◌, subst}
 use Rattle.cache_lists.specs.Counts.{CountedView}
 use Rattle.cache_part.specs.Parts.{PartView, IsItem}
-use Rattle.cache_part.specs.Putting.{EvictsWhereFull}
-use Rattle.cache_shelf.specs.Entries.{AllKept, FindsNoRoom, Keeps, OthersKept, ReadsShelf}
+use Rattle.cache_part.specs.Putting.{EvictsWhereFull, FindsNoRoom}
+use Rattle.cache_shelf.specs.Entries.{AllKept, Keeps, OthersKept, ReadsShelf}
 use Rattle.cache_shelf.specs.Shelves.{ShelfView}
 use Rattle.cache_shelf.specs.Turns.{PutsInTurn}
 use Rattle.cache_shelf.proofs.Keeping.{moved_keeps, moved_kept}
 use Rattle.cache_shelf.proofs.Moving.{Moves, all_before, only_move, others_before, reads_move}
-use Rattle.bump_cache.specs.declared.answers.Added.{Added}
-use Rattle.bump_cache.specs.declared.answers.Added.TheVariants as added
 use Rattle.bump_cache.specs.declared.answers.Evicted.{Evicted}
-use Rattle.bump_cache.specs.declared.answers.GotOrPut.{GotOrPut}
-use Rattle.bump_cache.specs.declared.answers.GotOrPut.TheVariants as got
 use Rattle.bump_cache.specs.declared.answers.NoRoom.{NoRoom}
 use Rattle.bump_cache.specs.declared.answers.Put.{Put}
-use Rattle.bump_cache.specs.Changing.{HadSome, MatchAdded, MatchGot, PutsAnew, PutsNew, RefusesAnew, RefusesNew, Replaces}
+use Rattle.bump_cache.specs.Changing.{HadSome, PutsAnew, PutsNew, RefusesAnew, RefusesNew, Replaces}
 use Rattle.bump_cache.specs.Putting.{HadValue, PutsRow, PutsValue, RefusesRow, RefusesValue, WasEvicted, evicted_key}
 
 -- a chunk was evicted only where the key had no item
@@ -33,7 +29,7 @@ has_item key now part old item had none = subst (λ o. IsItem key o part) none i
 pub none_put : (key value : List ℕ) (expires now : ℕ) (has_evicted : Bool) (before after : ShelfView)
     → PutsRow key value expires now has_evicted before after → HadSome key now before.part → has_evicted ≡ false
 none_put key value expires now has_evicted before after puts had = sym puts.told_evicted
-    ∙ none_full _ now puts.old puts.evicted _ _ puts.puts.does.puts.room.evicts
+    ∙ none_full _ now puts.old puts.evicted _ _ puts.puts.does.room.evicts
     (has_item key now before.part puts.old puts.item had)
 
 -- and so does one that is refused
@@ -192,26 +188,3 @@ module _ {K V : Type 0} (key_words : K → List ℕ) (value_words : V → List �
       none : why.evicted ≡ None
       none = none_told why.evicted (none_refused (key_words key) now (is_some why.evicted) between after
           refuses.refuses (some_on had))
-
--- what is told of a value is told of what is told
-pub old_told : {A : Type 0} (told : Option A) (P : A → Type 0) (it : A) → told ≡ Some it → P it → IfSome told P
-old_told told P it same has = subst (λ o. IfSome o P) (sym same) has
-
--- each answer tells what it told, and what follows from that
-pub added_then : {K V : Type 0} (did : Added K V) (Has Known : V → Type 0) (Puts Left : Option (Evicted K V) → Type 0)
-    → ((has : V) → Has has → Known has) → ((evicted : Option (Evicted K V)) → Puts evicted → Left evicted)
-    → MatchAdded did Has Puts → MatchAdded did Known Left
-added_then (added.Put evicted) Has Known Puts Left one other did = other evicted did
-added_then (added.Has value) Has Known Puts Left one other did = one value did
-
-pub got_then : {K V : Type 0} (did : GotOrPut K V) (Is Known : V → Type 0)
-    (Puts Left : V → Option (Evicted K V) → Type 0) → ((value : V) → Is value → Known value)
-    → ((value : V) (evicted : Option (Evicted K V)) → Puts value evicted → Left value evicted)
-    → MatchGot did Is Puts → MatchGot did Known Left
-got_then (got.Got value) Is Known Puts Left one other did = one value did
-got_then (got.Put value evicted) Is Known Puts Left one other did = other value evicted did
-
-pub told_then : {A : Type 0} (told : Option A) (Absent Known : Type 0) (Is Left : A → Type 0) → (Absent → Known)
-    → ((a : A) → Is a → Left a) → MatchOption told Absent Is → MatchOption told Known Left
-told_then None Absent Known Is Left one other did = one did
-told_then (Some a) Absent Known Is Left one other did = other a did

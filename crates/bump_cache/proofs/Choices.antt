@@ -10,7 +10,7 @@ use Rattle.keyed_hash.specs.declared.seed.Seed.{Seed}
 use Rattle.keyed_hash.specs.Hashes.{hash_of}
 use Rattle.bump_ring.specs.Ends.{Ring}
 use Rattle.cache_readers.specs.Readers.{KeepsRing, ReaderView}
-use Rattle.cache_making.specs.Choosing.{part_of}
+use Rattle.cache_config.specs.Choosing.{part_of}
 use Rattle.bump_cache.specs.Readers.{CacheReaderView, InPart, KeepsRings, readers_by}
 
 -- The reader at this place is that of the key's part, and another one stands in its place now.

@@ -3,7 +3,7 @@ use Rattle.std.proofs.Common.{◌≡◌, ℕ, List, length, Option, None, Some, 
 use Rattle.cache_part.specs.Parts.{PartView}
 use Rattle.cache_part.specs.Taking.{TakesNext}
 use Rattle.cache_shelf.specs.Entries.{Evicted as TellsRowOf}
-use Rattle.entry_times.specs.Times.{has_expired}
+use Rattle.bump_rules.specs.Expiry.{has_expired}
 use Rattle.bump_cache.specs.declared.answers.Cause.TheVariants.{Expired, Room}
 use Rattle.bump_cache.specs.declared.answers.Evicted.{Evicted}
 use Rattle.bump_cache.specs.Ending.{TakesKey}

@@ -7,8 +7,8 @@ use Rattle.std.specs.List.{slice_get}
 use native.Mathlib.Decide.{ℕ_discrete}
 use Rattle.bump_steps.specs.Rule.{RowPredicate}
 use Rattle.keyed_hash.specs.Hashes.{hash_of}
-use Rattle.cache_making.proofs.Places.{get_set_other, get_set_same}
-use Rattle.cache_making.specs.Choosing.{part_of}
+use Rattle.cache_config.proofs.Places.{get_set_other, get_set_same}
+use Rattle.cache_config.specs.Choosing.{part_of}
 use Rattle.cache_readers.specs.Readers.{ReaderView}
 use Rattle.cache_readers.proofs.GrownLemmas.{TookBetween, TookMore, finds_more, finds_took, nothing_more, took_none, took_since, took_still, took_then}
 use Rattle.bump_cache.specs.Many.{GetsEach, GetsOne}

@@ -4,16 +4,16 @@ use Rattle.std.specs.List.{slice_get}
 use Rattle.std.proofs.lemmas.Option.{slice_get-get_or, slice_get-map, slice_get_within}
 use Rattle.bump_rules.specs.declared.configs.Config.{Config}
 use Rattle.bump_class.specs.Lanes.{LaneView}
-use Rattle.bump_parts.specs.Parting.{raw_rings}
-use Rattle.bump_parts.specs.Workers.{WorkerState, worker_parts_of, worker_rings}
+use Rattle.bump_unlocked.specs.UnlockedStore.{raw_rings}
+use Rattle.bump_unlocked.specs.Workers.{WorkerState, worker_sheets_of, worker_rings}
 use Rattle.bump_ring.specs.Ends.{Ring}
-use Rattle.bump_steps.specs.Rule.{worker_parts}
+use Rattle.bump_steps.specs.Rule.{worker_sheets}
 use Rattle.call_log.specs.Calls.{CallerView}
 use Rattle.cache_readers.specs.Readers.{ReaderView, new_reader}
 use Rattle.cache_shelf.specs.Shelves.{ShelfView}
-use Rattle.cache_making.specs.declared.config.CacheConfig.{CacheConfig}
-use Rattle.cache_making.specs.Configs.{IsStoreOf}
-use Rattle.cache_making.specs.Making.{AreMadeShelves, IsMadeShelf, chunks_before}
+use Rattle.cache_config.specs.declared.config.CacheConfig.{CacheConfig}
+use Rattle.cache_config.specs.Configs.{IsStoreOf}
+use Rattle.cache_config.specs.Making.{AreMadeShelves, IsMadeShelf, chunks_before}
 use Rattle.bump_cache.specs.Opening.{AreNewReaders, BeginsAll, CacheBlankView, IsNewPart, IsNewReader, IsNewShelf, IsWide}
 use Rattle.bump_cache.specs.Readers.{CacheReaderView, rings_of}
 use Rattle.bump_cache.specs.States.{PartState}
@@ -90,7 +90,7 @@ pub opened_readers : (view blank : CacheBlankView) (store heads : Config) (worke
     (readers : List CacheReaderView) → view ≡ blank → IsStoreOf view.config store → heads ≡ store
     → ((number : ℕ) (reader : CacheReaderView) → slice_get readers number ≡ Some reader
     → IsNewReader view.config heads workers number reader)
-    → worker_parts_of workers ≡ worker_parts 0 store.workers
+    → worker_sheets_of workers ≡ worker_sheets 0 store.workers
     → All (λ worker. worker.sender.capacity ≡ store.capacity) workers → AreNewReaders blank.config readers
 opened_readers view blank store heads workers readers same store_of words made new_workers capacity =
     subst (λ (b : CacheBlankView). AreNewReaders b.config readers) same (record {
@@ -100,7 +100,7 @@ opened_readers view blank store heads workers readers same store_of words made n
       made = λ number reader had.
           subst (λ (config : Config). IsNewReader view.config config workers number reader) words
           (made number reader had);
-      new_workers = new_workers ∙ ap (λ (count : ℕ). worker_parts 0 count) store_of.workers;
+      new_workers = new_workers ∙ ap (λ (count : ℕ). worker_sheets 0 count) store_of.workers;
       capacity = subst (λ (most : ℕ). All (λ (worker : WorkerState). worker.sender.capacity ≡ most) workers)
           store_of.capacity capacity;
     })

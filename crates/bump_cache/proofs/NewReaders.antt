@@ -4,11 +4,11 @@ use Rattle.std.specs.List.{slice_get}
 use Rattle.std.proofs.lemmas.List.{length-map}
 use Rattle.std.proofs.lemmas.Option.{slice_get-map, slice_get_within}
 use Rattle.bump_rules.specs.declared.configs.Config.{Config}
-use Rattle.bump_parts.specs.Workers.{WorkerState}
+use Rattle.bump_unlocked.specs.Workers.{WorkerState}
 use Rattle.cache_readers.specs.Readers.{ReaderView}
-use Rattle.cache_making.specs.declared.config.CacheConfig.{CacheConfig}
-use Rattle.cache_making.specs.Making.{AreRows, chunks_before}
-use Rattle.cache_making.proofs.Places.{get_within}
+use Rattle.cache_config.specs.declared.config.CacheConfig.{CacheConfig}
+use Rattle.cache_config.specs.Making.{AreRows, chunks_before}
+use Rattle.cache_config.proofs.Places.{get_within}
 use Rattle.bump_cache.specs.Opening.{IsNewReader}
 use Rattle.bump_cache.specs.Readers.{CacheReaderView, readers_by}
 

@@ -2,7 +2,7 @@
 use Rattle.std.proofs.Common.{◌≡◌, ℕ, suc, ◌+◌, ◌<◌, List, [], ◌∷◌, ◌++◌, length, get_or, refl, sym, ap, ap₂, ◌∙◌, arith}
 use Rattle.std.proofs.Math.ListN.{get_or-append}
 use Rattle.std.proofs.lemmas.List.{get_or-append-add, length-append}
-use Rattle.bump_steps.specs.declared.views.ClassPart.{ClassPart}
+use Rattle.bump_steps.specs.declared.views.ClassSheet.{ClassSheet}
 use Rattle.bump_steps.specs.Views.{last_words}
 use Rattle.bump_steps.specs.References.{words_in}
 use Rattle.cache_part.specs.Keys.{key_at, value_at, words_from}
@@ -30,12 +30,12 @@ module _ {K V : Type 0} (fits_key : K → Type 0) (key_words : K → List ℕ) (
     pub value : V
     pub key_fits : fits_key key
     pub value_fits : fits_value value
-    pub row : words_from 0 (part.key_words + part.value_words) part.book.part chunk ≡ key_words key ++ value_words value
-    pub at_key : key_at part.key_words part.book.part chunk ≡ key_words key
-    pub at_value : value_at part.key_words part.value_words part.book.part chunk ≡ value_words value
+    pub row : words_from 0 (part.key_words + part.value_words) part.book.sheet chunk ≡ key_words key ++ value_words value
+    pub at_key : key_at part.key_words part.book.sheet chunk ≡ key_words key
+    pub at_value : value_at part.key_words part.value_words part.book.sheet chunk ≡ value_words value
 
   pub pair_row : (part : PartView) (chunk : ℕ) → part.key_words ≡ key_width → part.value_words ≡ value_width
-      → IsPair fits_key key_words fits_value value_words (last_words part.book.part chunk) → IsPairRow part chunk
+      → IsPair fits_key key_words fits_value value_words (last_words part.book.sheet chunk) → IsPairRow part chunk
   pair_row part chunk wide_key wide_value pair = record {
     key = pair.key;
     value = pair.value;
@@ -52,8 +52,8 @@ module _ {K V : Type 0} (fits_key : K → Type 0) (key_words : K → List ℕ) (
         pair.words (length first + j) (omega (arith, low, all_long)) ∙ get_or-append-add first second j 0);
   }
     where
-      class : ClassPart
-      class = part.book.part
+      class : ClassSheet
+      class = part.book.sheet
 
       first : List ℕ
       first = key_words pair.key

@@ -1,22 +1,18 @@
 -- What was told as words, told as keys and values.
-use Rattle.std.proofs.Common.{◌≡◌, ◌+◌, inl, inr, ℕ, Bool, true, false, if◌then◌else◌, List, ◌∷◌, ◌++◌, length, get_or, take, drop, Option, None, Some, IfSome, IfNone, is_some, option_map, refl, sym, ap, ◌∙◌, subst}
+use Rattle.std.proofs.Common.{◌≡◌, ◌+◌, ℕ, Bool, true, false, if◌then◌else◌, List, ◌∷◌, ◌++◌, length, get_or, take, drop, Option, None, Some, IfSome, IfNone, is_some, option_map, refl, sym, ap, ◌∙◌, subst}
 use Rattle.std.proofs.Math.Seq.{drop-append_seam, take-append_seam}
-use Rattle.bump_rules.specs.Lists.{all_without}
 use Rattle.bump_steps.specs.Rule.{RowPredicate}
 use Rattle.bump_steps.specs.Views.{last_label, last_words}
-use Rattle.cache_lists.specs.Items.{EndsAt}
-use Rattle.cache_lists.specs.Segments.{SameSegments}
 use Rattle.cache_part.specs.Keys.{key_at, value_at, words_from}
-use Rattle.cache_part.specs.Looks.{LooksOnly}
 use Rattle.cache_part.specs.Parts.{PartView, IsItem, IsPart, IsUnknown}
 use Rattle.cache_part.specs.Putting.{row_at}
 use Rattle.cache_shelf.specs.Entries.{Evicted as TellsRowOf, Had, Keeps, key_of_evicted}
-use Rattle.entry_times.specs.Times.{has_expired}
+use Rattle.bump_rules.specs.Expiry.{has_expired}
 use Rattle.packed_words.specs.Parts.{same_parts}
 use Rattle.bump_cache.specs.declared.answers.Evicted.{Evicted}
 use Rattle.bump_cache.specs.Changing.{HadUntil}
 use Rattle.bump_cache.specs.Pairs.{IsPair}
-use Rattle.bump_cache.specs.Putting.{EndsKey, HadValue, IsPairOfWords, IsTimedValue, TellsEvicted, TellsValue, WasEvicted, evicted_key}
+use Rattle.bump_cache.specs.Putting.{HadValue, IsPairOfWords, IsTimedValue, TellsEvicted, TellsValue, WasEvicted, evicted_key}
 use Rattle.bump_cache.proofs.PairLemmas.{IsPairRow, pair_row}
 
 -- the first of two lists
@@ -33,23 +29,6 @@ pub had_item : (law : RowPredicate) (key : List ℕ) (chunk : Option ℕ) (from 
 had_item law key None from words part had = had.0
 had_item law key (Some c) from words part had = had.under
 
--- the key's item ended, or it had none
-pub ends_told : (law : RowPredicate) (key : List ℕ) (chunk : Option ℕ) (from words : List ℕ) (before after : PartView)
-    → Had law key chunk from words before → IfSome chunk (λ c. EndsAt c before.book after.book)
-    → IfSome chunk (λ c. SameSegments (all_without c before.book.lists) after.book.lists)
-    → IfNone chunk (LooksOnly before.book after.book) → IfNone chunk (after ≡ record before { book = after.book })
-    → EndsKey key before after
-ends_told law key None from words before after had ends lists looks rest =
-    inr (had.0, record { looks = looks; rest = rest })
-ends_told law key (Some c) from words before after had ends lists looks rest =
-    inl (record { chunk = c; under = had.under; ends = ends; lists = lists })
-
--- a value that expires then is told where it hasn't
-pub told_unless : {V : Type 0} (value : V) (expired : Bool) (told : Option V) → (expired ≡ true → told ≡ None)
-    → (expired ≡ false → told ≡ Some value) → told ≡ (if expired then None else Some value)
-told_unless value true told none some = none refl
-told_unless value false told none some = some refl
-
 module _ {K V : Type 0} (fits_key : K → Type 0) (key_words : K → List ℕ) (fits_value : V → Type 0)
     (value_words : V → List ℕ) (key_width value_width : ℕ)
     (key_length : (k : K) → fits_key k → length (key_words k) ≡ key_width)
@@ -60,7 +39,7 @@ module _ {K V : Type 0} (fits_key : K → Type 0) (key_words : K → List ℕ) (
   Law = IsPair fits_key key_words fits_value value_words
 
   -- the row of an item
-  row_of : (c : ℕ) → Law (last_words part.book.part c)
+  row_of : (c : ℕ) → Law (last_words part.book.sheet c)
       → IsPairRow fits_key key_words fits_value value_words key_width value_width key_length value_length part c
   row_of c obeys =
       pair_row fits_key key_words fits_value value_words key_width value_width key_length value_length part c wide_key
@@ -73,20 +52,20 @@ module _ {K V : Type 0} (fits_key : K → Type 0) (key_words : K → List ℕ) (
   value_told key None from words had = tt
   value_told key (Some c) from words had =
       let row = row_of c had.obeys in (
-        last_label part.book.part c,
+        last_label part.book.sheet c,
         row.value,
         row.value_fits,
-        had.told ∙ ap (λ value. last_label part.book.part c ∷ value) row.at_value,
+        had.told ∙ ap (λ value. last_label part.book.sheet c ∷ value) row.at_value,
       )
 
   -- each item that is kept under a key is the one that has it
-  one_item : IsPart part.seed part.key_words part.book.part part.index → (key value : List ℕ) (expires c : ℕ)
-      → IsItem key (Some c) part → (kept : Keeps key value expires part) → last_label part.book.part c ≡ expires
-  one_item is key value expires c item kept = ap (last_label part.book.part)
+  one_item : IsPart part.seed part.key_words part.book.sheet part.index → (key value : List ℕ) (expires c : ℕ)
+      → IsItem key (Some c) part → (kept : Keeps key value expires part) → last_label part.book.sheet c ≡ expires
+  one_item is key value expires c item kept = ap (last_label part.book.sheet)
       (is.agrees.once c kept.chunk item.linked kept.under.linked (item.key ∙ sym kept.under.key)) ∙ kept.label
 
   -- and it is what the key had, where it hasn't expired
-  pub old_told : IsPart part.seed part.key_words part.book.part part.index → (key : List ℕ) (chunk : Option ℕ)
+  pub old_told : IsPart part.seed part.key_words part.book.sheet part.index → (key : List ℕ) (chunk : Option ℕ)
       (from words : List ℕ) (now : ℕ) (told : Option V)
       → Had (IsPair fits_key key_words fits_value value_words) key chunk from words part → IfNone chunk (told ≡ None)
       → IfSome chunk (λ c. TellsValue fits_value value_words words now told)
@@ -97,11 +76,11 @@ module _ {K V : Type 0} (fits_key : K → Type 0) (key_words : K → List ℕ) (
       subst (λ t. HadValue key (option_map value_words t) now part) (sym some.tells)
       (by (has_expired some.expires now) refl)
     where
-      both : last_label part.book.part c ∷ value_at part.key_words part.value_words part.book.part c
+      both : last_label part.book.sheet c ∷ value_at part.key_words part.value_words part.book.sheet c
           ≡ some.expires ∷ value_words some.value
       both = sym had.told ∙ some.has_words
 
-      label : last_label part.book.part c ≡ some.expires
+      label : last_label part.book.sheet c ≡ some.expires
       label = cc both
 
       by : (b : Bool) → has_expired some.expires now ≡ b
@@ -123,7 +102,7 @@ module _ {K V : Type 0} (fits_key : K → Type 0) (key_words : K → List ℕ) (
   until_told key (Some c) from words now value word had none some is =
       by (has_expired some.expires now) refl some.tells
     where
-      both : last_label part.book.part c ∷ value_at part.key_words part.value_words part.book.part c
+      both : last_label part.book.sheet c ∷ value_at part.key_words part.value_words part.book.sheet c
           ≡ some.expires ∷ value_words some.value
       both = sym had.told ∙ some.has_words
 
@@ -150,21 +129,21 @@ module _ {K V : Type 0} (fits_key : K → Type 0) (key_words : K → List ℕ) (
   entry_told None from row after told = tt
   entry_told (Some c) from row after told =
       let it = row_of c told.obeys in (
-        last_label part.book.part c,
-        words_from 0 (part.key_words + part.value_words) part.book.part c,
+        last_label part.book.sheet c,
+        words_from 0 (part.key_words + part.value_words) part.book.sheet c,
         told.told,
         (it.key, it.value, it.key_fits, it.value_fits, it.row),
       )
 
   -- an item whose row tells this is the one that is told
-  pub told_is : (c : ℕ) (row : List ℕ) (now : ℕ) (it : Evicted K V) → Law (last_words part.book.part c)
+  pub told_is : (c : ℕ) (row : List ℕ) (now : ℕ) (it : Evicted K V) → Law (last_words part.book.sheet c)
       → row ≡ row_at part c → (tells : TellsEvicted fits_key key_words fits_value value_words row now it)
-      → (key_at part.key_words part.book.part c ≡ key_words it.key)
-      × (value_at part.key_words part.value_words part.book.part c ≡ value_words it.value)
-      × (last_label part.book.part c ≡ tells.expires)
+      → (key_at part.key_words part.book.sheet c ≡ key_words it.key)
+      × (value_at part.key_words part.value_words part.book.sheet c ≡ value_words it.value)
+      × (last_label part.book.sheet c ≡ tells.expires)
   told_is c row now it obeys told tells =
       let own = row_of c obeys in
-      let rows : last_label part.book.part c ∷ words_from 0 (part.key_words + part.value_words) part.book.part c
+      let rows : last_label part.book.sheet c ∷ words_from 0 (part.key_words + part.value_words) part.book.sheet c
       ≡ tells.expires ∷ (key_words it.key ++ value_words it.value) = sym told ∙ tells.has_row in
       let even : length (key_words own.key) ≡ length (key_words it.key) =
       key_length own.key own.key_fits ∙ sym (key_length it.key tells.key_fits) in

@@ -5,7 +5,7 @@ use Rattle.std.proofs.lemmas.Fn.{FoldsTo-push}
 use Rattle.std.proofs.lemmas.List.{append-nil}
 use Rattle.call_log.specs.Calls.{CallerView}
 use Rattle.bump_class.specs.Books.{BookView}
-use Rattle.bump_steps.specs.declared.views.ClassPart.{ClassPart}
+use Rattle.bump_steps.specs.declared.views.ClassSheet.{ClassSheet}
 use Rattle.bump_steps.specs.Views.{last_label, last_words, owns}
 use Rattle.cache_part.specs.Keys.{key_at, value_at, words_from}
 use Rattle.cache_part.specs.Parts.{PartView}
@@ -30,7 +30,7 @@ module _ {K V : Type 0} (fits_key : K → Type 0) (key_words : K → List ℕ) (
     (value_length : (v : V) → fits_value v → length (value_words v) ≡ value_width)
     (part : PartView) (wide_key : part.key_words ≡ key_width) (wide_value : part.value_words ≡ value_width)
     (chunk : ℕ) (row : List ℕ)
-    (obeys : IsPair fits_key key_words fits_value value_words (last_words part.book.part chunk))
+    (obeys : IsPair fits_key key_words fits_value value_words (last_words part.book.sheet chunk))
     (told : row ≡ row_at part chunk) where
   own : IsPairRow fits_key key_words fits_value value_words key_width value_width key_length value_length part chunk
   own = pair_row fits_key key_words fits_value value_words key_width value_width key_length value_length part chunk
@@ -40,8 +40,8 @@ module _ {K V : Type 0} (fits_key : K → Type 0) (key_words : K → List ℕ) (
   pub row_told : (expires : ℕ) × (words : List ℕ) × (row ≡ expires ∷ words)
       × IsPairOfWords fits_key key_words fits_value value_words words
   row_told = (
-    last_label part.book.part chunk,
-    words_from 0 (part.key_words + part.value_words) part.book.part chunk,
+    last_label part.book.sheet chunk,
+    words_from 0 (part.key_words + part.value_words) part.book.sheet chunk,
     told,
     (own.key, own.value, own.key_fits, own.value_fits, own.row),
   )
@@ -51,7 +51,7 @@ module _ {K V : Type 0} (fits_key : K → Type 0) (key_words : K → List ℕ) (
       → row ≡ expires ∷ (key_words key ++ value_words value)
       → TellsEntry fits_key key_words fits_value value_words key value expires (entry_at part chunk)
   entry_told key value expires key_fits value_fits read =
-      let rows : last_label part.book.part chunk ∷ words_from 0 (part.key_words + part.value_words) part.book.part chunk
+      let rows : last_label part.book.sheet chunk ∷ words_from 0 (part.key_words + part.value_words) part.book.sheet chunk
       ≡ expires ∷ (key_words key ++ value_words value) = sym told ∙ read in
       let even : length (key_words own.key) ≡ length (key_words key) =
       key_length own.key own.key_fits ∙ sym (key_length key key_fits) in
@@ -66,7 +66,7 @@ module _ {K V : Type 0} (fits_key : K → Type 0) (key_words : K → List ℕ) (
       }
 
 -- a chunk of the class is its own
-pub owned_by : (class : ClassPart) (chunk : ℕ) → class.first ≤ chunk → chunk < class.first + class.count
+pub owned_by : (class : ClassSheet) (chunk : ℕ) → class.first ≤ chunk → chunk < class.first + class.count
     → owns chunk class ≡ true
 owned_by class chunk from within = ap₂ (λ a b. a && b) (le-leb class.first chunk from)
     (lt-ltb chunk (class.first + class.count) within)
@@ -86,60 +86,60 @@ reads_more before between after one other = record {
 -- what is there is what was there before loads
 module _ (before after : ShelfView) (reads : ReadsShelf before after) (chunk : ℕ) where
   pub unexpired_read : (now : ℕ)
-      → has_unexpired now after.part.book.part chunk ≡ has_unexpired now before.part.book.part chunk
-  unexpired_read now = ap (λ (b : BookView). has_unexpired now b.part chunk) reads.part.looks
+      → has_unexpired now after.part.book.sheet chunk ≡ has_unexpired now before.part.book.sheet chunk
+  unexpired_read now = ap (λ (b : BookView). has_unexpired now b.sheet chunk) reads.part.looks
 
   pub entry_read : entry_at after.part chunk ≡ entry_at before.part chunk
   entry_read =
       let moves = reads_move before.part after.part reads.part in
-      ap₂ (λ k v. record { key = k; value = v; expires = last_label after.part.book.part chunk })
+      ap₂ (λ k v. record { key = k; value = v; expires = last_label after.part.book.sheet chunk })
       (key_stays before.part after.part chunk moves.alike (λ i. moves.items.words i chunk))
       (value_stays before.part after.part chunk moves.alike (λ i. moves.items.words i chunk))
       ∙ ap (λ expires. record {
-        key = key_at before.part.key_words before.part.book.part chunk;
-        value = value_at before.part.key_words before.part.value_words before.part.book.part chunk;
+        key = key_at before.part.key_words before.part.book.sheet chunk;
+        value = value_at before.part.key_words before.part.value_words before.part.book.sheet chunk;
         expires = expires;
       }) (moves.items.words 0 chunk)
 
-  pub owned_read : owns chunk after.part.book.part ≡ owns chunk before.part.book.part
-  owned_read = ap (λ (b : BookView). owns chunk b.part) reads.part.looks
+  pub owned_read : owns chunk after.part.book.sheet ≡ owns chunk before.part.book.sheet
+  owned_read = ap (λ (b : BookView). owns chunk b.sheet) reads.part.looks
 
 module _ {F : Type 0} (Calls : F → Entry → F → Type 0) (now : ℕ) (part : PartView) (chunk : ℕ) (from : F) where
   -- before the first chunk there was no call
-  pub calls_none : chunk ≡ part.book.part.first
-      → FoldsTo Calls from (first_unexpired now part (chunk - part.book.part.first)) from
+  pub calls_none : chunk ≡ part.book.sheet.first
+      → FoldsTo Calls from (first_unexpired now part (chunk - part.book.sheet.first)) from
   calls_none is =
-      let none : 0 ≡ chunk - part.book.part.first = omega (arith, is) in
+      let none : 0 ≡ chunk - part.book.sheet.first = omega (arith, is) in
       subst (λ count. FoldsTo Calls from (first_unexpired now part count) from) none refl
 
   -- and at the next one there was one where it has an entry
-  pub calls_more : part.book.part.first ≤ chunk → (to next : F)
-      → FoldsTo Calls from (first_unexpired now part (chunk - part.book.part.first)) to
-      → (has_unexpired now part.book.part chunk ≡ true → Calls to (entry_at part chunk) next)
-      → (has_unexpired now part.book.part chunk ≡ false → next ≡ to)
-      → FoldsTo Calls from (first_unexpired now part (chunk + 1 - part.book.part.first)) next
+  pub calls_more : part.book.sheet.first ≤ chunk → (to next : F)
+      → FoldsTo Calls from (first_unexpired now part (chunk - part.book.sheet.first)) to
+      → (has_unexpired now part.book.sheet chunk ≡ true → Calls to (entry_at part chunk) next)
+      → (has_unexpired now part.book.sheet chunk ≡ false → next ≡ to)
+      → FoldsTo Calls from (first_unexpired now part (chunk + 1 - part.book.sheet.first)) next
   calls_more low to next so_far some none =
       subst (λ n. FoldsTo Calls from (first_unexpired now part n) next) more
-      (by (has_unexpired now part.book.part chunk) refl)
+      (by (has_unexpired now part.book.sheet chunk) refl)
     where
       count : ℕ
-      count = chunk - part.book.part.first
+      count = chunk - part.book.sheet.first
 
-      at : part.book.part.first + count ≡ chunk
+      at : part.book.sheet.first + count ≡ chunk
       at = omega (arith, low)
 
-      more : suc count ≡ chunk + 1 - part.book.part.first
+      more : suc count ≡ chunk + 1 - part.book.sheet.first
       more = omega (arith, low)
 
       -- the entries up to this chunk, and its own where it has one
-      entries : (b : Bool) → has_unexpired now part.book.part chunk ≡ b → first_unexpired now part (suc count)
+      entries : (b : Bool) → has_unexpired now part.book.sheet chunk ≡ b → first_unexpired now part (suc count)
           ≡ first_unexpired now part count ++ cond b (entry_at part chunk ∷ []) []
       entries b is = entries_more now part count
           ∙ (ap (λ c. first_unexpired now part count
-          ++ cond (has_unexpired now part.book.part c) (entry_at part c ∷ []) []) at
+          ++ cond (has_unexpired now part.book.sheet c) (entry_at part c ∷ []) []) at
           ∙ ap (λ has. first_unexpired now part count ++ cond has (entry_at part chunk ∷ []) []) is)
 
-      by : (b : Bool) → has_unexpired now part.book.part chunk ≡ b
+      by : (b : Bool) → has_unexpired now part.book.sheet chunk ≡ b
           → FoldsTo Calls from (first_unexpired now part (suc count)) next
       by true is = subst (λ all. FoldsTo Calls from all next) (sym (entries true is))
           (FoldsTo-push Calls from (first_unexpired now part count) to (entry_at part chunk) next so_far (some is))

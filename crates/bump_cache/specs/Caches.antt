@@ -2,7 +2,7 @@
 use Rattle.std.specs.Prelude.{ℕ, List}
 use Rattle.keyed_hash.specs.declared.seed.Seed.{Seed}
 use Rattle.keyed_hash.specs.Hashes.{hash_of}
-use Rattle.cache_making.specs.Choosing.{part_of}
+use Rattle.cache_config.specs.Choosing.{part_of}
 
 -- how many parts it has, and the seed of the keys' hashes
 pub record CacheView : Type 0 where

@@ -3,7 +3,7 @@ use Rattle.std.specs.Prelude.{◌≡◌, ⊤, ℕ, false, List, Option, None, So
 use Rattle.cache_part.specs.Parts.{PartView}
 use Rattle.cache_shelf.specs.Entries.{AllKept, Keeps, OthersKept, ReadsShelf}
 use Rattle.cache_shelf.specs.Shelves.{ShelfView}
-use Rattle.entry_times.specs.Times.{has_expired}
+use Rattle.bump_rules.specs.Expiry.{has_expired}
 use Rattle.bump_cache.specs.declared.answers.Added.{Added}
 use Rattle.bump_cache.specs.declared.answers.Added.TheVariants as added
 use Rattle.bump_cache.specs.declared.answers.Evicted.{Evicted}
@@ -18,14 +18,6 @@ abbrev pub MatchAdded : {K V : Type 0} → Added K V → (V → Type 0) → (Opt
 MatchAdded (added.Put evicted) Has Puts = Puts evicted
 MatchAdded (added.Has value) Has Puts = Has value
 
--- where the key has something, this holds of it
-abbrev pub IfHas : {K V : Type 0} → Added K V → (V → Type 0) → Type 0
-IfHas did Has = MatchAdded did Has (λ evicted. ⊤)
-
--- and where it was put, this holds of what was evicted
-abbrev pub IfAdded : {K V : Type 0} → Added K V → (Option (Evicted K V) → Type 0) → Type 0
-IfAdded did Puts = MatchAdded did (λ value. ⊤) Puts
-
 -- what a get came to that puts: what was there; or what was made, and what was evicted for it
 abbrev pub MatchGot : {K V : Type 0} → GotOrPut K V → (V → Type 0) → (V → Option (Evicted K V) → Type 0) → Type 0
 MatchGot (got.Got value) Is Puts = Is value
@@ -34,10 +26,6 @@ MatchGot (got.Put value evicted) Is Puts = Puts value evicted
 -- where something was there, this holds of it
 abbrev pub IfGot : {K V : Type 0} → GotOrPut K V → (V → Type 0) → Type 0
 IfGot did Is = MatchGot did Is (λ value evicted. ⊤)
-
--- and where a value was made, this holds of it, and of what was evicted
-abbrev pub IfMade : {K V : Type 0} → GotOrPut K V → (V → Option (Evicted K V) → Type 0) → Type 0
-IfMade did Puts = MatchGot did (λ value. ⊤) Puts
 
 -- this value was kept under the key until this time, and hadn't expired; or nothing was, but what had expired
 abbrev pub HadUntil : {V : Type 0} → (V → Type 0) → (V → List ℕ) → List ℕ → Option (V × ℕ) → ℕ → PartView → Type 0

@@ -4,7 +4,7 @@ use Rattle.std.specs.Prelude.{◌≡◌, Option}
 use Rattle.std.specs.Borrow.{Fml, GName, MutBor, RattleType, RestsIfNone}
 use Rattle.bump_readers.specs.declared.names.Name.{Ghosts}
 use Rattle.packed_words.specs.declared.packed.Packed.{Ghosts as PackedGhosts}
-use Rattle.bump_steps.specs.declared.views.HoldPart.{HoldPart}
+use Rattle.bump_steps.specs.declared.views.HoldSheet.{HoldSheet}
 use Rattle.bump_cache.specs.declared.held.HeldItem.{HeldItem}
 use Rattle.bump_cache.specs.contracts.readers.CacheReader.{the_row}
 use Rattle.bump_cache.specs.Readers.{CacheReaderView}
@@ -19,7 +19,7 @@ module _ {N K V : Type 0} where
   reader_of held = held.reader.now
 
   -- the hold: the life, and the words that were stored for it
-  abbrev pub hold_of : HeldItem N K V → HoldPart
+  abbrev pub hold_of : HeldItem N K V → HoldSheet
   hold_of held = held.hold
 
   -- nothing is new to a held item

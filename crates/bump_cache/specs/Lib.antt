@@ -15,11 +15,11 @@ pub mod Bytes
 pub use Rattle.atomic_table.specs.Seated
 pub use Rattle.bump_class.specs.Books
 pub use Rattle.bump_class.specs.Lanes
-pub use Rattle.bump_parts.specs.Gets
-pub use Rattle.bump_parts.specs.Parting
-pub use Rattle.bump_parts.specs.StepCounts
-pub use Rattle.bump_parts.specs.Touches
-pub use Rattle.bump_parts.specs.Workers
+pub use Rattle.bump_unlocked.specs.Gets
+pub use Rattle.bump_unlocked.specs.UnlockedStore
+pub use Rattle.bump_unlocked.specs.StepCounts
+pub use Rattle.bump_unlocked.specs.Touches
+pub use Rattle.bump_unlocked.specs.Workers
 pub use Rattle.bump_ring.specs.Ends
 pub use Rattle.bump_rules.specs.Configs as RulesConfigs
 pub use Rattle.bump_rules.specs.Lists
@@ -27,9 +27,9 @@ pub use Rattle.bump_rules.specs.Rings
 pub use Rattle.bump_steps.specs.References
 pub use Rattle.bump_steps.specs.Rule
 pub use Rattle.bump_steps.specs.Views
-pub use Rattle.cache_making.specs.Choosing
-pub use Rattle.cache_making.specs.Configs
-pub use Rattle.cache_making.specs.Making
+pub use Rattle.cache_config.specs.Choosing
+pub use Rattle.cache_config.specs.Configs
+pub use Rattle.cache_config.specs.Making
 pub use Rattle.cache_lists.specs.Counts
 pub use Rattle.cache_lists.specs.Items
 pub use Rattle.cache_lists.specs.Segments
@@ -47,7 +47,7 @@ pub use Rattle.cache_shelf.specs.Shelves
 pub use Rattle.cache_shelf.specs.Turns
 pub use Rattle.cache_shelf.specs.Visiting as ShelfVisiting
 pub use Rattle.packed_words.specs.Strings
-pub use Rattle.entry_times.specs.Times
+pub use Rattle.bump_rules.specs.Expiry
 pub use Rattle.call_log.specs.Blanks
 pub use Rattle.call_log.specs.Calls
 pub use Rattle.call_log.specs.Logs

@@ -2,10 +2,11 @@
 use Rattle.std.specs.Prelude.{◌≡◌, ℕ, suc, ◌+◌, ◌*◌, ◌<◌, List, [], length, replicate, slice_get, option_map, All, None, Some}
 use mathlib.Core.List.{IsPrefix}
 use Rattle.atomic_table.specs.Seated.{TableId}
+use Rattle.logbook.specs.Pages.{Book}
 use Rattle.bump_rules.specs.declared.configs.Config.{Config}
-use Rattle.bump_steps.specs.Rule.{worker_parts}
-use Rattle.bump_parts.specs.Parting.{raw_rings}
-use Rattle.bump_parts.specs.Workers.{worker_parts_of, WorkerState}
+use Rattle.bump_steps.specs.Rule.{worker_sheets}
+use Rattle.bump_unlocked.specs.UnlockedStore.{raw_rings}
+use Rattle.bump_unlocked.specs.Workers.{worker_sheets_of, WorkerState}
 use Rattle.bump_heads.specs.Making.{BlankView}
 use Rattle.call_log.specs.Blanks.{BlankView as LogBlankView}
 use Rattle.call_log.specs.Calls.{CallerView}
@@ -13,9 +14,9 @@ use Rattle.call_log.specs.Logs.{calls_of, state_of}
 use Rattle.cache_readers.specs.Readers.{new_reader}
 use Rattle.cache_lists.specs.Counts.{no_evictions, no_flow}
 use Rattle.cache_shelf.specs.Shelves.{ShelfView}
-use Rattle.cache_making.specs.declared.config.CacheConfig.{CacheConfig}
-use Rattle.cache_making.specs.Configs.{IsStoreOf, class_of, first_cache_fault, items_in}
-use Rattle.cache_making.specs.Making.{chunks_before, limits_of}
+use Rattle.cache_config.specs.declared.config.CacheConfig.{CacheConfig}
+use Rattle.cache_config.specs.Configs.{IsStoreOf, class_of, first_cache_fault, items_in}
+use Rattle.cache_config.specs.Making.{chunks_before, limits_of}
 use Rattle.bump_cache.specs.Readers.{CacheReaderView, rings_of}
 use Rattle.bump_cache.specs.States.{PartState, number_of}
 
@@ -24,6 +25,12 @@ pub record CacheBlankView : Type 0 where
   pub table : TableId
   pub log : LogBlankView
   pub config : CacheConfig
+
+-- The names say what the blank has: its words are of this table, and its log is of this book, has this name, and may have
+-- so many callers and parts.
+abbrev pub IsNamed : TableId → Book → ℕ → ℕ → CacheBlankView → Type 0
+IsNamed table book name parts blank = (blank.table ≡ table) × (blank.log.book ≡ book) × (blank.log.name ≡ name)
+    × (blank.log.parts ≡ parts)
 
 -- a key and a value take at most so many words together
 abbrev pub most_words : ℕ
@@ -56,7 +63,7 @@ pub record AreNewReaders (config : CacheConfig) (readers : List CacheReaderView)
   pub store_of : IsStoreOf config store
   pub made : (number : ℕ) (reader : CacheReaderView) → slice_get readers number ≡ Some reader
       → IsNewReader config store workers number reader
-  pub new_workers : worker_parts_of workers ≡ worker_parts 0 (config.readers * config.parts)
+  pub new_workers : worker_sheets_of workers ≡ worker_sheets 0 (config.readers * config.parts)
   pub capacity : All (λ (worker : WorkerState). worker.sender.capacity ≡ config.ring) workers
 
 -- What a part of a cache of this configuration is when it is opened, with keys and values of so many words: its class
@@ -64,10 +71,10 @@ pub record AreNewReaders (config : CacheConfig) (readers : List CacheReaderView)
 -- in their order, and the first looks for expired items are at its first chunk.
 pub record IsNewShelf (config : CacheConfig) (part key_width value_width : ℕ) (readers : List CacheReaderView)
     (shelf : ShelfView) : Type 0 where
-  pub class : shelf.part.book.part.class ≡ part
-  pub first : shelf.part.book.part.first ≡ chunks_before config part
-  pub chunks : shelf.part.book.part.count ≡ (class_of config part).chunks
-  pub unused : shelf.part.book.part.history ≡ []
+  pub class : shelf.part.book.sheet.class ≡ part
+  pub first : shelf.part.book.sheet.first ≡ chunks_before config part
+  pub chunks : shelf.part.book.sheet.count ≡ (class_of config part).chunks
+  pub unused : shelf.part.book.sheet.history ≡ []
   pub index : shelf.part.index ≡ replicate (chunks_before config (suc part)) None
   pub flow : shelf.part.flow ≡ no_flow
   pub evictions : shelf.part.evictions ≡ no_evictions

@@ -1,13 +1,11 @@
 -- What puts and removals do, by keys and values as words, and by the times at which these expire.
-use Rattle.std.specs.Prelude.{◌≡◌, ◌⊎◌, ℕ, Bool, true, false, if◌then◌else◌, List, ◌∷◌, ◌++◌, Option, None, Some, IfSome, is_some, option_map}
-use Rattle.bump_rules.specs.Lists.{all_without}
-use Rattle.cache_lists.specs.Items.{EndsAt}
-use Rattle.cache_lists.specs.Segments.{SameSegments}
-use Rattle.cache_part.specs.Parts.{PartView, IsItem, IsUnder, IsUnknown}
-use Rattle.cache_shelf.specs.Entries.{AllKept, FindsNoRoom, Keeps, OnlyReads, OthersKept, PutsEntry}
+use Rattle.std.specs.Prelude.{◌≡◌, ℕ, Bool, true, false, if◌then◌else◌, List, ◌∷◌, ◌++◌, Option, None, Some, IfSome, is_some, option_map}
+use Rattle.cache_part.specs.Parts.{PartView, IsItem, IsUnknown}
+use Rattle.cache_part.specs.Putting.{FindsNoRoom, Puts, Removes}
+use Rattle.cache_shelf.specs.Entries.{AllKept, Keeps, OthersKept}
 use Rattle.cache_shelf.specs.Shelves.{ShelfView, with_ended}
 use Rattle.cache_shelf.specs.Turns.{PutsInTurn}
-use Rattle.entry_times.specs.Times.{has_expired}
+use Rattle.bump_rules.specs.Expiry.{has_expired}
 use Rattle.bump_cache.specs.declared.answers.Cause.{Cause}
 use Rattle.bump_cache.specs.declared.answers.Cause.TheVariants.{Expired, Room}
 use Rattle.bump_cache.specs.declared.answers.Evicted.{Evicted}
@@ -44,7 +42,7 @@ pub record PutsRow (key value : List ℕ) (expires now : ℕ) (has_evicted : Boo
   pub evicted : Option ℕ
   pub told_evicted : is_some evicted ≡ has_evicted
   pub chunk : ℕ
-  pub puts : PutsInTurn (PutsEntry old evicted (key ++ value) expires now chunk) now before after
+  pub puts : PutsInTurn (Puts old evicted (key ++ value) expires now chunk) now before after
 
 -- No room was found for an item with this key, in turn, for which one other was evicted, if one was.
 pub record RefusesRow (key : List ℕ) (now : ℕ) (has_evicted : Bool) (before after : ShelfView) : Type 0 where
@@ -70,17 +68,10 @@ pub record RefusesValue {K V : Type 0} (key_words : K → List ℕ) (value_words
   pub stay : AllKept (evicted_key key_words why.evicted) before.part after.part
   pub refuses : RefusesRow (key_words key) now (is_some why.evicted) before after
 
--- The key's item ended, which is that of this chunk, and the others stay in their lists, in their order.
-pub record EndsItem (key : List ℕ) (before after : PartView) : Type 0 where
-  pub chunk : ℕ
-  pub under : IsUnder key chunk before
-  pub ends : EndsAt chunk before.book after.book
-  pub lists : SameSegments (all_without chunk before.book.lists) after.book.lists
-
--- so it is, also where it had expired; or the key had none, and nothing changed but what the class's seat notes of its
--- loads
+-- the key's item ended, also where it had expired, and the others stay in their lists, in their order; or the key had
+-- none, and nothing changed but what the class's seat notes of its loads
 abbrev pub EndsKey : List ℕ → PartView → PartView → Type 0
-EndsKey key before after = EndsItem key before after ⊎ (IsUnknown key before × OnlyReads before after)
+EndsKey key before after = (chunk : Option ℕ) × Removes key chunk before after
 
 -- The key's item ended, if it had one: what the key had is told, nothing is under it now, and under each other key
 -- stays what was there.

@@ -1,13 +1,13 @@
 -- What contracts see of the readers of a cache, and what their calls come to.
 use Rattle.std.specs.Prelude.{◌≡◌, ℕ, List, length, map, slice_get, slice_set, Some}
-use Rattle.bump_steps.specs.declared.views.HoldPart.{HoldPart}
+use Rattle.bump_steps.specs.declared.views.HoldSheet.{HoldSheet}
 use Rattle.bump_steps.specs.Rule.{RowPredicate}
 use Rattle.bump_ring.specs.Ends.{Ring}
 use Rattle.cache_readers.specs.Looks.{Finds, HasWords, Hits, Peeks, Sees}
 use Rattle.cache_readers.specs.Readers.{ReaderView}
 use Rattle.keyed_hash.specs.declared.seed.Seed.{Seed}
 use Rattle.keyed_hash.specs.Hashes.{hash_of}
-use Rattle.cache_making.specs.Choosing.{part_of}
+use Rattle.cache_config.specs.Choosing.{part_of}
 
 -- the seed of the keys' hashes, and a reader of each part, by number
 pub record CacheReaderView : Type 0 where
@@ -45,12 +45,12 @@ FindsValue law key value now before after =
     Finds law before.config key value now before.anew after.anew before.worker after.worker
 
 -- a get took this hold of an item with the key, and touched it
-abbrev pub HitsItem : RowPredicate → List ℕ → ℕ → HoldPart → ReaderView → ReaderView → Type 0
+abbrev pub HitsItem : RowPredicate → List ℕ → ℕ → HoldSheet → ReaderView → ReaderView → Type 0
 HitsItem law key now hold before after =
     Hits law before.config key now before.anew after.anew before.worker after.worker hold
 
 -- the words of some value stand in the row of the hold, from this number of its further words on
-abbrev pub HoldsValue : {V : Type 0} → (V → Type 0) → (V → List ℕ) → ℕ → HoldPart → Type 0
+abbrev pub HoldsValue : {V : Type 0} → (V → Type 0) → (V → List ℕ) → ℕ → HoldSheet → Type 0
 HoldsValue {V} fits as_words from hold = (value : V) × fits value × HasWords (as_words value) from hold.row
 
 -- a peek found this value

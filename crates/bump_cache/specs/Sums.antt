@@ -1,7 +1,10 @@
 -- Sums of statistics, each number by itself.
-use Rattle.std.specs.Prelude.{ℕ, ◌+◌, min}
+use Rattle.std.specs.Prelude.{ℕ, ◌+◌, min, map, slice_index}
+use Rattle.std.specs.List.{range_with_len}
 use Rattle.cache_lists.specs.declared.flow.Flow.{Flow}
-use Rattle.cache_lists.specs.Counts.{capped, no_flow}
+use Rattle.cache_lists.specs.declared.evictions.Evictions.{Evictions}
+use Rattle.cache_lists.specs.declared.evictions.TheConstants.{STATISTICS}
+use Rattle.cache_lists.specs.Counts.{capped, no_evictions, no_flow}
 use Rattle.cache_part.specs.declared.stats.Stats.{Stats}
 
 -- as far as a count of items goes
@@ -24,6 +27,12 @@ both_flows one other = record {
   ended_temp = capped (one.ended_temp + other.ended_temp);
 }
 
+-- each name's count by itself, as far as a count goes
+abbrev pub both_evictions : Evictions → Evictions → Evictions
+both_evictions one other = record {
+  counts = map (λ name. capped (slice_index one.counts name + slice_index other.counts name)) (range_with_len 0 STATISTICS);
+}
+
 -- each number by itself, as far as a count goes
 abbrev pub both_stats : Stats → Stats → Stats
 both_stats one other = record {
@@ -34,13 +43,7 @@ both_stats one other = record {
   moves_to_cold = capped (one.moves_to_cold + other.moves_to_cold);
   moves_to_warm = capped (one.moves_to_warm + other.moves_to_warm);
   moves_within_lru = capped (one.moves_within_lru + other.moves_within_lru);
-  evicted = capped (one.evicted + other.evicted);
-  evicted_unfetched = capped (one.evicted_unfetched + other.evicted_unfetched);
-  evicted_active = capped (one.evicted_active + other.evicted_active);
-  direct_reclaims = capped (one.direct_reclaims + other.direct_reclaims);
-  reclaimed = capped (one.reclaimed + other.reclaimed);
-  expired_unfetched = capped (one.expired_unfetched + other.expired_unfetched);
-  crawler_reclaimed = capped (one.crawler_reclaimed + other.crawler_reclaimed);
+  evictions = both_evictions one.evictions other.evictions;
   flow = both_flows one.flow other.flow;
 }
 
@@ -54,12 +57,6 @@ no_stats = record {
   moves_to_cold = 0;
   moves_to_warm = 0;
   moves_within_lru = 0;
-  evicted = 0;
-  evicted_unfetched = 0;
-  evicted_active = 0;
-  direct_reclaims = 0;
-  reclaimed = 0;
-  expired_unfetched = 0;
-  crawler_reclaimed = 0;
+  evictions = no_evictions;
   flow = no_flow;
 }

@@ -53,7 +53,7 @@ pub record TendsUntilOver {C : Type 0} (Tells : C → Option ℕ → C → Type 
 -- What a clear does to the shelf of a part: no key has an item, and all words are as they were.
 pub record ClearsShelf (before after : ShelfView) : Type 0 where
   pub empty : (key : List ℕ) → IsUnknown key after.part
-  pub words : (i c : ℕ) → last_word i after.part.book.part c ≡ last_word i before.part.book.part c
+  pub words : (i c : ℕ) → last_word i after.part.book.sheet c ≡ last_word i before.part.book.sheet c
   pub same : after ≡ with_ended after before
 
 -- One call, which cleared the part of this number.

@@ -1,14 +1,14 @@
 //! What a cache is opened from.
 ghost use Rattle.std.specs.Prelude.{◌≡◌, ◌+◌, ◌≤◌, IfOk, None};
 ghost use Rattle.std.specs.Result.{result_err};
-ghost use Rattle.cache_making.specs.Configs.{first_cache_fault, told_fault};
+ghost use Rattle.cache_config.specs.Configs.{first_cache_fault, told_fault};
 ghost use Rattle.bump_cache.specs.Opening.{most_callers, most_words};
 
 use crate::law::PairLaw;
 use crate::states::CacheState;
 use bump_heads::Blank;
 use bump_rules::Config;
-use cache_making::{CacheConfig, CacheRefusal};
+use cache_config::{CacheConfig, CacheRefusal};
 use call_log::LogBlank;
 use packed_words::Packed;
 use std::alloc::{AllocError, Global};

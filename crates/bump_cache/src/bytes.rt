@@ -1,15 +1,12 @@
 //! Look-ups by text and by bytes, for keys that are strings.
-ghost use Rattle.std.specs.Prelude.{◌≡◌, ◌<◌, IfSome, IfNone, None, option_map, true, false};
-ghost use Rattle.cache_part.specs.Parts.{IsUnknown};
+ghost use Rattle.std.specs.Prelude.{◌≡◌, ◌<◌, IfSome, IfNone, None, true, false};
 ghost use Rattle.cache_readers.specs.Readers.{CountsHit, CountsNothing, Misses, ReadsNothing};
-ghost use Rattle.cache_shelf.specs.Entries.{OthersKept};
-ghost use Rattle.cache_shelf.specs.Shelves.{with_ended};
 ghost use Rattle.call_log.specs.Calls.{MakesOne};
 ghost use Rattle.packed_words.specs.Strings.{MayHold, string_words};
 ghost use Rattle.bump_cache.specs.Bytes.{IfRoom, IfTooLong};
 ghost use Rattle.bump_cache.specs.Caches.{part_in};
 ghost use Rattle.bump_cache.specs.Pairs.{IsPair};
-ghost use Rattle.bump_cache.specs.Putting.{EndsKey, HadValue};
+ghost use Rattle.bump_cache.specs.Putting.{RemovesValue};
 ghost use Rattle.bump_cache.specs.Readers.{FindsValue, InPart, KeepsRings, SeesItem};
 ghost use Rattle.bump_cache.specs.States.{from_of, part_called, to_of};
 
@@ -105,13 +102,8 @@ impl<N: Name + LogName, V: Packed, const W: usize> Cache<N, Bytes<W>, V> {
         requires part { 0 < me.old.parts }
         ensures call { IfRoom W key.now (MakesOne me.old me.new) }
         ensures part { IfRoom W key.now (part_called me.new ≡ part_in self.now (string_words W key.now)) }
-        ensures old { IfRoom W key.now (HadValue (string_words W key.now) (option_map V.as_words result) now
-            (from_of me.new).part) }
-        ensures gone { IfRoom W key.now (IsUnknown (string_words W key.now) (to_of me.new).part) }
-        ensures others { IfRoom W key.now (OthersKept (string_words W key.now) None (from_of me.new).part
-            (to_of me.new).part) }
-        ensures ends { IfRoom W key.now (EndsKey (string_words W key.now) (from_of me.new).part (to_of me.new).part) }
-        ensures same { IfRoom W key.now (to_of me.new ≡ with_ended (to_of me.new) (from_of me.new)) }
+        ensures removes { IfRoom W key.now (RemovesValue (string_words W) V.as_words key.now now result (from_of me.new)
+            (to_of me.new)) }
         ensures too_long { IfTooLong W key.now (result ≡ None) }
         ensures unchanged { IfTooLong W key.now (me.new ≡ me.old) }
         ensures parts { me.new.parts ≡ me.old.parts }
@@ -133,13 +125,8 @@ impl<N: Name + LogName, V: Packed, const W: usize> Cache<N, Bytes<W>, V> {
         requires part { 0 < me.old.parts }
         ensures call { IfRoom W key.now (MakesOne me.old me.new) }
         ensures part { IfRoom W key.now (part_called me.new ≡ part_in self.now (string_words W key.now)) }
-        ensures old { IfRoom W key.now (HadValue (string_words W key.now) (option_map V.as_words result) now
-            (from_of me.new).part) }
-        ensures gone { IfRoom W key.now (IsUnknown (string_words W key.now) (to_of me.new).part) }
-        ensures others { IfRoom W key.now (OthersKept (string_words W key.now) None (from_of me.new).part
-            (to_of me.new).part) }
-        ensures ends { IfRoom W key.now (EndsKey (string_words W key.now) (from_of me.new).part (to_of me.new).part) }
-        ensures same { IfRoom W key.now (to_of me.new ≡ with_ended (to_of me.new) (from_of me.new)) }
+        ensures removes { IfRoom W key.now (RemovesValue (string_words W) V.as_words key.now now result (from_of me.new)
+            (to_of me.new)) }
         ensures too_long { IfTooLong W key.now (result ≡ None) }
         ensures unchanged { IfTooLong W key.now (me.new ≡ me.old) }
         ensures parts { me.new.parts ≡ me.old.parts }

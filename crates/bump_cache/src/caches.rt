@@ -1,12 +1,10 @@
 //! A cache that threads share.
-ghost use Rattle.std.specs.Prelude.{◌≡◌, ◌<◌, true, IfSome, IfOk, IfErr, None, is_some, option_map, vec_len};
+ghost use Rattle.std.specs.Prelude.{◌≡◌, ◌<◌, true, IfOk, IfErr, vec_len};
 ghost use Rattle.std.specs.Sync.Mutex.{mutex_guard_value};
-ghost use Rattle.cache_part.specs.Parts.{IsUnknown};
-ghost use Rattle.cache_shelf.specs.Entries.{AllKept, Keeps, OthersKept};
-ghost use Rattle.cache_shelf.specs.Shelves.{with_ended, with_put};
+ghost use Rattle.cache_shelf.specs.Shelves.{with_put};
 ghost use Rattle.call_log.specs.Calls.{MakesOne};
 ghost use Rattle.bump_cache.specs.Caches.{part_in};
-ghost use Rattle.bump_cache.specs.Putting.{EndsKey, HadValue, PutsRow, RefusesRow, WasEvicted, evicted_key};
+ghost use Rattle.bump_cache.specs.Putting.{PutsValue, RefusesValue, RemovesValue};
 ghost use Rattle.bump_cache.specs.States.{from_of, part_called, to_of};
 
 use crate::answers::{NoRoom, Put};
@@ -38,7 +36,7 @@ pub struct Cache<N: Name + LogName, K: Packed, V: Packed> {
 impl<N: Name + LogName, K: Packed, V: Packed> Model for Cache<N, K, V> {
     ghost use Rattle.std.specs.Prelude.{◌+◌, ◌≤◌, vec_len};
     ghost use Rattle.bump_cache.specs.Caches.{CacheView};
-    ghost use Rattle.cache_making.specs.Choosing.{IsPartCount};
+    ghost use Rattle.cache_config.specs.Choosing.{IsPartCount};
     ghost use Rattle.bump_cache.specs.Opening.{most_words};
 
     ghost Value = { CacheView };
@@ -128,21 +126,10 @@ impl<N: Name + LogName, K: Packed, V: Packed> Cache<N, K, V> {
         requires part { 0 < me.old.parts }
         ensures call { MakesOne me.old me.new }
         ensures part { part_called me.new ≡ part_in self.now (K.as_words key.now) }
-        ensures kept { IfOk result (λ did. Keeps (K.as_words key.now) (V.as_words value.now) 0 (to_of me.new).part) }
-        ensures old { IfOk result (λ did. HadValue (K.as_words key.now) (option_map V.as_words did.old) now
-            (from_of me.new).part) }
-        ensures evicted { IfOk result (λ did. IfSome did.evicted (λ it. WasEvicted K.as_words V.as_words it now
-            (from_of me.new).part (to_of me.new).part)) }
-        ensures others { IfOk result (λ did. OthersKept (K.as_words key.now) (evicted_key K.as_words did.evicted)
-            (from_of me.new).part (to_of me.new).part) }
-        ensures puts { IfOk result (λ did. PutsRow (K.as_words key.now) (V.as_words value.now) 0 now
-            (is_some did.evicted) (from_of me.new) (to_of me.new)) }
-        ensures evicted_refused { IfErr result (λ why. IfSome why.evicted (λ it. WasEvicted K.as_words V.as_words it now
-            (from_of me.new).part (to_of me.new).part)) }
-        ensures stay { IfErr result (λ why. AllKept (evicted_key K.as_words why.evicted) (from_of me.new).part
-            (to_of me.new).part) }
-        ensures refuses { IfErr result (λ why. RefusesRow (K.as_words key.now) now (is_some why.evicted)
-            (from_of me.new) (to_of me.new)) }
+        ensures puts { IfOk result (λ did. PutsValue K.as_words V.as_words key.now value.now 0 now did (from_of me.new)
+            (to_of me.new)) }
+        ensures refuses { IfErr result (λ why. RefusesValue K.as_words V.as_words key.now now why (from_of me.new)
+            (to_of me.new)) }
         ensures same { to_of me.new ≡ with_put (to_of me.new) (from_of me.new) }
     {
         self.put_until(rt, me, key, value, 0, now)
@@ -175,22 +162,10 @@ impl<N: Name + LogName, K: Packed, V: Packed> Cache<N, K, V> {
         requires part { 0 < me.old.parts }
         ensures call { MakesOne me.old me.new }
         ensures part { part_called me.new ≡ part_in self.now (K.as_words key.now) }
-        ensures kept { IfOk result (λ did. Keeps (K.as_words key.now) (V.as_words value.now) expires
-            (to_of me.new).part) }
-        ensures old { IfOk result (λ did. HadValue (K.as_words key.now) (option_map V.as_words did.old) now
-            (from_of me.new).part) }
-        ensures evicted { IfOk result (λ did. IfSome did.evicted (λ it. WasEvicted K.as_words V.as_words it now
-            (from_of me.new).part (to_of me.new).part)) }
-        ensures others { IfOk result (λ did. OthersKept (K.as_words key.now) (evicted_key K.as_words did.evicted)
-            (from_of me.new).part (to_of me.new).part) }
-        ensures puts { IfOk result (λ did. PutsRow (K.as_words key.now) (V.as_words value.now) expires now
-            (is_some did.evicted) (from_of me.new) (to_of me.new)) }
-        ensures evicted_refused { IfErr result (λ why. IfSome why.evicted (λ it. WasEvicted K.as_words V.as_words it now
-            (from_of me.new).part (to_of me.new).part)) }
-        ensures stay { IfErr result (λ why. AllKept (evicted_key K.as_words why.evicted) (from_of me.new).part
-            (to_of me.new).part) }
-        ensures refuses { IfErr result (λ why. RefusesRow (K.as_words key.now) now (is_some why.evicted)
-            (from_of me.new) (to_of me.new)) }
+        ensures puts { IfOk result (λ did. PutsValue K.as_words V.as_words key.now value.now expires now did (from_of me.new)
+            (to_of me.new)) }
+        ensures refuses { IfErr result (λ why. RefusesValue K.as_words V.as_words key.now now why (from_of me.new)
+            (to_of me.new)) }
         ensures same { to_of me.new ≡ with_put (to_of me.new) (from_of me.new) }
     {
         let mut guard = self.lock_of(rt, key);
@@ -214,11 +189,7 @@ impl<N: Name + LogName, K: Packed, V: Packed> Cache<N, K, V> {
         requires part { 0 < me.old.parts }
         ensures call { MakesOne me.old me.new }
         ensures part { part_called me.new ≡ part_in self.now (K.as_words key.now) }
-        ensures old { HadValue (K.as_words key.now) (option_map V.as_words result) now (from_of me.new).part }
-        ensures gone { IsUnknown (K.as_words key.now) (to_of me.new).part }
-        ensures others { OthersKept (K.as_words key.now) None (from_of me.new).part (to_of me.new).part }
-        ensures ends { EndsKey (K.as_words key.now) (from_of me.new).part (to_of me.new).part }
-        ensures same { to_of me.new ≡ with_ended (to_of me.new) (from_of me.new) }
+        ensures removes { RemovesValue K.as_words V.as_words key.now now result (from_of me.new) (to_of me.new) }
     {
         let mut guard = self.lock_of(rt, key);
         let logged = &mut *guard;

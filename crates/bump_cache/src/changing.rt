@@ -1,12 +1,10 @@
 //! Calls that look first, and put where it is due: under one lock, as one call.
-ghost use Rattle.std.specs.Prelude.{◌≡◌, ◌<◌, IfSome, IfNone, IfOk, IfErr, None, Some, IsSome, false, is_some};
+ghost use Rattle.std.specs.Prelude.{◌≡◌, ◌<◌, IfNone, IfOk, IfErr};
 ghost use Rattle.std.specs.Fn.{CalledAt};
-ghost use Rattle.cache_shelf.specs.Entries.{AllKept, Keeps, OthersKept, ReadsShelf};
 ghost use Rattle.cache_shelf.specs.Shelves.{with_put};
 ghost use Rattle.call_log.specs.Calls.{MakesOne};
 ghost use Rattle.bump_cache.specs.Caches.{part_in};
-ghost use Rattle.bump_cache.specs.Changing.{Adds, BehindLook, CallsOnHad, Changes, ChangesWhereSome, GetsOrPuts, HadSome, IfAdded, IfGot, IfHas, IfMade, RefusesAnew, RefusesNew, ReplacesWhereSome, TouchesWhereSome};
-ghost use Rattle.bump_cache.specs.Putting.{HadValue, PutsRow, RefusesRow, WasEvicted, evicted_key};
+ghost use Rattle.bump_cache.specs.Changing.{Adds, CallsOnHad, ChangesWhereSome, GetsOrPuts, IfGot, RefusesAnew, RefusesNew, ReplacesWhereSome, TouchesWhereSome};
 ghost use Rattle.bump_cache.specs.States.{from_of, part_called, to_of};
 
 use crate::answers::{Added, GotOrPut, NoRoom, Put};
@@ -174,25 +172,9 @@ impl<N: Name + LogName, K: Packed, V: Packed> Cache<N, K, V> {
         requires part { 0 < me.old.parts }
         ensures call { MakesOne me.old me.new }
         ensures part { part_called me.new ≡ part_in self.now (K.as_words key.now) }
-        ensures has { IfOk result (λ did. IfHas did (λ has. HadValue (K.as_words key.now) (Some (V.as_words has)) now
-            (from_of me.new).part)) }
-        ensures unchanged { IfOk result (λ did. IfHas did (λ has. ReadsShelf (from_of me.new) (to_of me.new))) }
-        ensures free { IfOk result (λ did. IfAdded did (λ evicted. HadValue (K.as_words key.now) None now
-            (from_of me.new).part)) }
-        ensures kept { IfOk result (λ did. IfAdded did (λ evicted. Keeps (K.as_words key.now) (V.as_words value.now)
-            expires (to_of me.new).part)) }
-        ensures evicted { IfOk result (λ did. IfAdded did (λ evicted. IfSome evicted (λ it. WasEvicted K.as_words
-            V.as_words it now (from_of me.new).part (to_of me.new).part))) }
-        ensures others { IfOk result (λ did. IfAdded did (λ evicted. OthersKept (K.as_words key.now)
-            (evicted_key K.as_words evicted) (from_of me.new).part (to_of me.new).part)) }
-        ensures puts { IfOk result (λ did. IfAdded did (λ evicted. BehindLook (PutsRow (K.as_words key.now)
-            (V.as_words value.now) expires now (is_some evicted)) (from_of me.new) (to_of me.new))) }
-        ensures free_refused { IfErr result (λ why. HadValue (K.as_words key.now) None now (from_of me.new).part) }
-        ensures evicted_refused { IfErr result (λ why. IfSome why.evicted (λ it. WasEvicted K.as_words V.as_words it now
-            (from_of me.new).part (to_of me.new).part)) }
-        ensures stay { IfErr result (λ why. AllKept (evicted_key K.as_words why.evicted) (from_of me.new).part
-            (to_of me.new).part) }
-        ensures refuses { IfErr result (λ why. BehindLook (RefusesRow (K.as_words key.now) now (is_some why.evicted))
+        ensures adds { IfOk result (λ did. Adds K.as_words V.as_words (K.as_words key.now) (V.as_words value.now)
+            expires now did (from_of me.new) (to_of me.new)) }
+        ensures refuses { IfErr result (λ why. RefusesNew K.as_words V.as_words (K.as_words key.now) now why
             (from_of me.new) (to_of me.new)) }
         ensures same { to_of me.new ≡ with_put (to_of me.new) (from_of me.new) }
     {
@@ -222,23 +204,9 @@ impl<N: Name + LogName, K: Packed, V: Packed> Cache<N, K, V> {
         requires part { 0 < me.old.parts }
         ensures call { MakesOne me.old me.new }
         ensures part { part_called me.new ≡ part_in self.now (K.as_words key.now) }
-        ensures absent { IfOk result (λ told. IfNone told (HadValue (K.as_words key.now) None now
-            (from_of me.new).part)) }
-        ensures unchanged { IfOk result (λ told. IfNone told (ReadsShelf (from_of me.new) (to_of me.new))) }
-        ensures old { IfOk result (λ told. IfSome told (λ did. IfSome did.old (λ had. HadValue (K.as_words key.now)
-            (Some (V.as_words had)) now (from_of me.new).part))) }
-        ensures told { IfOk result (λ told. IfSome told (λ did. IsSome did.old)) }
-        ensures none_evicted { IfOk result (λ told. IfSome told (λ did. did.evicted ≡ None)) }
-        ensures kept { IfOk result (λ told. IfSome told (λ did. Keeps (K.as_words key.now) (V.as_words value.now)
-            expires (to_of me.new).part)) }
-        ensures others { IfOk result (λ told. IfSome told (λ did. OthersKept (K.as_words key.now) None
-            (from_of me.new).part (to_of me.new).part)) }
-        ensures puts { IfOk result (λ told. IfSome told (λ did. BehindLook (PutsRow (K.as_words key.now)
-            (V.as_words value.now) expires now false) (from_of me.new) (to_of me.new))) }
-        ensures had_refused { IfErr result (λ why. HadSome (K.as_words key.now) now (from_of me.new).part) }
-        ensures none_refused { IfErr result (λ why. why.evicted ≡ None) }
-        ensures stay { IfErr result (λ why. AllKept None (from_of me.new).part (to_of me.new).part) }
-        ensures refuses { IfErr result (λ why. BehindLook (RefusesRow (K.as_words key.now) now false) (from_of me.new)
+        ensures replaces { IfOk result (λ told. ReplacesWhereSome V.as_words (K.as_words key.now) (V.as_words value.now)
+            expires now told (from_of me.new) (to_of me.new)) }
+        ensures refuses { IfErr result (λ why. RefusesAnew (K.as_words key.now) now why (from_of me.new)
             (to_of me.new)) }
         ensures same { to_of me.new ≡ with_put (to_of me.new) (from_of me.new) }
     {
@@ -268,21 +236,9 @@ impl<N: Name + LogName, K: Packed, V: Packed> Cache<N, K, V> {
         requires part { 0 < me.old.parts }
         ensures call { MakesOne me.old me.new }
         ensures part { part_called me.new ≡ part_in self.now (K.as_words key.now) }
-        ensures absent { IfOk result (λ told. IfNone told (HadValue (K.as_words key.now) None now
-            (from_of me.new).part)) }
-        ensures unchanged { IfOk result (λ told. IfNone told (ReadsShelf (from_of me.new) (to_of me.new))) }
-        ensures had { IfOk result (λ told. IfSome told (λ value. HadValue (K.as_words key.now) (Some (V.as_words value))
-            now (from_of me.new).part)) }
-        ensures kept { IfOk result (λ told. IfSome told (λ value. Keeps (K.as_words key.now) (V.as_words value) expires
-            (to_of me.new).part)) }
-        ensures others { IfOk result (λ told. IfSome told (λ value. OthersKept (K.as_words key.now) None
-            (from_of me.new).part (to_of me.new).part)) }
-        ensures puts { IfOk result (λ told. IfSome told (λ value. BehindLook (PutsRow (K.as_words key.now)
-            (V.as_words value) expires now false) (from_of me.new) (to_of me.new))) }
-        ensures had_refused { IfErr result (λ why. HadSome (K.as_words key.now) now (from_of me.new).part) }
-        ensures none_refused { IfErr result (λ why. why.evicted ≡ None) }
-        ensures stay { IfErr result (λ why. AllKept None (from_of me.new).part (to_of me.new).part) }
-        ensures refuses { IfErr result (λ why. BehindLook (RefusesRow (K.as_words key.now) now false) (from_of me.new)
+        ensures touches { IfOk result (λ told. TouchesWhereSome V.as_words (K.as_words key.now) expires now told
+            (from_of me.new) (to_of me.new)) }
+        ensures refuses { IfErr result (λ why. RefusesAnew (K.as_words key.now) now why (from_of me.new)
             (to_of me.new)) }
         ensures same { to_of me.new ≡ with_put (to_of me.new) (from_of me.new) }
     {
@@ -314,22 +270,14 @@ impl<N: Name + LogName, K: Packed, V: Packed> Cache<N, K, V> {
         requires callable { F.IsAlwaysCallable change.old }
         ensures call { MakesOne me.old me.new }
         ensures part { part_called me.new ≡ part_in self.now (K.as_words key.now) }
-        ensures absent { IfOk result (λ told. IfNone told (HadValue (K.as_words key.now) None now
-            (from_of me.new).part)) }
-        ensures unchanged { IfOk result (λ told. IfNone told (ReadsShelf (from_of me.new) (to_of me.new))) }
         ensures uncalled { IfOk result (λ told. IfNone told (change.new ≡ change.old)) }
-        ensures changes { IfOk result (λ told. IfSome told (λ value. Changes V.fits V.as_words
-            (λ had value. CalledAt F.FnMut change.old had value change.new) (K.as_words key.now) now value
-            (from_of me.new) (to_of me.new))) }
-        ensures others { IfOk result (λ told. IfSome told (λ value. OthersKept (K.as_words key.now) None
-            (from_of me.new).part (to_of me.new).part)) }
-        ensures called_refused { IfErr result (λ why. CallsOnHad V.as_words
+        ensures changes { IfOk result (λ told. ChangesWhereSome V.fits V.as_words
+            (λ had value. CalledAt F.FnMut change.old had value change.new) (K.as_words key.now) now told
+            (from_of me.new) (to_of me.new)) }
+        ensures called { IfErr result (λ why. CallsOnHad V.as_words
             (λ had value. CalledAt F.FnMut change.old had value change.new) (K.as_words key.now) now
             (from_of me.new).part) }
-        ensures had_refused { IfErr result (λ why. HadSome (K.as_words key.now) now (from_of me.new).part) }
-        ensures none_refused { IfErr result (λ why. why.evicted ≡ None) }
-        ensures stay { IfErr result (λ why. AllKept None (from_of me.new).part (to_of me.new).part) }
-        ensures refuses { IfErr result (λ why. BehindLook (RefusesRow (K.as_words key.now) now false) (from_of me.new)
+        ensures refuses { IfErr result (λ why. RefusesAnew (K.as_words key.now) now why (from_of me.new)
             (to_of me.new)) }
         ensures same { to_of me.new ≡ with_put (to_of me.new) (from_of me.new) }
     {
@@ -362,28 +310,11 @@ impl<N: Name + LogName, K: Packed, V: Packed> Cache<N, K, V> {
         requires callable { F.IsAlwaysCallable make.old }
         ensures call { MakesOne me.old me.new }
         ensures part { part_called me.new ≡ part_in self.now (K.as_words key.now) }
-        ensures got { IfOk result (λ did. IfGot did (λ value. HadValue (K.as_words key.now) (Some (V.as_words value))
-            now (from_of me.new).part)) }
-        ensures unchanged { IfOk result (λ did. IfGot did (λ value. ReadsShelf (from_of me.new) (to_of me.new))) }
         ensures uncalled { IfOk result (λ did. IfGot did (λ value. make.new ≡ make.old)) }
-        ensures made { IfOk result (λ did. IfMade did (λ value evicted. F.step make.old value make.new)) }
-        ensures free { IfOk result (λ did. IfMade did (λ value evicted. HadValue (K.as_words key.now) None now
-            (from_of me.new).part)) }
-        ensures kept { IfOk result (λ did. IfMade did (λ value evicted. Keeps (K.as_words key.now) (V.as_words value)
-            expires (to_of me.new).part)) }
-        ensures evicted { IfOk result (λ did. IfMade did (λ value evicted. IfSome evicted (λ it. WasEvicted K.as_words
-            V.as_words it now (from_of me.new).part (to_of me.new).part))) }
-        ensures others { IfOk result (λ did. IfMade did (λ value evicted. OthersKept (K.as_words key.now)
-            (evicted_key K.as_words evicted) (from_of me.new).part (to_of me.new).part)) }
-        ensures puts { IfOk result (λ did. IfMade did (λ value evicted. BehindLook (PutsRow (K.as_words key.now)
-            (V.as_words value) expires now (is_some evicted)) (from_of me.new) (to_of me.new))) }
-        ensures called_refused { IfErr result (λ why. (value : V) × F.step make.old value make.new) }
-        ensures free_refused { IfErr result (λ why. HadValue (K.as_words key.now) None now (from_of me.new).part) }
-        ensures evicted_refused { IfErr result (λ why. IfSome why.evicted (λ it. WasEvicted K.as_words V.as_words it now
-            (from_of me.new).part (to_of me.new).part)) }
-        ensures stay { IfErr result (λ why. AllKept (evicted_key K.as_words why.evicted) (from_of me.new).part
-            (to_of me.new).part) }
-        ensures refuses { IfErr result (λ why. BehindLook (RefusesRow (K.as_words key.now) now (is_some why.evicted))
+        ensures puts { IfOk result (λ did. GetsOrPuts K.as_words V.as_words (λ value. F.step make.old value make.new)
+            (K.as_words key.now) expires now did (from_of me.new) (to_of me.new)) }
+        ensures called { IfErr result (λ why. (value : V) × F.step make.old value make.new) }
+        ensures refuses { IfErr result (λ why. RefusesNew K.as_words V.as_words (K.as_words key.now) now why
             (from_of me.new) (to_of me.new)) }
         ensures same { to_of me.new ≡ with_put (to_of me.new) (from_of me.new) }
     {

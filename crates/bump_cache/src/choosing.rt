@@ -1,11 +1,11 @@
 //! Which part of a cache a key is of.
 ghost use Rattle.std.specs.Prelude.{◌≡◌, ◌<◌, ◌≤◌};
 ghost use Rattle.keyed_hash.specs.Hashes.{hash_of};
-ghost use Rattle.cache_making.specs.Choosing.{IsPartCount, part_of};
+ghost use Rattle.cache_config.specs.Choosing.{IsPartCount, part_of};
 ghost use Rattle.bump_cache.specs.Opening.{most_words};
 
 use crate::law::MOST_WORDS;
-use cache_making::part_of_hash;
+use cache_config::part_of_hash;
 use keyed_hash::Seed;
 use packed_words::Packed;
 

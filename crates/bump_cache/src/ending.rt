@@ -1,12 +1,6 @@
 //! What has expired ends, and is told.
-ghost use Rattle.std.specs.Prelude.{◌≡◌, ◌+◌, ◌<◌, ◌≤◌, suc, None, IfSome, length};
-ghost use Rattle.cache_shelf.specs.Entries.{AllKept};
-ghost use Rattle.cache_shelf.specs.Shelves.{with_taken};
-ghost use Rattle.call_log.specs.Calls.{MakesOne};
-ghost use Rattle.bump_cache.specs.declared.answers.Cause.TheVariants.{Expired};
-ghost use Rattle.bump_cache.specs.Ending.{TakesKey, TakesOfPart, TakesValue};
-ghost use Rattle.bump_cache.specs.Putting.{WasEvicted, evicted_key};
-ghost use Rattle.bump_cache.specs.States.{from_of, part_called, to_of};
+ghost use Rattle.std.specs.Prelude.{◌≡◌, ◌+◌, ◌<◌, ◌≤◌, suc, None, length};
+ghost use Rattle.bump_cache.specs.Ending.{TakesOfPart, TakesValue};
 
 use crate::answers::Evicted;
 use crate::caches::Cache;
@@ -78,16 +72,7 @@ impl<N: Name + LogName, K: Packed, V: Packed> Cache<N, K, V> {
     ) -> Option<Evicted<K, V>>
         requires part { 0 < me.old.parts }
         ensures absent { self.now.parts ≤ part → (result ≡ None) × (me.new ≡ me.old) }
-        ensures call { part < self.now.parts → MakesOne me.old me.new }
-        ensures part { part < self.now.parts → part_called me.new ≡ part }
-        ensures evicted { IfSome result (λ it. WasEvicted K.as_words V.as_words it now (from_of me.new).part
-            (to_of me.new).part) }
-        ensures expired { IfSome result (λ it. it.cause ≡ Expired) }
-        ensures kept { part < self.now.parts → AllKept (evicted_key K.as_words result) (from_of me.new).part
-            (to_of me.new).part }
-        ensures takes { part < self.now.parts → TakesKey (evicted_key K.as_words result) (from_of me.new).limits.looks
-            now (from_of me.new).part (to_of me.new).part }
-        ensures same { part < self.now.parts → to_of me.new ≡ with_taken (to_of me.new) (from_of me.new) }
+        ensures takes { part < self.now.parts → TakesOfPart K.as_words V.as_words part now result me.old me.new }
     {
         if part as usize >= self.parts.len() {
             return None;

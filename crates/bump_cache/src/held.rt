@@ -22,11 +22,11 @@ pub(crate) struct PairHold<N: Name, K: Packed, V: Packed> {
 impl<N: Name, K: Packed, V: Packed> Model for PairHold<N, K, V> {
     ghost use Rattle.std.specs.Prelude.{◌+◌, ◌≤◌};
     ghost use Rattle.bump_steps.specs.References.{words_in};
-    ghost use Rattle.bump_steps.specs.declared.views.HoldPart.{HoldPart};
+    ghost use Rattle.bump_steps.specs.declared.views.HoldSheet.{HoldSheet};
     ghost use Rattle.bump_cache.specs.Opening.{most_words};
     ghost use Rattle.bump_cache.specs.Pairs.{IsPair};
 
-    ghost Value = { HoldPart };
+    ghost Value = { HoldSheet };
 
     ghost view = { λ h. h.hold };
 

@@ -2,7 +2,7 @@
 ghost use Rattle.std.specs.Prelude.{◌≡◌, ◌+◌, ◌≤◌, true, false, length, IfSome, IfNone};
 ghost use Rattle.cache_readers.specs.Readers.{CountsHit, CountsNothing, GlancedAt, KeepsRing, Misses, ReadsNothing};
 ghost use Rattle.cache_readers.specs.Readers.{ReaderView as TheReaderView};
-ghost use Rattle.cache_making.specs.Choosing.{IsPartCount};
+ghost use Rattle.cache_config.specs.Choosing.{IsPartCount};
 ghost use Rattle.bump_cache.specs.Opening.{most_words};
 ghost use Rattle.bump_cache.specs.Pairs.{IsPair};
 ghost use Rattle.bump_cache.specs.Readers.{FindsValue, HitsItem, HoldsValue, InPart, KeepsRings, PeeksValue, SeesItem, readers_by};
@@ -10,7 +10,7 @@ ghost use Rattle.bump_cache.specs.Readers.{FindsValue, HitsItem, HoldsValue, InP
 use crate::held::PairHold;
 use crate::law::{MOST_WORDS, PairLaw};
 use bump_heads::Name;
-use cache_making::part_in;
+use cache_config::part_in;
 use cache_readers::{Glanced, ItemId, WordReader};
 use keyed_hash::Seed;
 use packed_words::Packed;

@@ -1,7 +1,7 @@
 //! The readers and the locks of a cache, when it is opened.
 ghost use Rattle.std.specs.Prelude.{◌≡◌, ◌+◌, ◌<◌, ◌≤◌, ◌^◌, IfOk, All, length, map, vec_len};
-ghost use Rattle.cache_making.specs.Choosing.{IsPartCount};
-ghost use Rattle.cache_making.specs.Configs.{most_parts};
+ghost use Rattle.cache_config.specs.Choosing.{IsPartCount};
+ghost use Rattle.cache_config.specs.Configs.{most_parts};
 ghost use Rattle.bump_cache.specs.Opening.{BeginsAll, IsWide, most_words};
 ghost use Rattle.bump_cache.specs.Readers.{readers_by};
 
@@ -11,7 +11,7 @@ use crate::pairs::Pairs;
 use crate::readers::CacheReader;
 use crate::states::CacheState;
 use bump_heads::Name;
-use cache_making::PartReaders;
+use cache_config::PartReaders;
 use cache_shelf::Shelf;
 use call_log::{Caller, LogName, Logged, Logs};
 use crossbeam_utils::CachePadded;

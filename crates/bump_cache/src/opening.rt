@@ -1,6 +1,6 @@
 //! A cache is opened.
 ghost use Rattle.std.specs.Prelude.{◌≡◌, ◌<◌, ℕ, IfOk, length};
-ghost use Rattle.bump_cache.specs.Opening.{AreNewReaders, IsNewPart, most_callers};
+ghost use Rattle.bump_cache.specs.Opening.{AreNewReaders, IsNamed, IsNewPart, most_callers};
 
 use crate::blanks::CacheBlank;
 use crate::caches::Cache;
@@ -9,8 +9,8 @@ use crate::making::{make_locks, make_pairs, make_readers};
 use crate::readers::CacheReader;
 use crate::states::CacheState;
 use bump_heads::Name;
-use bump_parts::StoreParts;
-use cache_making::{make_indexes, make_part_readers, make_shelves};
+use bump_unlocked::UnlockedStore;
+use cache_config::{make_indexes, make_part_readers, make_shelves};
 use call_log::{Caller, LogName};
 use packed_words::Packed;
 use std::alloc::{AllocError, Global};
@@ -39,10 +39,7 @@ pub fn open<N: Name + LogName, K: Packed, V: Packed, W: Wait>(
     rt: &W,
     blank: CacheBlank<K, V>,
 ) -> Result<Opened<N, K, V>, AllocError>
-    requires table { blank.table ≡ N.table }
-    requires book { blank.log.book ≡ N.book }
-    requires name { blank.log.name ≡ N.name }
-    requires parts { blank.log.parts ≡ N.parts }
+    requires { IsNamed N.table N.book N.name N.parts blank }
     ensures cache { IfOk result (λ opened. opened.cache ≡ record {
       parts = blank.config.parts;
       seed = blank.config.seed;
@@ -61,13 +58,13 @@ pub fn open<N: Name + LogName, K: Packed, V: Packed, W: Wait>(
         store,
         config,
     } = blank;
-    let StoreParts {
+    let UnlockedStore {
         heads,
         books,
         starts: _,
         workers,
         lanes,
-    } = StoreParts::<N, PairLaw<K, V>>::open(alloc, words, &store)?;
+    } = UnlockedStore::<N, PairLaw<K, V>>::open(alloc, words, &store)?;
     let indexes = make_indexes(alloc, &config)?;
     let rows = make_part_readers(alloc, &heads, workers, &indexes, &config)?;
     let readers = make_readers(alloc, rows, config.seed)?;

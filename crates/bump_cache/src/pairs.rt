@@ -18,8 +18,8 @@ use crate::answers::{Cause, Evicted, NoRoom, Put};
 use crate::ending::take_row;
 use crate::law::PairLaw;
 use bump_heads::Name;
+use bump_rules::has_expired;
 use cache_shelf::{Shelf, Stats};
-use entry_times::has_expired;
 use packed_words::Packed;
 use std::alloc::{AllocError, Global};
 use std::marker::Model;
@@ -239,10 +239,10 @@ fn unexpired_in<N: Name, K: Packed, V: Packed>(
 ) -> Option<(K, V, u64)>
     requires key { shelf.old.part.key_words ≡ K.width }
     requires value { shelf.old.part.value_words ≡ V.width }
-    requires own { owns chunk shelf.old.part.book.part ≡ true }
+    requires own { owns chunk shelf.old.part.book.sheet ≡ true }
     requires row { length row.old ≡ suc (K.width + V.width) }
-    ensures none { IfNone result (has_unexpired now shelf.old.part.book.part chunk ≡ false) }
-    ensures some { IfSome result (λ it. has_unexpired now shelf.old.part.book.part chunk ≡ true) }
+    ensures none { IfNone result (has_unexpired now shelf.old.part.book.sheet chunk ≡ false) }
+    ensures some { IfSome result (λ it. has_unexpired now shelf.old.part.book.sheet chunk ≡ true) }
     ensures tells { IfSome result (λ it. TellsEntry K.fits K.as_words V.fits V.as_words it.0 it.1 it.2
         (entry_at shelf.old.part chunk)) }
     ensures reads { ReadsShelf shelf.old shelf.new }
@@ -335,7 +335,7 @@ impl<N: Name, K: Packed, V: Packed> Pairs<N, K, V> {
     /// Ends each item, as `Shelf::clear` does.
     pub(crate) fn clear(&mut self)
         ensures empty { (key : List ℕ) → IsUnknown key self.new.part }
-        ensures words { (i c : ℕ) → last_word i self.new.part.book.part c ≡ last_word i self.old.part.book.part c }
+        ensures words { (i c : ℕ) → last_word i self.new.part.book.sheet c ≡ last_word i self.old.part.book.sheet c }
         ensures same { self.new ≡ with_ended self.new self.old }
     {
         self.shelf.clear();
@@ -350,9 +350,9 @@ impl<N: Name, K: Packed, V: Packed> Pairs<N, K, V> {
 
     /// The chunks of the class, as `Shelf::chunks` tells them.
     pub(crate) fn chunks(&self) -> Range<u32>
-        ensures start { result.start ≡ self.now.part.book.part.first }
-        ensures end { result.end ≡ self.now.part.book.part.first + self.now.part.book.part.count }
-        ensures part { IsPart self.now.part.seed self.now.part.key_words self.now.part.book.part self.now.part.index }
+        ensures start { result.start ≡ self.now.part.book.sheet.first }
+        ensures end { result.end ≡ self.now.part.book.sheet.first + self.now.part.book.sheet.count }
+        ensures part { IsPart self.now.part.seed self.now.part.key_words self.now.part.book.sheet self.now.part.index }
     {
         self.shelf.promise();
         self.shelf.chunks()
@@ -361,9 +361,9 @@ impl<N: Name, K: Packed, V: Packed> Pairs<N, K, V> {
     /// The key and the value of the item of a chunk of the class, and when it expires, where one is linked that hasn't
     /// expired; it isn't touched.
     pub(crate) fn unexpired_at(&mut self, chunk: u32, now: u64) -> Option<(K, V, u64)>
-        requires { owns chunk self.old.part.book.part ≡ true }
-        ensures none { IfNone result (has_unexpired now self.old.part.book.part chunk ≡ false) }
-        ensures some { IfSome result (λ it. has_unexpired now self.old.part.book.part chunk ≡ true) }
+        requires { owns chunk self.old.part.book.sheet ≡ true }
+        ensures none { IfNone result (has_unexpired now self.old.part.book.sheet chunk ≡ false) }
+        ensures some { IfSome result (λ it. has_unexpired now self.old.part.book.sheet chunk ≡ true) }
         ensures tells { IfSome result (λ it. TellsEntry K.fits K.as_words V.fits V.as_words it.0 it.1 it.2
             (entry_at self.old.part chunk)) }
         ensures reads { ReadsShelf self.old self.new }

@@ -1,18 +1,18 @@
 //! A reader of a cache.
 ghost use Rattle.std.specs.Prelude.{◌≡◌, ◌+◌, ◌≤◌, true, false, length, All, IfSome, IfNone};
 ghost use Rattle.cache_readers.specs.Readers.{CountsHit, CountsNothing, Misses, ReadsNothing};
-ghost use Rattle.cache_making.specs.Choosing.{IsPartCount};
+ghost use Rattle.cache_config.specs.Choosing.{IsPartCount};
 ghost use Rattle.bump_cache.specs.Opening.{most_words};
 ghost use Rattle.bump_cache.specs.Pairs.{IsPair};
 ghost use Rattle.bump_cache.specs.Readers.{FindsValue, HitsItem, HoldsValue, InPart, KeepsRings, PeeksValue, SeesItem};
-ghost use Rattle.cache_making.specs.Sums.{AddsUp, bumps_of, dropped_of, hits_of, misses_of};
+ghost use Rattle.cache_config.specs.Sums.{AddsUp, bumps_of, dropped_of, hits_of, misses_of};
 
 use crate::held::HeldItem;
 use crate::law::{MOST_WORDS, PairLaw};
 use crate::looking::{get_in, hold_in, peek_in, see_in};
 use bump_heads::Name;
 use bump_rules::Accounts;
-use cache_making::{bumps_in, hits_in, misses_in, part_of_hash};
+use cache_config::{bumps_in, hits_in, misses_in, part_of_hash};
 use cache_readers::WordReader;
 use keyed_hash::Seed;
 use packed_words::Packed;
@@ -29,7 +29,7 @@ pub struct CacheReader<N: Name, K: Packed, V: Packed> {
 
 impl<N: Name, K: Packed, V: Packed> Model for CacheReader<N, K, V> {
     ghost use Rattle.std.specs.Prelude.{◌+◌, ◌≤◌, length};
-    ghost use Rattle.cache_making.specs.Choosing.{IsPartCount};
+    ghost use Rattle.cache_config.specs.Choosing.{IsPartCount};
     ghost use Rattle.bump_cache.specs.Opening.{most_words};
     ghost use Rattle.bump_cache.specs.Readers.{CacheReaderView};
 

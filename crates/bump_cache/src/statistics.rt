@@ -3,16 +3,18 @@ ghost use Rattle.std.specs.Prelude.{◌≡◌, ◌<◌, ◌≤◌, ◌↔◌, If
 ghost use Rattle.cache_part.specs.Stats.{stats_of as stats_of_part};
 ghost use Rattle.call_log.specs.Calls.{OnlyLooks};
 ghost use Rattle.bump_cache.specs.States.{now_of};
-ghost use Rattle.bump_cache.specs.Sums.{both_flows, both_stats as sums_of, no_stats};
+ghost use Rattle.bump_cache.specs.Sums.{both_evictions as sums_of_evictions, both_flows};
+ghost use Rattle.bump_cache.specs.Sums.{both_stats as sums_of, no_stats};
 ghost use Rattle.bump_cache.specs.Tending.{LooksAtPart, SumsUpParts};
 
 use crate::caches::Cache;
 use crate::states::CacheState;
 use bump_heads::Name;
-use cache_lists::Flow;
+use cache_lists::{Evictions, Flow};
 use cache_shelf::Stats;
 use call_log::{Caller, LogName};
 use packed_words::Packed;
+use std::array;
 use std::sync::Wait;
 
 // Each way of items by itself, as far as a count goes.
@@ -34,6 +36,15 @@ fn both_ways(one: &Flow, other: &Flow) -> Flow
     }
 }
 
+// Each name's count by itself, as far as a count goes.
+fn both_evictions(one: &Evictions, other: &Evictions) -> Evictions
+    ensures { result ≡ sums_of_evictions one.now other.now }
+{
+    Evictions {
+        counts: array::from_fn(|name| one.counts[name].saturating_add(other.counts[name])),
+    }
+}
+
 // Each number by itself, as far as a count goes.
 fn both_stats(one: &Stats, other: &Stats) -> Stats
     ensures { result ≡ sums_of one.now other.now }
@@ -46,19 +57,7 @@ fn both_stats(one: &Stats, other: &Stats) -> Stats
         moves_to_cold: one.moves_to_cold.saturating_add(other.moves_to_cold),
         moves_to_warm: one.moves_to_warm.saturating_add(other.moves_to_warm),
         moves_within_lru: one.moves_within_lru.saturating_add(other.moves_within_lru),
-        evicted: one.evicted.saturating_add(other.evicted),
-        evicted_unfetched: one
-            .evicted_unfetched
-            .saturating_add(other.evicted_unfetched),
-        evicted_active: one.evicted_active.saturating_add(other.evicted_active),
-        direct_reclaims: one.direct_reclaims.saturating_add(other.direct_reclaims),
-        reclaimed: one.reclaimed.saturating_add(other.reclaimed),
-        expired_unfetched: one
-            .expired_unfetched
-            .saturating_add(other.expired_unfetched),
-        crawler_reclaimed: one
-            .crawler_reclaimed
-            .saturating_add(other.crawler_reclaimed),
+        evictions: both_evictions(&one.evictions, &other.evictions),
         flow: both_ways(&one.flow, &other.flow),
     }
 }
@@ -75,13 +74,7 @@ fn nothing() -> Stats
         moves_to_cold: 0,
         moves_to_warm: 0,
         moves_within_lru: 0,
-        evicted: 0,
-        evicted_unfetched: 0,
-        evicted_active: 0,
-        direct_reclaims: 0,
-        reclaimed: 0,
-        expired_unfetched: 0,
-        crawler_reclaimed: 0,
+        evictions: Evictions::new(),
         flow: Flow::new(),
     }
 }

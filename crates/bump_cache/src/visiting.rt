@@ -17,13 +17,13 @@ use std::sync::Wait;
 impl<N: Name, K: Packed, V: Packed> Pairs<N, K, V> {
     // Calls a closure with the item of a chunk, where it has one that hasn't expired, and gives the closure back.
     fn visit_chunk<F: FnMut(K, V, u64)>(&mut self, chunk: u32, now: u64, mut visit: F) -> F
-        requires own { owns chunk self.old.part.book.part ≡ true }
+        requires own { owns chunk self.old.part.book.sheet ≡ true }
         requires callable { F.IsAlwaysCallable visit }
-        ensures some { has_unexpired now self.old.part.book.part chunk ≡ true
+        ensures some { has_unexpired now self.old.part.book.sheet chunk ≡ true
             → CallsWith K.fits K.as_words V.fits V.as_words
             (λ from key value expires to. F.step from key value expires tt to) visit (entry_at self.old.part chunk)
             result }
-        ensures none { has_unexpired now self.old.part.book.part chunk ≡ false → result ≡ visit }
+        ensures none { has_unexpired now self.old.part.book.sheet chunk ≡ false → result ≡ visit }
         ensures callable { F.IsAlwaysCallable result }
         ensures reads { ReadsShelf self.old self.new }
     {

@@ -19,8 +19,8 @@ use Rattle.bump_rules.proofs.Counted.{how_many_push}
 use Rattle.bump_rules.proofs.Laws.{dying_where_unlinked}
 use Rattle.bump_rules.proofs.ToldMoves.{no_move}
 use Rattle.bump_word.specs.Words.{word_of, Fits}
-use Rattle.bump_steps.specs.declared.views.ClassPart.{ClassPart}
-use Rattle.bump_steps.specs.declared.views.LanePart.{LanePart}
+use Rattle.bump_steps.specs.declared.views.ClassSheet.{ClassSheet}
+use Rattle.bump_steps.specs.declared.views.LaneSheet.{LaneSheet}
 use Rattle.bump_steps.specs.declared.views.Ride.{Ride}
 use Rattle.bump_steps.specs.Applications.{life_in}
 use Rattle.bump_steps.specs.Lives.{class_after_load, class_after_sweep, class_after_sweep_or_load}
@@ -31,7 +31,7 @@ use Rattle.bump_heads.specs.Applying.{IsShown, FoundOfBump, NamesNoBumpTwice, Te
 use Rattle.bump_ring.specs.Ends.{Ring}
 use Rattle.bump_class.specs.Applications.{FoundHeads, Updates, Applies, AppliesFront, AppliesBump, EachMoveIsTold, class_with_time, with_clearing, class_after_update, book_after_update, applied_answer}
 use Rattle.bump_class.specs.Books.{BookView, KeepsBook}
-use Rattle.bump_class.specs.Lanes.{LaneView, carries, entries, part_or}
+use Rattle.bump_class.specs.Lanes.{LaneView, carries, entries, sheet_or}
 
 -- where the update table says Gone, the item isn't linked
 not_linked : (h a : Head) → Gone ≡ outcome_of h a → h.linked ≡ false
@@ -43,15 +43,15 @@ not_linked h a is = by h.linked (is_cold h.segment && a.active) is
     by true false e = absurd (cc e)
 
 -- so its chunk is DYING
-pub gone_dies : (k : ClassPart) (b : Bump) (h a : Head) → FoundOfBump k b.life h → owns b.life.chunk k ≡ true
+pub gone_dies : (k : ClassSheet) (b : Bump) (h a : Head) → FoundOfBump k b.life h → owns b.life.chunk k ≡ true
     → Gone ≡ outcome_of h a → (standing k b.life.chunk).0 ≡ Dying
 gone_dies k b h a sight own is = let s = sight.stands own in
     dying_where_unlinked h (standing k b.life.chunk).0 s.0 s.2 (not_linked h a is)
 
 -- What a look at a chunk of DYING leaves true of the class's history, whether or not it frees the chunk.
-module _ (k : ClassPart) (c : ℕ) (h : Head) where
+module _ (k : ClassSheet) (c : ℕ) (h : Head) where
   -- no entry is lost
-  pub shown_behind : (l : LanePart) (b : Bump) → IsShown k l b Gone
+  pub shown_behind : (l : LaneSheet) (b : Bump) → IsShown k l b Gone
       → IsShown (class_after_sweep_or_load c h.refs (word_of h) k) l b Gone
   shown_behind l b is = by (h.refs == 0)
     where
@@ -79,10 +79,10 @@ module _ (k : ClassPart) (c : ℕ) (h : Head) where
   pub once_behind : NamesNoBumpTwice k → NamesNoBumpTwice (class_after_sweep_or_load c h.refs (word_of h) k)
   once_behind once w n = omega (arith, same_moves (λ l. true) w n, once w n)
 
-  pub told_behind : (l : LanePart) → TellsMoves k l → TellsMoves (class_after_sweep_or_load c h.refs (word_of h) k) l
+  pub told_behind : (l : LaneSheet) → TellsMoves k l → TellsMoves (class_after_sweep_or_load c h.refs (word_of h) k) l
   told_behind l told test n = by (h.refs == 0)
     where
-      after : Bool → ClassPart
+      after : Bool → ClassSheet
       after x = if x then class_after_sweep c (word_of h) k else class_after_load c (word_of h) k
 
       by : (x : Bool) → how_many (is_move_for test l.worker n) (after x).history
@@ -97,23 +97,23 @@ module _ (k : ClassPart) (c : ℕ) (h : Head) where
       by false = told test n
 
 -- What the update of seat and lane, and the change of the lists, come to together: on the Book and the lane of which
--- they are parts, and on those that contracts see.
-module _ (v : ClassView) (lists : Lists) (hot warm workers : ℕ) (ring : Ring) (rs ks : List Ride) (o x : Option LanePart)
+-- they are sheets, and on those that contracts see.
+module _ (v : ClassView) (lists : Lists) (hot warm workers : ℕ) (ring : Ring) (rs ks : List Ride) (o x : Option LaneSheet)
     (b : Bump) (now : ℕ) (out : Outcome) (f : FoundHeads) (w : ClassView)
-    (u : Updates v (part_or o) b now out w (part_or x) f) (own : owns b.life.chunk v.part ≡ true) where
+    (u : Updates v (sheet_or o) b now out w (sheet_or x) f) (own : owns b.life.chunk v.sheet ≡ true) where
   abbrev pub book : BookView
-  book = record { part = v.part; lists = lists; hot_limit = hot; warm_limit = warm; workers = workers }
+  book = record { sheet = v.sheet; lists = lists; hot_limit = hot; warm_limit = warm; workers = workers }
 
   abbrev pub this_lane : LaneView
-  this_lane = record { ring = ring; received = rs; known = ks; part = part_or o }
+  this_lane = record { ring = ring; received = rs; known = ks; sheet = sheet_or o }
 
   abbrev pub lane_left : LaneView
-  lane_left = record { ring = ring; received = rs; known = ks; part = part_or x }
+  lane_left = record { ring = ring; received = rs; known = ks; sheet = sheet_or x }
 
   pub applies : (behind : Head) (answer : Applied) (a : BookView) → Fits behind
       → answer ≡ applied_answer out (ended_of behind)
-      → a ≡ book_after_update out (part_or o).worker b now (record f { behind = behind }) book
-      → IsShown a.part (part_or x) b out
+      → a ≡ book_after_update out (sheet_or o).worker b now (record f { behind = behind }) book
+      → IsShown a.sheet (sheet_or x) b out
       → Applies book this_lane b now out answer a lane_left (record f { behind = behind })
   applies behind answer a fits answered is entry = record {
     fit = record { tried = u.fit.tried; cleared = u.fit.cleared; moved = u.fit.moved; last = u.fit.last };
@@ -124,15 +124,15 @@ module _ (v : ClassView) (lists : Lists) (hot warm workers : ℕ) (ring : Ring) 
     table = u.table;
     answered = answered;
     book_after = is;
-    lane_after = ap (λ (p : LanePart). record this_lane { part = p }) u.lane;
+    lane_after = ap (λ (p : LaneSheet). record this_lane { sheet = p }) u.lane;
     entry = entry;
   }
 
-  pub fronts : (k : BookView) (l : LaneView) → book ≡ k → this_lane ≡ l → carried (part_or o).stage ≡ Some b
+  pub fronts : (k : BookView) (l : LaneView) → book ≡ k → this_lane ≡ l → carried (sheet_or o).stage ≡ Some b
       → (behind : Head) (answer : Applied) (a : BookView) → Fits behind
       → answer ≡ applied_answer out (ended_of behind)
-      → a ≡ book_after_update out (part_or o).worker b now (record f { behind = behind }) book
-      → IsShown a.part (part_or x) b out → AppliesFront now k l answer a lane_left
+      → a ≡ book_after_update out (sheet_or o).worker b now (record f { behind = behind }) book
+      → IsShown a.sheet (sheet_or x) b out → AppliesFront now k l answer a lane_left
   fronts k l books lanes aboard behind answer a fits answered is entry = (
     b,
     out,
@@ -143,38 +143,31 @@ module _ (v : ClassView) (lists : Lists) (hot warm workers : ℕ) (ring : Ring) 
         (applies behind answer a fits answered is entry)),
   )
 
--- the bump that a lane carries is of a chunk of the class, by what contracts see of both
-pub owned : (v k : BookView) (x l : LaneView) (b : Bump) → v ≡ k → x ≡ l → carries x ≡ Some b
-    → IfSome (carries l) (λ d. owns d.life.chunk k.part ≡ true) → owns b.life.chunk v.part ≡ true
-owned v k x l b books lanes is own = subst (λ (y : BookView). owns b.life.chunk y.part ≡ true) (sym books)
-    (subst (λ (o : Option Bump). IfSome o (λ d. owns d.life.chunk k.part ≡ true))
-    (ap (λ (y : LaneView). carries y) (sym lanes) ∙ is) own)
-
 -- which class it is, and which chunks it has
-abbrev pub IsSameClass : ClassPart → ClassPart → Type 0
+abbrev pub IsSameClass : ClassSheet → ClassSheet → Type 0
 IsSameClass after before =
     (after.class ≡ before.class) × (after.first ≡ before.first) × (after.count ≡ before.count)
 
 -- no application changes that
 pub same_class : (out : Outcome) (w : ℕ) (b : Bump) (now : ℕ) (f : FoundHeads) (k : BookView)
-    → IsSameClass (book_after_update out w b now f k).part k.part
+    → IsSameClass (book_after_update out w b now f k).sheet k.sheet
 same_class Moved w b now f k = (refl, refl, refl)
 same_class TimeOnly w b now f k = by (is_cold f.tried.segment)
   where
-    by : (x : Bool) → IsSameClass (if x then with_clearing w b f.cleared (class_with_time w b now k.part) else
-        class_with_time w b now k.part) k.part
+    by : (x : Bool) → IsSameClass (if x then with_clearing w b f.cleared (class_with_time w b now k.sheet) else
+        class_with_time w b now k.sheet) k.sheet
     by true = (refl, refl, refl)
     by false = (refl, refl, refl)
 same_class Gone w b now f k = by (f.behind.refs == 0)
   where
-    by : (x : Bool) → IsSameClass (if x then class_after_sweep b.life.chunk (word_of f.behind) k.part else
-        class_after_load b.life.chunk (word_of f.behind) k.part) k.part
+    by : (x : Bool) → IsSameClass (if x then class_after_sweep b.life.chunk (word_of f.behind) k.sheet else
+        class_after_load b.life.chunk (word_of f.behind) k.sheet) k.sheet
     by true = (refl, refl, refl)
     by false = (refl, refl, refl)
 
 -- all that an application comes to follows from the update table, and from what history and entries say of each other
 pub bump_applied : (now : ℕ) (book : BookView) (from : LaneView) (answer : Applied) (left : BookView) (to : LaneView)
-    → AppliesFront now book from answer left to → NamesNoBumpTwice left.part → EachMoveIsTold left.part to.part
+    → AppliesFront now book from answer left to → NamesNoBumpTwice left.sheet → EachMoveIsTold left.sheet to.sheet
     → AppliesBump now book from answer left to
 bump_applied now book from answer left to front once told =
     let lane = front.4.lane_after in record {
@@ -187,8 +180,8 @@ bump_applied now book from answer left to front once told =
         ap (λ (x : LaneView). length (entries x)) lane,
         length-append (entries from) (applied_bump front.0 front.1 ∷ []),
       );
-      class = subst (λ (z : BookView). IsSameClass z.part book.part) (sym front.4.book_after)
-          (same_class front.1 from.part.worker front.0 now front.2 book);
+      class = subst (λ (z : BookView). IsSameClass z.sheet book.sheet) (sym front.4.book_after)
+          (same_class front.1 from.sheet.worker front.0 now front.2 book);
       once = once;
       told = told;
     }
@@ -196,14 +189,14 @@ bump_applied now book from answer left to front once told =
 -- what the type of a Book keeps, it keeps by an application that moves nothing
 pub time_only_keeps : (v w : ClassView) (first end hot warm workers : ℕ) (counts : List ℕ) (lists : Lists) (worker : ℕ) (b : Bump)
     (now : ℕ) (f : FoundHeads) → KeepsBook v first end lists hot warm workers counts
-    → w ≡ record v { part = class_after_update TimeOnly worker b now f v.part }
+    → w ≡ record v { sheet = class_after_update TimeOnly worker b now f v.sheet }
     → KeepsBook w first end lists hot warm workers counts
 time_only_keeps v w first end hot warm workers counts lists worker b now f o is =
     subst (λ (x : ClassView). KeepsBook x first end lists hot warm workers counts) (sym is) (by (is_cold f.tried.segment))
   where
     by : (x : Bool) → KeepsBook (record v {
-      part = if x then with_clearing worker b f.cleared (class_with_time worker b now v.part) else
-          class_with_time worker b now v.part;
+      sheet = if x then with_clearing worker b f.cleared (class_with_time worker b now v.sheet) else
+          class_with_time worker b now v.sheet;
     }) first end lists hot warm workers counts
     by true = (
       o.0,

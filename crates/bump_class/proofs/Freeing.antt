@@ -249,7 +249,7 @@ SoFar b slice i now ahead n told = (heads : ℕ → Head) × (kept : List ℕ) �
 module _ (b now new : BookView) (i n : ℕ) (ahead behind : Option ℕ) (slice told : List ℕ) (c : ℕ) (h : Head) (o : IsBook b)
     (within : i < length b.lists.dying) (is : ahead ≡ Some c) (so : SoFar b slice i now ahead n told)
     (once : times c now.lists.dying ≡ 1) (fit : Fits h) (off : h.linked ≡ false)
-    (generation : h.generation ≡ generation_of_chunk now.part c) (is_new : new ≡ book_after_sweep_or_load c h now)
+    (generation : h.generation ≡ generation_of_chunk now.sheet c) (is_new : new ≡ book_after_sweep_or_load c h now)
     (is_behind : behind ≡ next_of c now.lists.dying) where
   -- one more chunk was looked at
   swept_on : (m : ℕ) → n + (if is_unheld h then 1 else 0) ≡ m

@@ -14,14 +14,14 @@ use Rattle.bump_rules.specs.Lanes.{carried, bump_of, applied_bump, is_half_made}
 use Rattle.bump_rules.specs.Lives.{life, is_same}
 use Rattle.bump_rules.specs.Rings.{aboard, bump_applied, numbered_from, most_attempts}
 use Rattle.bump_rules.proofs.ToldMoves.{told_shows}
-use Rattle.bump_steps.specs.declared.views.ClassPart.{ClassPart}
-use Rattle.bump_steps.specs.declared.views.LanePart.{LanePart}
+use Rattle.bump_steps.specs.declared.views.ClassSheet.{ClassSheet}
+use Rattle.bump_steps.specs.declared.views.LaneSheet.{LaneSheet}
 use Rattle.bump_steps.specs.declared.views.Ride.{Ride}
 use Rattle.bump_steps.specs.Riders.{lane_after_board, bump_of_ride, applied_by}
 use Rattle.bump_steps.specs.Views.{bump_aboard, owns}
 use Rattle.bump_heads.specs.Applying.{carried_by, TellsMoves, is_own}
 use Rattle.bump_heads.specs.Seats.{aboard_lane}
-use Rattle.bump_class.specs.Lanes.{KeepsLane, LaneView, IsRawLane, Boards, TellsAboard, carries, entries, part_or, lives}
+use Rattle.bump_class.specs.Lanes.{KeepsLane, LaneView, IsRawLane, Boards, TellsAboard, carries, entries, sheet_or, lives}
 use Rattle.bump_class.specs.Applications.{FoundHeads, lane_after_update, EachMoveIsTold}
 
 -- a numbered list is as long as its lives
@@ -45,21 +45,21 @@ aboard_where_carried (lane.Tried d) b is = absurd (cc is)
 aboard_where_carried (lane.Cleared d f) b is = absurd (cc is)
 aboard_where_carried (lane.Moved d) b is = absurd (cc is)
 
--- so it is of the part of a seat that is whole
-pub carried_part : (o : Option LanePart) (b : Bump) → carried_by o ≡ Some b → carried (part_or o).stage ≡ Some b
-carried_part None b is = absurd (cc is)
-carried_part (Some l) b is = is
+-- so it is of the sheet of a seat that is whole
+pub carried_sheet : (o : Option LaneSheet) (b : Bump) → carried_by o ≡ Some b → carried (sheet_or o).stage ≡ Some b
+carried_sheet None b is = absurd (cc is)
+carried_sheet (Some l) b is = is
 
 -- and of the seat itself, which is whole
-pub carried_seat : (o : Option LanePart) (v n : ℕ) (rs : List Ride) (b : Bump) → KeepsLane o v n rs
-    → carried (part_or o).stage ≡ Some b → carried_by o ≡ Some b
+pub carried_seat : (o : Option LaneSheet) (v n : ℕ) (rs : List Ride) (b : Bump) → KeepsLane o v n rs
+    → carried (sheet_or o).stage ≡ Some b → carried_by o ≡ Some b
 carried_seat None v n rs b keeps is = absurd (cc keeps.whole)
 carried_seat (Some l) v n rs b keeps is = is
 
 -- one more bump than a lane applied has a number
-pub few_aboard : (o : Option LanePart) (v n : ℕ) (rs : List Ride) (b : Bump) → KeepsLane o v n rs
+pub few_aboard : (o : Option LaneSheet) (v n : ℕ) (rs : List Ride) (b : Bump) → KeepsLane o v n rs
     → carried_by o ≡ Some b → n < most_attempts
-few_aboard o v n rs b keeps is = subst (λ (x : Option Bump). IfSome x (λ d. n < most_attempts)) (carried_part o b is)
+few_aboard o v n rs b keeps is = subst (λ (x : Option Bump). IfSome x (λ d. n < most_attempts)) (carried_sheet o b is)
     keeps.few
 
 -- nothing is aboard
@@ -71,8 +71,8 @@ none_aboard (lane.Cleared d f) is = absurd (cc is)
 none_aboard (lane.Moved d) is = absurd (cc is)
 
 -- a lane at rest that carries none has none aboard
-pub none_carried : (o : Option LanePart) (v n : ℕ) (rs : List Ride) → KeepsLane o v n rs
-    → carried (part_or o).stage ≡ None → aboard_lane o ≡ None
+pub none_carried : (o : Option LaneSheet) (v n : ℕ) (rs : List Ride) → KeepsLane o v n rs
+    → carried (sheet_or o).stage ≡ None → aboard_lane o ≡ None
 none_carried None v n rs keeps none = refl
 none_carried (Some l) v n rs keeps none = by l.stage keeps.lane.at_rest none
   where
@@ -84,7 +84,7 @@ none_carried (Some l) v n rs keeps none = by l.stage keeps.lane.at_rest none
     by (lane.Moved d) rests none = absurd (cc rests)
 
 -- then the number of the next bump is that of the bumps applied
-next_is : (l : LanePart) (rs : List Ride) → map bump_applied l.applied ++ aboard l.stage ≡ numbered_from 0 (lives rs)
+next_is : (l : LaneSheet) (rs : List Ride) → map bump_applied l.applied ++ aboard l.stage ≡ numbered_from 0 (lives rs)
     → aboard l.stage ≡ [] → length l.applied ≡ length rs
 next_is l rs order none = omega (
   arith,
@@ -96,25 +96,25 @@ next_is l rs order none = omega (
   length-map rs (λ (r : Ride). r.life),
 )
 
-pub next_number : (o : Option LanePart) (v n : ℕ) (rs : List Ride) → KeepsLane o v n rs → aboard_lane o ≡ None
+pub next_number : (o : Option LaneSheet) (v n : ℕ) (rs : List Ride) → KeepsLane o v n rs → aboard_lane o ≡ None
     → length (applied_by o) ≡ length rs
 next_number None v n rs keeps is = absurd (cc keeps.whole)
 next_number (Some l) v n rs keeps is = next_is l rs keeps.lane.in_order (none_aboard l.stage is).1
 
 -- so the count of a lane with nothing aboard is the number of the next bump
-pub count_is : (o : Option LanePart) (v n : ℕ) (rs : List Ride) (r : Ride) → KeepsLane o v n rs → aboard_lane o ≡ None
+pub count_is : (o : Option LaneSheet) (v n : ℕ) (rs : List Ride) (r : Ride) → KeepsLane o v n rs → aboard_lane o ≡ None
     → r.number ≡ length rs → n ≡ r.number
 count_is None v n rs r keeps none next = absurd (cc keeps.whole)
 count_is (Some l) v n rs r keeps none next = keeps.counted ∙ next_number (Some l) v n rs keeps none ∙ sym next
 
--- a part of a seat that is whole changes as the seat does
-pub part_boarded : (o : Option LanePart) (b : Bump) → o ≡ Some (part_or o)
-    → part_or (option_map (lane_after_board b) o) ≡ lane_after_board b (part_or o)
-part_boarded None b whole = absurd (cc whole)
-part_boarded (Some l) b whole = refl
+-- a sheet of a seat that is whole changes as the seat does
+pub sheet_boarded : (o : Option LaneSheet) (b : Bump) → o ≡ Some (sheet_or o)
+    → sheet_or (option_map (lane_after_board b) o) ≡ lane_after_board b (sheet_or o)
+sheet_boarded None b whole = absurd (cc whole)
+sheet_boarded (Some l) b whole = refl
 
 -- the next bump goes aboard
-pub boarded_keeps : (o : Option LanePart) (v n : ℕ) (rs : List Ride) (r : Ride) → KeepsLane o v n rs
+pub boarded_keeps : (o : Option LaneSheet) (v n : ℕ) (rs : List Ride) (r : Ride) → KeepsLane o v n rs
     → aboard_lane o ≡ None → r.number ≡ length rs → r.number < most_attempts
     → KeepsLane (option_map (lane_after_board (bump_of_ride r)) o) v n (rs ++ r ∷ [])
 boarded_keeps None v n rs r keeps is next few = absurd (cc keeps.whole)
@@ -137,26 +137,26 @@ boarded_keeps (Some l) v n rs r keeps is next few = record {
 }
 
 -- the bump aboard was applied
-pub applied_keeps : (o x : Option LanePart) (v n : ℕ) (rs : List Ride) (b : Bump) (out : Outcome) (f : FoundHeads)
-    → KeepsLane o v n rs → carried_by o ≡ Some b → x ≡ Some (part_or x)
-    → part_or x ≡ lane_after_update out b f (part_or o) → KeepsLane x v (n + 1) rs
+pub applied_keeps : (o x : Option LaneSheet) (v n : ℕ) (rs : List Ride) (b : Bump) (out : Outcome) (f : FoundHeads)
+    → KeepsLane o v n rs → carried_by o ≡ Some b → x ≡ Some (sheet_or x)
+    → sheet_or x ≡ lane_after_update out b f (sheet_or o) → KeepsLane x v (n + 1) rs
 applied_keeps o x v n rs b out f keeps is whole after =
-    let l = part_or o in
-    let all = subst (λ (p : LanePart). (n + 1 ≡ length p.applied) × IsRawLane p rs
+    let l = sheet_or o in
+    let all = subst (λ (p : LaneSheet). (n + 1 ≡ length p.applied) × IsRawLane p rs
     × IfSome (carried p.stage) (λ d. n + 1 < most_attempts)) (sym after) (
       omega (arith, keeps.counted, length-append l.applied (applied_bump b out ∷ [])),
       record {
         in_order = append-nil (map bump_applied (l.applied ++ applied_bump b out ∷ []))
             ∙ map-append bump_applied l.applied (applied_bump b out ∷ [])
             ∙ ap (λ (bs : List Bump). map bump_applied l.applied ++ bs)
-            (sym (aboard_where_carried l.stage b (carried_part o b is)))
+            (sym (aboard_where_carried l.stage b (carried_sheet o b is)))
             ∙ keeps.lane.in_order;
         at_rest = refl;
       },
       tt,
     ) in record {
       whole = whole;
-      worker_is = ap (λ (p : LanePart). p.worker) after ∙ keeps.worker_is;
+      worker_is = ap (λ (p : LaneSheet). p.worker) after ∙ keeps.worker_is;
       worker_few = keeps.worker_few;
       counted = all.0;
       lane = all.1;
@@ -172,7 +172,7 @@ same_lives l m e =
     λ i. life (sym chunks i) (sym generations i)
 
 -- a lane tells each move by its entry of the bump's number
-pub each_told : (k : ClassPart) (l : LanePart) (rs : List Ride) → IsRawLane l rs → TellsMoves k l → EachMoveIsTold k l
+pub each_told : (k : ClassSheet) (l : LaneSheet) (rs : List Ride) → IsRawLane l rs → TellsMoves k l → EachMoveIsTold k l
 each_told k l rs is tells item n some = by (told_shows item (is_own k (is_same item)) own_life n l.applied l.stage
     (lives rs) is.in_order (omega (arith, some, tells (is_same item) n)))
   where

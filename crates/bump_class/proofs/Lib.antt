@@ -7,6 +7,7 @@ pub mod LaneLemmas
 pub mod UpdateLemmas
 pub mod ApplicationLemmas
 pub mod RunLemmas
+pub mod EndLemmas
 pub mod FreeRuns
 pub mod Walks
 pub mod MoveLemmas

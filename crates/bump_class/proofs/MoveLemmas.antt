@@ -15,8 +15,8 @@ use Rattle.bump_rules.specs.Lawful.{bit}
 use Rattle.bump_rules.specs.Totals.{how_many}
 use Rattle.bump_rules.proofs.MovesOf.{moves_as_told, moves_of_bump, none_making, told_few}
 use Rattle.bump_rules.proofs.ToldMoves.{told_same}
-use Rattle.bump_steps.specs.declared.views.ClassPart.{ClassPart}
-use Rattle.bump_steps.specs.declared.views.LanePart.{LanePart}
+use Rattle.bump_steps.specs.declared.views.ClassSheet.{ClassSheet}
+use Rattle.bump_steps.specs.declared.views.LaneSheet.{LaneSheet}
 use Rattle.bump_steps.specs.Views.{owns}
 use Rattle.bump_heads.specs.Applying.{TellsMoves, is_own}
 use Rattle.bump_class.specs.Applications.{FoundHeads, moved_in, class_after_update, lane_after_update}
@@ -24,7 +24,7 @@ use Rattle.bump_heads.specs.Seats.{most_workers}
 use Rattle.bump_class.specs.Books.{CountsEachWorker}
 
 -- the moves for bumps of the lane's worker are the lane's entries Moved of items of the class
-pub all_told : (k : ClassPart) (l : LanePart) → how_many is_stray k.history ≡ 0 → is_half_made l.stage ≡ false
+pub all_told : (k : ClassSheet) (l : LaneSheet) → how_many is_stray k.history ≡ 0 → is_half_made l.stage ≡ false
     → TellsMoves k l → moves_of l.worker k.history ≡ moved_in k l.applied
 all_told k l fair rests told = omega (
   arith,
@@ -35,7 +35,7 @@ all_told k l fair rests told = omega (
 )
 
 -- so they are no more than the bumps that the lane applied
-pub few_moves : (k : ClassPart) (l : LanePart) → how_many is_stray k.history ≡ 0 → is_half_made l.stage ≡ false
+pub few_moves : (k : ClassSheet) (l : LaneSheet) → how_many is_stray k.history ≡ 0 → is_half_made l.stage ≡ false
     → TellsMoves k l → moves_of l.worker k.history ≤ length l.applied
 few_moves k l fair rests told = omega (
   arith,
@@ -55,13 +55,13 @@ counts_bump counts more history worker b counted one w near = omega (
 )
 
 -- before a move for a bump there were fewer than the bumps that the lane applied with it
-pub few_before : (k m : ClassPart) (l x : LanePart) (b : Bump) (now : ℕ) (f : FoundHeads)
+pub few_before : (k m : ClassSheet) (l x : LaneSheet) (b : Bump) (now : ℕ) (f : FoundHeads)
     → how_many is_stray k.history ≡ 0 → m ≡ class_after_update outcome.Moved l.worker b now f k
     → x ≡ lane_after_update outcome.Moved b f l → TellsMoves m x → moves_of l.worker k.history ≤ length l.applied
 few_before k m l x b now f fair class this_lane told =
     let e : Change = change.Moved b.life Cold Warm (cause.Bump l.worker b.number) in
     let after : TellsMoves (class_after_update outcome.Moved l.worker b now f k) (lane_after_update outcome.Moved b f l)
-    = subst (λ (y : ClassPart × LanePart). TellsMoves y.0 y.1) (λ i. (class i, this_lane i)) told in
+    = subst (λ (y : ClassSheet × LaneSheet). TellsMoves y.0 y.1) (λ i. (class i, this_lane i)) told in
     omega (
       arith,
       few_moves (class_after_update outcome.Moved l.worker b now f k) (lane_after_update outcome.Moved b f l)

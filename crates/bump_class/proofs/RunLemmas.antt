@@ -7,7 +7,7 @@ use Rattle.bump_rules.specs.declared.bumps.Applied.{Applied}
 use Rattle.bump_rules.specs.declared.bumps.AppliedBump.{AppliedBump}
 use Rattle.bump_rules.specs.declared.bumps.Bump.{Bump}
 use Rattle.bump_rules.specs.Lanes.{applied_bump}
-use Rattle.bump_steps.specs.declared.views.ClassPart.{ClassPart}
+use Rattle.bump_steps.specs.declared.views.ClassSheet.{ClassSheet}
 use Rattle.bump_steps.specs.declared.views.Ride.{Ride}
 use Rattle.bump_steps.specs.Views.{owns}
 use Rattle.bump_class.specs.Applications.{AppliesBump, AppliesFront, EachMoveIsTold}
@@ -53,22 +53,22 @@ grown_on xs ys zs first then_more = (
 )
 
 -- what is told of moves stays true when the next bump goes aboard
-pub told_aboard : (class : ClassPart) (from to : LaneView) (bump : Bump) (ride : Ride) → Boards from bump to ride
-    → EachMoveIsTold class from.part → EachMoveIsTold class to.part
+pub told_aboard : (class : ClassSheet) (from to : LaneView) (bump : Bump) (ride : Ride) → Boards from bump to ride
+    → EachMoveIsTold class from.sheet → EachMoveIsTold class to.sheet
 told_aboard class from to bump ride boards told =
-    subst (λ (x : LaneView). EachMoveIsTold class x.part) (sym boards.lane) told
+    subst (λ (x : LaneView). EachMoveIsTold class x.sheet) (sym boards.lane) told
 
 -- What stays of a lane behind its last application, whether the next bump went aboard or not.
 pub record StaysBehind (last to : LaneView) : Type 0 where
   pub ring : to.ring ≡ last.ring
   pub kept : entries to ≡ entries last
-  pub told : (class : ClassPart) → EachMoveIsTold class last.part → EachMoveIsTold class to.part
+  pub told : (class : ClassSheet) → EachMoveIsTold class last.sheet → EachMoveIsTold class to.sheet
 
 stays_behind : (o : Option Bump) (last to : LaneView) → MayHaveBoarded o last to → StaysBehind last to
 stays_behind None last to same = record {
   ring = ap (λ (x : LaneView). x.ring) same;
   kept = ap entries same;
-  told = λ class told. subst (λ (x : LaneView). EachMoveIsTold class x.part) (sym same) told;
+  told = λ class told. subst (λ (x : LaneView). EachMoveIsTold class x.sheet) (sym same) told;
 }
 stays_behind (Some bump) last to boarded = record {
   ring = ap (λ (x : LaneView). x.ring) boarded.1.lane;
@@ -82,12 +82,12 @@ pub record GoesOn (limit now : ℕ) (book : BookView) (from : LaneView) (slice :
   pub runs : RunSoFar now book from slice done n written between at
   pub few : n ≤ done
   pub aboard : carries at ≡ Some bump
-  pub own : owns bump.life.chunk between.part ≡ true
+  pub own : owns bump.life.chunk between.sheet ≡ true
   pub below : done < limit
   pub ring : at.ring ≡ from.ring
   pub count : length (entries at) ≡ length (entries from) + done
   pub grown : IsPrefix (entries from) (entries at)
-  pub class : IsSameClass between.part book.part
+  pub class : IsSameClass between.sheet book.sheet
 
 -- What such a run came to when that bump was applied, and its chunk was told where it came free.
 module _ {limit now : ℕ} {book : BookView} {from : LaneView} {slice : List ℕ} {done n m : ℕ}
@@ -99,7 +99,7 @@ module _ {limit now : ℕ} {book : BookView} {from : LaneView} {slice : List ℕ
   ran : Ran now book from slice (done + 1) m now_written left last
   ran = applied_more now book from slice written now_written done (done + 1) n m between at bump answer left last refl
       so_far.runs so_far.aboard (record {
-        own = subst (λ (o : Option Bump). IfSome o (λ b. owns b.life.chunk between.part ≡ true)) (sym so_far.aboard)
+        own = subst (λ (o : Option Bump). IfSome o (λ b. owns b.life.chunk between.sheet ≡ true)) (sym so_far.aboard)
             so_far.own;
         front = one.front;
         once = one.once;
@@ -110,7 +110,7 @@ module _ {limit now : ℕ} {book : BookView} {from : LaneView} {slice : List ℕ
   grown_by_one = grown_on (entries from) (entries at) (entries last) so_far.grown
       (front_grown now between at answer left last one.front)
 
-  class_is : IsSameClass left.part book.part
+  class_is : IsSameClass left.sheet book.sheet
   class_is = (
     one.class.0 ∙ so_far.class.0,
     one.class.1 ∙ so_far.class.1,
@@ -131,7 +131,7 @@ module _ {limit now : ℕ} {book : BookView} {from : LaneView} {slice : List ℕ
         grown = subst (λ xs. IsPrefix (entries from) xs) (sym stays.kept) grown_by_one;
         class = class_is;
         once = one.once;
-        told = stays.told left.part one.told;
+        told = stays.told left.sheet one.told;
       }
 
   -- and these chunks came free
@@ -142,7 +142,7 @@ module _ {limit now : ℕ} {book : BookView} {from : LaneView} {slice : List ℕ
 
   -- or it goes on, where there is room to tell one more
   pub goes_on : (to : LaneView) (next : Bump) (ride : Ride) → Boards last next to ride → carries to ≡ Some next
-      → owns next.life.chunk left.part ≡ true → done + 1 ≢ limit → length now_written ≡ length written
+      → owns next.life.chunk left.sheet ≡ true → done + 1 ≢ limit → length now_written ≡ length written
       → (0 < length now_written → m ≢ length now_written)
       → GoesOn limit now book from slice (done + 1) m now_written left to next
   goes_on to next ride boards carried own below same room =

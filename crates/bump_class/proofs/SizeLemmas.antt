@@ -76,10 +76,10 @@ once_open first end c between =
     once_in_places Unused (λ q. times c (list_at (opening first (end - first)) q))
     (λ q. replayed_lists first end 0 c [] tt q ∙ ap (λ a. bit (a && is_place Unused q)) between)
 
-pub book_sizes : (b : BookView) → IsBook b → all_sizes b.lists ≡ b.part.count
+pub book_sizes : (b : BookView) → IsBook b → all_sizes b.lists ≡ b.sheet.count
 book_sizes b o =
-    let first = b.part.first in
-    let end = b.part.first + b.part.count in
+    let first = b.sheet.first in
+    let end = b.sheet.first + b.sheet.count in
     ap all_sizes o.lists
-    ∙ replay_keeps first end (opening first (end - first)) b.part.history o.entries (once_open first end)
+    ∙ replay_keeps first end (opening first (end - first)) b.sheet.history o.entries (once_open first end)
     ∙ omega (arith, length-range_with_len first (end - first))

@@ -10,15 +10,15 @@ use Rattle.bump_rules.specs.declared.lanes.LaneStage.TheVariants as lane
 use Rattle.bump_rules.specs.Tables.{is_cold, outcome_of}
 use Rattle.bump_rules.proofs.Counted.{how_many_push}
 use Rattle.bump_word.specs.Words.{word_of, Fits}
-use Rattle.bump_steps.specs.declared.views.ClassPart.{ClassPart}
+use Rattle.bump_steps.specs.declared.views.ClassSheet.{ClassSheet}
 use Rattle.bump_steps.specs.declared.views.Kind.TheVariants as kind
-use Rattle.bump_steps.specs.declared.views.LanePart.{LanePart}
+use Rattle.bump_steps.specs.declared.views.LaneSheet.{LaneSheet}
 use Rattle.bump_steps.specs.Views.{bump_aboard, shows_time_only}
 use Rattle.bump_steps.specs.Plays.{step_of}
 use Rattle.bump_steps.specs.Applications.{for_bump, lane_after_alight, class_at_rest}
 use Rattle.bump_heads.specs.declared.views.ClassView.{ClassView}
 use Rattle.bump_heads.specs.Applying.{life_aboard, IsShown, FoundOfBump, NamesNoBumpTwice, TellsMoves}
-use Rattle.bump_class.specs.Lanes.{part_or}
+use Rattle.bump_class.specs.Lanes.{sheet_or}
 use Rattle.bump_class.specs.Applications.{FoundHeads, AllFit, Updates, class_after_update, lane_after_update}
 
 -- ---- the update table, by what was found
@@ -43,7 +43,7 @@ moved_by h a on cold off =
     ∙ ap (λ (x : Bool). if x then Moved else TimeOnly) off
 
 -- an entry that is shown stays so when the lane's last step is noted
-shown_on : (k : ClassPart) (l : LanePart) (b : Bump) (o : Outcome) (c n : ℕ) → IsShown k l b o
+shown_on : (k : ClassSheet) (l : LaneSheet) (b : Bump) (o : Outcome) (c n : ℕ) → IsShown k l b o
     → IsShown k (lane_after_alight o c n l) b o
 shown_on k l b Moved c n is = is
 shown_on k l b Gone c n is = is
@@ -53,8 +53,8 @@ shown_on k l b TimeOnly c n is = omega (
   how_many_push (shows_time_only l.worker b.number b.life.chunk) l.steps (step_of kind.Alight c n (for_bump l)),
 )
 
--- a part that names no application is as one at rest
-pub rests : (k : ClassPart) → k.applying ≡ None → class_at_rest k ≡ k
+-- a sheet that names no application is as one at rest
+pub rests : (k : ClassSheet) → k.applying ≡ None → class_at_rest k ≡ k
 rests k idle = λ i. record k { applying = sym idle i }
 
 -- The heads that the steps of an application found, each of which a word spells.
@@ -71,19 +71,19 @@ found_by tried cleared moved last tried_fits cleared_fits moved_fits last_fits =
 }
 
 -- What the class's seat and the lane are once the bump has alighted, by what they were just before.
-module _ (v : ClassView) (o : Option LanePart) (l : LanePart) (b : Bump) (now : ℕ) (alone : v.lane ≡ None)
+module _ (v : ClassView) (o : Option LaneSheet) (l : LaneSheet) (b : Bump) (now : ℕ) (alone : v.lane ≡ None)
     (carries : o ≡ Some (record l { stage = lane.Carrying b })) (out : Outcome) (found : FittingHeads)
-    (sight : FoundOfBump v.part (life_aboard o) found.heads.tried) (table : out ≡ outcome_of found.heads.tried found.heads.cleared)
-    (w a : ClassView) (x : Option LanePart) (p : ClassPart) (m : LanePart)
-    (is : w ≡ record { part = p; lane = Some m })
-    (part : class_at_rest p ≡ class_after_update out l.worker b now found.heads v.part) (aboard : bump_aboard m.stage ≡ Some b)
+    (sight : FoundOfBump v.sheet (life_aboard o) found.heads.tried) (table : out ≡ outcome_of found.heads.tried found.heads.cleared)
+    (w a : ClassView) (x : Option LaneSheet) (p : ClassSheet) (m : LaneSheet)
+    (is : w ≡ record { sheet = p; lane = Some m })
+    (sheet : class_at_rest p ≡ class_after_update out l.worker b now found.heads v.sheet) (aboard : bump_aboard m.stage ≡ Some b)
     (same : lane_after_alight out b.life.chunk (word_of found.heads.last) m ≡ lane_after_update out b found.heads
     (record l { stage = lane.Carrying b }))
-    (class : a ≡ record { part = class_at_rest w.part; lane = None })
+    (class : a ≡ record { sheet = class_at_rest w.sheet; lane = None })
     (left : x ≡ option_map (lane_after_alight out (life_aboard w.lane).chunk (word_of found.heads.last)) w.lane)
-    (entry : IfSome w.lane (λ y. IfSome (bump_aboard y.stage) (λ d. IsShown a.part y d out)))
-    (once : NamesNoBumpTwice a.part) (told : IfSome x (TellsMoves a.part)) where
-  abbrev lane_left : LanePart
+    (entry : IfSome w.lane (λ y. IfSome (bump_aboard y.stage) (λ d. IsShown a.sheet y d out)))
+    (once : NamesNoBumpTwice a.sheet) (told : IfSome x (TellsMoves a.sheet)) where
+  abbrev lane_left : LaneSheet
   lane_left = lane_after_update out b found.heads (record l { stage = lane.Carrying b })
 
   life_is : (life_aboard w.lane).chunk ≡ b.life.chunk
@@ -93,30 +93,30 @@ module _ (v : ClassView) (o : Option LanePart) (l : LanePart) (b : Bump) (now : 
   left_is : x ≡ Some lane_left
   left_is = left
       ∙ (λ i. option_map (lane_after_alight out (life_is i) (word_of found.heads.last)) ((is i).lane))
-      ∙ ap (λ (y : LanePart). Some y) same
+      ∙ ap (λ (y : LaneSheet). Some y) same
 
-  entry_is : IsShown a.part lane_left b out
-  entry_is = subst (λ (y : LanePart). IsShown a.part y b out) same (shown_on a.part m b out b.life.chunk
-      (word_of found.heads.last) (subst (λ (d : Option Bump). IfSome d (λ e. IsShown a.part m e out)) aboard
-      (subst (λ (y : ClassView). IfSome y.lane (λ z. IfSome (bump_aboard z.stage) (λ d. IsShown a.part z d out))) is
+  entry_is : IsShown a.sheet lane_left b out
+  entry_is = subst (λ (y : LaneSheet). IsShown a.sheet y b out) same (shown_on a.sheet m b out b.life.chunk
+      (word_of found.heads.last) (subst (λ (d : Option Bump). IfSome d (λ e. IsShown a.sheet m e out)) aboard
+      (subst (λ (y : ClassView). IfSome y.lane (λ z. IfSome (bump_aboard z.stage) (λ d. IsShown a.sheet z d out))) is
       entry)))
 
-  told_is : TellsMoves a.part lane_left
-  told_is = subst (λ (y : Option LanePart). IfSome y (TellsMoves a.part)) left_is told
+  told_is : TellsMoves a.sheet lane_left
+  told_is = subst (λ (y : Option LaneSheet). IfSome y (TellsMoves a.sheet)) left_is told
 
-  pub updates : (x ≡ Some (part_or x)) × ((heads : FoundHeads) × Updates v (part_or o) b now out a (part_or x) heads)
+  pub updates : (x ≡ Some (sheet_or x)) × ((heads : FoundHeads) × Updates v (sheet_or o) b now out a (sheet_or x) heads)
   updates = (
-    left_is ∙ sym (ap (λ (y : Option LanePart). Some (part_or y)) left_is),
+    left_is ∙ sym (ap (λ (y : Option LaneSheet). Some (sheet_or y)) left_is),
     (
       found.heads,
-      subst (λ (y : Option LanePart). Updates v (part_or y) b now out a (part_or x) found.heads) (sym carries)
-          (subst (λ (y : Option LanePart). Updates v (record l { stage = lane.Carrying b }) b now out a (part_or y) found.heads)
+      subst (λ (y : Option LaneSheet). Updates v (sheet_or y) b now out a (sheet_or x) found.heads) (sym carries)
+          (subst (λ (y : Option LaneSheet). Updates v (record l { stage = lane.Carrying b }) b now out a (sheet_or y) found.heads)
           (sym left_is) (record {
             fit = found.fit;
-            sight = subst (λ (y : Option LanePart). FoundOfBump v.part (life_aboard y) found.heads.tried) carries sight;
+            sight = subst (λ (y : Option LaneSheet). FoundOfBump v.sheet (life_aboard y) found.heads.tried) carries sight;
             table = table;
-            class = class ∙ ap (λ (y : ClassView). record { part = class_at_rest y.part; lane = None }) is
-                ∙ (λ i. record { part = part i; lane = sym alone i });
+            class = class ∙ ap (λ (y : ClassView). record { sheet = class_at_rest y.sheet; lane = None }) is
+                ∙ (λ i. record { sheet = sheet i; lane = sym alone i });
             lane = refl;
             entry = entry_is;
             once = once;

@@ -3,7 +3,7 @@ use Rattle.std.proofs.Common.{◌≡◌, ℕ, zero, suc, ◌+◌, ◌<◌, Bool,
 use Rattle.bump_rules.specs.declared.labels.LabelStep.{LabelStep}
 use Rattle.bump_rules.specs.declared.labels.LabelStep.TheVariants.{Stored}
 use Rattle.bump_rules.specs.Labels.{label_word}
-use Rattle.bump_steps.specs.declared.views.ClassPart.{ClassPart}
+use Rattle.bump_steps.specs.declared.views.ClassSheet.{ClassSheet}
 use Rattle.bump_steps.specs.declared.views.WordStep.{WordStep}
 use Rattle.bump_steps.specs.declared.views.WordStep.TheVariants.{Put}
 use Rattle.bump_steps.specs.Views.{of_word}
@@ -42,10 +42,10 @@ last_put c i (suc j) (x ∷ xs) ws low = ap (λ (l : List WordStep). label_word 
     ∙ last_put c (suc i) j xs (ws ++ Put c i x ∷ []) (omega (arith, low))
 
 -- how far the loop is that stores them
-pub record Putting (chunk index : ℕ) (xs : List ℕ) (from now : ClassPart) : Type 0 where
+pub record Putting (chunk index : ℕ) (xs : List ℕ) (from now : ClassSheet) : Type 0 where
   pub words : now.words ++ puts chunk index (drop index xs) ≡ from.words ++ puts chunk 0 xs
   pub steps : now.steps ++ put_steps chunk (drop index xs) ≡ from.steps ++ put_steps chunk xs
   pub rest : now ≡ record from { words = now.words; steps = now.steps }
 
-pub putting_starts : (chunk : ℕ) (xs : List ℕ) (k : ClassPart) → Putting chunk 0 xs k k
+pub putting_starts : (chunk : ℕ) (xs : List ℕ) (k : ClassSheet) → Putting chunk 0 xs k k
 putting_starts chunk xs k = record { words = refl; steps = refl; rest = refl }

@@ -22,10 +22,10 @@ use Rattle.bump_rules.specs.Lives.{is_same}
 use Rattle.bump_rules.specs.Tables.{is_cold, outcome_of, ended_of}
 use Rattle.bump_rules.specs.Totals.{how_many}
 use Rattle.bump_word.specs.Words.{word_of, Fits}
-use Rattle.bump_steps.specs.declared.views.ClassPart.{ClassPart}
+use Rattle.bump_steps.specs.declared.views.ClassSheet.{ClassSheet}
 use Rattle.bump_steps.specs.declared.views.Kind.{Kind}
 use Rattle.bump_steps.specs.declared.views.Kind.TheVariants as kind
-use Rattle.bump_steps.specs.declared.views.LanePart.{LanePart}
+use Rattle.bump_steps.specs.declared.views.LaneSheet.{LaneSheet}
 use Rattle.bump_steps.specs.Plays.{step_of}
 use Rattle.bump_steps.specs.Views.{owns}
 use Rattle.bump_heads.specs.declared.views.ClassView.{ClassView}
@@ -50,20 +50,20 @@ pub record FoundHeads : Type 0 where
 -- ---- single steps of the class, each made for this bump of a worker
 
 -- a step on the bump's chunk is noted
-abbrev pub noted_for : Kind → ℕ → Bump → ℕ → ClassPart → ClassPart
+abbrev pub noted_for : Kind → ℕ → Bump → ℕ → ClassSheet → ClassSheet
 noted_for kind worker bump word class =
     record class { steps = class.steps ++ step_of kind bump.life.chunk word (Some (worker, bump.number)) ∷ [] }
 
 -- the time of its item was stored
-abbrev pub class_with_time : ℕ → Bump → ℕ → ClassPart → ClassPart
+abbrev pub class_with_time : ℕ → Bump → ℕ → ClassSheet → ClassSheet
 class_with_time worker bump now class = noted_for kind.PutTime worker bump now class
 
 -- ACTIVE of its item was cleared
-abbrev pub with_clearing : ℕ → Bump → Head → ClassPart → ClassPart
+abbrev pub with_clearing : ℕ → Bump → Head → ClassSheet → ClassSheet
 with_clearing worker bump found class = noted_for kind.ClearActive worker bump (word_of found) class
 
 -- its item was moved from COLD to WARM
-abbrev pub with_move : ℕ → Bump → Head → ClassPart → ClassPart
+abbrev pub with_move : ℕ → Bump → Head → ClassSheet → ClassSheet
 with_move worker bump found class = noted_for kind.Move worker bump (word_of found) (record class {
   history = class.history
       ++ change.Moved bump.life segment.Cold segment.Warm (cause.Bump worker bump.number) ∷ [];
@@ -73,7 +73,7 @@ with_move worker bump found class = noted_for kind.Move worker bump (word_of fou
 
 -- Moved: the time was stored, ACTIVE cleared, and the item moved. TimeOnly: the time was stored, and ACTIVE of an item
 -- in COLD cleared. Gone: nothing.
-abbrev pub class_after_update : Outcome → ℕ → Bump → ℕ → FoundHeads → ClassPart → ClassPart
+abbrev pub class_after_update : Outcome → ℕ → Bump → ℕ → FoundHeads → ClassSheet → ClassSheet
 class_after_update outcome.Moved worker bump now found class =
     with_move worker bump found.moved (with_clearing worker bump found.cleared (class_with_time worker bump now class))
 class_after_update outcome.TimeOnly worker bump now found class =
@@ -84,16 +84,16 @@ class_after_update outcome.Gone worker bump now found class = class
 -- Moved: the chunk is the first of WARM. Gone: it was looked at once more, and is free where nobody holds it.
 abbrev pub book_after_update : Outcome → ℕ → Bump → ℕ → FoundHeads → BookView → BookView
 book_after_update outcome.Moved worker bump now found book = record book {
-  part = class_after_update outcome.Moved worker bump now found book.part;
+  sheet = class_after_update outcome.Moved worker bump now found book.sheet;
   lists = to_front bump.life.chunk Warm book.lists;
 }
 book_after_update outcome.TimeOnly worker bump now found book =
-    record book { part = class_after_update outcome.TimeOnly worker bump now found book.part }
+    record book { sheet = class_after_update outcome.TimeOnly worker bump now found book.sheet }
 book_after_update outcome.Gone worker bump now found book =
     book_after_sweep_or_load bump.life.chunk found.behind book
 
 -- the lane looked at the item, gave the reference back, and has the entry; nothing is aboard
-abbrev pub lane_after_update : Outcome → Bump → FoundHeads → LanePart → LanePart
+abbrev pub lane_after_update : Outcome → Bump → FoundHeads → LaneSheet → LaneSheet
 lane_after_update came_out bump found this_lane = record this_lane {
   stage = lane.Empty;
   applied = this_lane.applied ++ applied_bump bump came_out ∷ [];
@@ -115,18 +115,18 @@ pub record AllFit (found : FoundHeads) : Type 0 where
   pub moved : Fits found.moved
   pub last : Fits found.last
 
--- What the steps of an application come to on a class's seat and the part of the lane that carries the bump.
-pub record Updates (before : ClassView) (lane_before : LanePart) (bump : Bump) (now : ℕ) (came_out : Outcome)
-    (after : ClassView) (lane_after : LanePart) (found : FoundHeads) : Type 0 where
+-- What the steps of an application come to on a class's seat and the sheet of the lane that carries the bump.
+pub record Updates (before : ClassView) (lane_before : LaneSheet) (bump : Bump) (now : ℕ) (came_out : Outcome)
+    (after : ClassView) (lane_after : LaneSheet) (found : FoundHeads) : Type 0 where
   pub fit : AllFit found
-  pub sight : FoundOfBump before.part bump.life found.tried
+  pub sight : FoundOfBump before.sheet bump.life found.tried
   pub table : came_out ≡ outcome_of found.tried found.cleared
-  pub class : after ≡ record before { part = class_after_update came_out lane_before.worker bump now found before.part }
+  pub class : after ≡ record before { sheet = class_after_update came_out lane_before.worker bump now found before.sheet }
   pub lane : lane_after ≡ lane_after_update came_out bump found lane_before
   -- the entry is true, no bump is named twice, and each move for a bump of the lane is told by it
-  pub entry : IsShown after.part lane_after bump came_out
-  pub once : NamesNoBumpTwice after.part
-  pub told : TellsMoves after.part lane_after
+  pub entry : IsShown after.sheet lane_after bump came_out
+  pub once : NamesNoBumpTwice after.sheet
+  pub told : TellsMoves after.sheet lane_after
 
 -- What applying a bump comes to: the answer, and the Book and the lane after.
 pub record Applies (book : BookView) (from : LaneView) (bump : Bump) (now : ℕ) (came_out : Outcome) (answer : Applied)
@@ -136,15 +136,15 @@ pub record Applies (book : BookView) (from : LaneView) (bump : Bump) (now : ℕ)
   -- the look found the bump's life, of which there was a reference, and a head that agrees with the chunk's list
   pub generation : found.tried.generation ≡ bump.life.generation
   pub counted : 0 < found.tried.refs
-  pub shows : Shows found.tried (place_of_chunk book.part bump.life.chunk)
+  pub shows : Shows found.tried (place_of_chunk book.sheet bump.life.chunk)
   -- the outcome is the update table's, by what the look and the clearing found
   pub table : came_out ≡ outcome_of found.tried found.cleared
   -- a gone item is free where nobody holds it any more
   pub answered : answer ≡ applied_answer came_out (ended_of found.behind)
-  pub book_after : left ≡ book_after_update came_out from.part.worker bump now found book
-  pub lane_after : to ≡ record from { part = lane_after_update came_out bump found from.part }
+  pub book_after : left ≡ book_after_update came_out from.sheet.worker bump now found book
+  pub lane_after : to ≡ record from { sheet = lane_after_update came_out bump found from.sheet }
   -- the entry that the lane has now is true
-  pub entry : IsShown left.part to.part bump came_out
+  pub entry : IsShown left.sheet to.sheet bump came_out
 
 -- the bump aboard a lane was applied
 abbrev pub AppliesFront : ℕ → BookView → LaneView → Applied → BookView → LaneView → Type 0
@@ -152,12 +152,12 @@ AppliesFront now book from answer left to = (bump : Bump) × (came_out : Outcome
     × (carries from ≡ Some bump) × Applies book from bump now came_out answer left to found
 
 -- how many entries with outcome Moved there are of items of the class
-abbrev pub moved_in : ClassPart → List AppliedBump → ℕ
+abbrev pub moved_in : ClassSheet → List AppliedBump → ℕ
 moved_in class applied = told_of (λ life. owns life.chunk class) applied
 
 -- each move that the class's history has for a bump of the lane's worker is this lane's entry of that number, with the
 -- same life and the outcome Moved
-abbrev pub EachMoveIsTold : ClassPart → LanePart → Type 0
+abbrev pub EachMoveIsTold : ClassSheet → LaneSheet → Type 0
 EachMoveIsTold class this_lane = (item : ItemId) (number : ℕ)
     → 0 < how_many (is_move_for (is_same item) this_lane.worker number) class.history
     → slice_get this_lane.applied number ≡ Some (applied_bump (bump_of number item) outcome.Moved)
@@ -176,9 +176,9 @@ pub record AppliesBump (now : ℕ) (book : BookView) (from : LaneView) (answer :
   -- the lane has one entry more
   pub count : length (entries to) ≡ length (entries from) + 1
   -- the Book is of the same class, which has the same chunks
-  pub class : (left.part.class ≡ book.part.class) × (left.part.first ≡ book.part.first)
-      × (left.part.count ≡ book.part.count)
+  pub class : (left.sheet.class ≡ book.sheet.class) × (left.sheet.first ≡ book.sheet.first)
+      × (left.sheet.count ≡ book.sheet.count)
   -- no bump is named twice by the class's history
-  pub once : NamesNoBumpTwice left.part
+  pub once : NamesNoBumpTwice left.sheet
   -- each move that it has for a bump of the lane's worker is this lane's entry
-  pub told : EachMoveIsTold left.part to.part
+  pub told : EachMoveIsTold left.sheet to.sheet

@@ -1,4 +1,4 @@
--- What contracts see of a lane: the ring that it drains, and its part. And what every lane keeps.
+-- What contracts see of a lane: the ring that it drains, and its sheet. And what every lane keeps.
 use Rattle.std.specs.Prelude.{◌≡◌, ℕ, ◌<◌, ◌≤◌, ◌↔◌, ◌++◌, List, [], ◌∷◌, length, map, Option, Some, None}
 use Rattle.std.specs.Prelude.{IsNone, IsSome, IfSome, IfNone, Bool, true, false}
 use Rattle.bump_rules.specs.declared.bumps.AppliedBump.{AppliedBump}
@@ -7,7 +7,7 @@ use Rattle.bump_rules.specs.declared.items.ItemId.{ItemId}
 use Rattle.bump_rules.specs.declared.lanes.LaneStage.TheVariants.{Empty}
 use Rattle.bump_rules.specs.Lanes.{carried, is_half_made}
 use Rattle.bump_rules.specs.Rings.{aboard, bump_applied, numbered_from, most_attempts}
-use Rattle.bump_steps.specs.declared.views.LanePart.{LanePart}
+use Rattle.bump_steps.specs.declared.views.LaneSheet.{LaneSheet}
 use Rattle.bump_steps.specs.declared.views.Ride.{Ride}
 use Rattle.bump_steps.specs.Riders.{applied_by, lane_after_board, bump_of_ride}
 use Rattle.bump_heads.specs.Applying.{stage_of}
@@ -23,55 +23,55 @@ pub record LaneView : Type 0 where
   -- the bumps that the next takes give, in order, as far as they are known
   pub known : List Ride
   -- what its seat knows
-  pub part : LanePart
+  pub sheet : LaneSheet
 
 -- the bump that it carries, if any
 abbrev pub carries : LaneView → Option Bump
-carries lane = carried lane.part.stage
+carries lane = carried lane.sheet.stage
 
 -- the bumps that it applied, in order
 abbrev pub entries : LaneView → List AppliedBump
-entries lane = lane.part.applied
+entries lane = lane.sheet.applied
 
 -- the lives of bumps, in order
 abbrev pub lives : List Ride → List ItemId
 lives rides = map (λ ride. ride.life) rides
 
 -- What every lane keeps, as each lane of a World does.
-pub record IsRawLane (part : LanePart) (received : List Ride) : Type 0 where
+pub record IsRawLane (sheet : LaneSheet) (received : List Ride) : Type 0 where
   -- what was applied, followed by the bump aboard, is what was received, and the numbers are 0, 1, 2 and so on
-  pub in_order : map bump_applied part.applied ++ aboard part.stage ≡ numbered_from 0 (lives received)
+  pub in_order : map bump_applied sheet.applied ++ aboard sheet.stage ≡ numbered_from 0 (lives received)
   -- no bump is half applied
-  pub at_rest : is_half_made part.stage ≡ false
+  pub at_rest : is_half_made sheet.stage ≡ false
 
--- the part of a lane's seat that is whole
-abbrev pub part_or : Option LanePart → LanePart
-part_or None = no_lane
-part_or (Some this_lane) = this_lane
+-- the sheet of a lane's seat that is whole
+abbrev pub sheet_or : Option LaneSheet → LaneSheet
+sheet_or None = no_lane
+sheet_or (Some this_lane) = this_lane
 
 -- What the type of a lane keeps, by what its seat knows, its worker's number, its count and what it received.
-pub record KeepsLane (seat : Option LanePart) (worker count : ℕ) (received : List Ride) : Type 0 where
+pub record KeepsLane (seat : Option LaneSheet) (worker count : ℕ) (received : List Ride) : Type 0 where
   -- its seat is whole
-  pub whole : seat ≡ Some (part_or seat)
+  pub whole : seat ≡ Some (sheet_or seat)
   -- it is this worker's
-  pub worker_is : (part_or seat).worker ≡ worker
+  pub worker_is : (sheet_or seat).worker ≡ worker
   pub worker_few : worker < most_workers
   -- its count is that of the bumps that it applied
-  pub counted : count ≡ length (part_or seat).applied
-  pub lane : IsRawLane (part_or seat) received
+  pub counted : count ≡ length (sheet_or seat).applied
+  pub lane : IsRawLane (sheet_or seat) received
   -- and one more has a number too
-  pub few : IfSome (carried (part_or seat).stage) (λ bump. count < most_attempts)
+  pub few : IfSome (carried (sheet_or seat).stage) (λ bump. count < most_attempts)
 
 -- What a new lane is made of: nothing was taken from the ring, and nothing boarded the seat.
-pub record AreUnused (received : List Ride) (seat : Option LanePart) : Type 0 where
+pub record AreUnused (received : List Ride) (seat : Option LaneSheet) : Type 0 where
   pub untaken : received ≡ []
   pub whole : IsSome seat
   pub empty : stage_of seat ≡ Empty
   pub fresh : applied_by seat ≡ []
 
 -- a lane whose bumps wait in this ring, with nothing aboard
-abbrev pub new_lane : Ring → List Ride → LanePart → LaneView
-new_lane ring known part = record { ring = ring; received = []; known = known; part = part }
+abbrev pub new_lane : Ring → List Ride → LaneSheet → LaneView
+new_lane ring known sheet = record { ring = ring; received = []; known = known; sheet = sheet }
 
 -- The bump that a lane keeps aboard between two calls, where it says that it keeps one: its number is that of the bumps
 -- that were applied before it.
@@ -90,7 +90,7 @@ pub record Boards (before : LaneView) (bump : Bump) (after : LaneView) (ride : R
   pub lane : after ≡ record before {
     received = before.received ++ ride ∷ [];
     known = after.known;
-    part = lane_after_board bump before.part;
+    sheet = lane_after_board bump before.sheet;
   }
 
 -- What a lane tells and leaves that is to have its next bump aboard.

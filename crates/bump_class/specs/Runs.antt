@@ -17,10 +17,10 @@ use Rattle.bump_class.specs.Lanes.{LaneView, carries, entries, Boards}
 -- single bump tells.
 pub record AppliesOwn (now : ℕ) (book : BookView) (from : LaneView) (answer : Applied) (left : BookView)
     (to : LaneView) : Type 0 where
-  pub own : IfSome (carries from) (λ bump. owns bump.life.chunk book.part ≡ true)
+  pub own : IfSome (carries from) (λ bump. owns bump.life.chunk book.sheet ≡ true)
   pub front : AppliesFront now book from answer left to
-  pub once : NamesNoBumpTwice left.part
-  pub told : EachMoveIsTold left.part to.part
+  pub once : NamesNoBumpTwice left.sheet
+  pub told : EachMoveIsTold left.sheet to.sheet
 
 -- From one lane to the other the next bump went aboard, where none was, and nothing else happened.
 abbrev pub HasNextAboard : Option Bump → LaneView → LaneView → Type 0
@@ -57,17 +57,17 @@ pub record AppliesUpTo (limit now : ℕ) (book : BookView) (from : LaneView) (do
   -- behind those that it had
   pub grown : IsPrefix (entries from) (entries to)
   -- the Book is of the same class, which has the same chunks
-  pub class : (left.part.class ≡ book.part.class) × (left.part.first ≡ book.part.first)
-      × (left.part.count ≡ book.part.count)
+  pub class : (left.sheet.class ≡ book.sheet.class) × (left.sheet.first ≡ book.sheet.first)
+      × (left.sheet.count ≡ book.sheet.count)
   -- no bump is named twice by the class's history
-  pub once : NamesNoBumpTwice left.part
+  pub once : NamesNoBumpTwice left.sheet
   -- each move that it has for a bump of the lane's worker is this lane's entry
-  pub told : EachMoveIsTold left.part to.part
+  pub told : EachMoveIsTold left.sheet to.sheet
 
 -- Why a run ended before its limit: no bump is aboard or known, or the bump aboard is of another class.
 abbrev pub IsRunOver : Option Bump → BookView → LaneView → Type 0
 IsRunOver None left to = to.known ≡ []
-IsRunOver (Some bump) left to = owns bump.life.chunk left.part ≡ false
+IsRunOver (Some bump) left to = owns bump.life.chunk left.sheet ≡ false
 
 -- ---- which chunks came free
 

@@ -6,7 +6,7 @@ ghost use Rattle.bump_steps.specs.Views.{owns};
 ghost use Rattle.bump_heads.specs.Seats.{most_workers};
 ghost use Rattle.bump_heads.specs.Applying.{carried_by};
 ghost use Rattle.bump_class.specs.Applications.{FoundHeads as TheFoundHeads, Updates, AppliesBump};
-ghost use Rattle.bump_class.specs.Lanes.{carries, part_or};
+ghost use Rattle.bump_class.specs.Lanes.{carries, sheet_or};
 
 use crate::books::Book;
 use crate::carriers::Carrier;
@@ -24,12 +24,12 @@ fn update<N: Name, L: RowLaw>(
     now: u64,
 ) -> Outcome
     requires alone { class.old.lane ≡ None }
-    requires idle { class.old.part.applying ≡ None }
-    requires own { owns bump.life.chunk class.old.part ≡ true }
+    requires idle { class.old.sheet.applying ≡ None }
+    requires own { owns bump.life.chunk class.old.sheet ≡ true }
     requires carries { carried_by lane.old ≡ Some bump }
-    ensures whole { lane.new ≡ Some (part_or lane.new) }
-    ensures updates { (found : TheFoundHeads) × Updates class.old (part_or lane.old) bump now result class.new
-        (part_or lane.new) found }
+    ensures whole { lane.new ≡ Some (sheet_or lane.new) }
+    ensures updates { (found : TheFoundHeads) × Updates class.old (sheet_or lane.old) bump now result class.new
+        (sheet_or lane.new) found }
 {
     let chunk = bump.life.chunk;
     let place = class.head_at(chunk);
@@ -74,7 +74,7 @@ impl<N: Name, L: RowLaw> Book<N, L> {
     #[inline(always)]
     pub fn apply_front(&mut self, lane: &mut RawLane<N, L>, now: u64) -> Applied
         requires carries { IsSome (carries lane.old) }
-        requires own { IfSome (carries lane.old) (λ bump. owns bump.life.chunk self.old.part ≡ true) }
+        requires own { IfSome (carries lane.old) (λ bump. owns bump.life.chunk self.old.sheet ≡ true) }
         ensures applied { AppliesBump now self.old lane.old result self.new lane.new }
     {
         let bump = Bump {
@@ -89,7 +89,7 @@ impl<N: Name, L: RowLaw> Book<N, L> {
     #[inline(always)]
     pub(crate) fn apply_bump(&mut self, lane: &mut Carrier<N, L>, bump: Bump, now: u64) -> Applied
         requires carries { carries lane.old ≡ Some bump }
-        requires own { owns bump.life.chunk self.old.part ≡ true }
+        requires own { owns bump.life.chunk self.old.sheet ≡ true }
         ensures applied { AppliesBump now self.old lane.old result self.new lane.new }
     {
         let chunk = bump.life.chunk;

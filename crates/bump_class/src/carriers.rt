@@ -3,7 +3,7 @@ ghost use Rattle.std.specs.Prelude.{◌≡◌, length, None, Some, IfSome};
 ghost use Rattle.bump_steps.specs.declared.views.Ride.{Ride as TheRide};
 ghost use Rattle.bump_steps.specs.Meetings.{class_after_meet};
 ghost use Rattle.bump_heads.specs.Applying.{NamesNoBumpTwice, TellsMoves};
-ghost use Rattle.bump_class.specs.Lanes.{LaneView as TheLaneView, carries, entries, part_or, IsRawLane, KeepsLane};
+ghost use Rattle.bump_class.specs.Lanes.{LaneView as TheLaneView, carries, entries, sheet_or, IsRawLane, KeepsLane};
 ghost use Rattle.bump_class.specs.Lanes.{new_lane, AreUnused, Boards, TellsAboard, TellsLeft};
 
 use bump_heads::{ClassSeat, LaneSeat, Name};
@@ -28,7 +28,7 @@ impl<N: Name, L: RowLaw> Model for Carrier<N, L> {
       ring = l.receiver.ring;
       received = l.receiver.received;
       known = l.receiver.known;
-      part = part_or l.seat;
+      sheet = sheet_or l.seat;
     } };
 
     ghost invariant = { λ l. KeepsLane l.seat l.worker l.applied l.receiver.received };
@@ -38,7 +38,7 @@ impl<N: Name, L: RowLaw> Carrier<N, L> {
     // Nothing was taken from the ring, and nothing boarded the seat.
     pub fn new(receiver: Receiver<N>, seat: LaneSeat<N, L>) -> Carrier<N, L>
         requires unused { AreUnused receiver.received seat }
-        ensures { result ≡ new_lane receiver.ring receiver.known (part_or seat) }
+        ensures { result ≡ new_lane receiver.ring receiver.known (sheet_or seat) }
     {
         let worker = seat.worker();
         Carrier {
@@ -56,13 +56,13 @@ impl<N: Name, L: RowLaw> Carrier<N, L> {
     }
 
     pub fn worker(&self) -> u32
-        ensures { result ≡ self.now.part.worker }
+        ensures { result ≡ self.now.sheet.worker }
     {
         self.worker
     }
 
     pub fn promise(&self)
-        ensures { IsRawLane self.now.part self.now.received }
+        ensures { IsRawLane self.now.sheet self.now.received }
     {
         let _applied = &self.applied;
     }
@@ -88,11 +88,11 @@ impl<N: Name, L: RowLaw> Carrier<N, L> {
     // Shows the class and the lane each other, by one load, which the class notes.
     pub fn meet(&mut self, class: &mut ClassSeat<N, L>)
         requires alone { class.old.lane ≡ None }
-        ensures class { class.new ≡ record class.old { part = class_after_meet class.old.part } }
+        ensures class { class.new ≡ record class.old { sheet = class_after_meet class.old.sheet } }
         ensures lane { self.new ≡ self.old }
-        ensures kept { IsRawLane self.old.part self.old.received }
-        ensures once { NamesNoBumpTwice class.old.part }
-        ensures moves { TellsMoves class.old.part self.old.part }
+        ensures kept { IsRawLane self.old.sheet self.old.received }
+        ensures once { NamesNoBumpTwice class.old.sheet }
+        ensures moves { TellsMoves class.old.sheet self.old.sheet }
     {
         class.meet_lane(&mut self.seat);
     }

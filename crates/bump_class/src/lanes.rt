@@ -1,7 +1,7 @@
 //! A lane: the receiving end of a worker's ring, and the seat that applies what comes.
 ghost use Rattle.std.specs.Prelude.{◌≡◌, length, None, IsSome, IfSome};
 ghost use Rattle.bump_steps.specs.declared.views.Ride.{Ride as TheRide};
-ghost use Rattle.bump_class.specs.Lanes.{LaneView as TheLaneView, carries, entries, part_or, IsRawLane, kept_aboard};
+ghost use Rattle.bump_class.specs.Lanes.{LaneView as TheLaneView, carries, entries, sheet_or, IsRawLane, kept_aboard};
 ghost use Rattle.bump_class.specs.Lanes.{new_lane, AreUnused, Boards, TellsAboard, TellsLeft};
 
 use crate::carriers::Carrier;
@@ -35,7 +35,7 @@ impl<N: Name, L: RowLaw> RawLane<N, L> {
     /// nothing boarded the seat.
     pub fn new(receiver: Receiver<N>, seat: LaneSeat<N, L>) -> RawLane<N, L>
         requires unused { AreUnused receiver.received seat }
-        ensures { result ≡ new_lane receiver.ring receiver.known (part_or seat) }
+        ensures { result ≡ new_lane receiver.ring receiver.known (sheet_or seat) }
     {
         RawLane {
             carrier: Carrier::new(receiver, seat),
@@ -50,7 +50,7 @@ impl<N: Name, L: RowLaw> RawLane<N, L> {
     /// What every lane keeps: what it applied, followed by the bump aboard, is what it received, with the numbers 0,
     /// 1, 2 and so on; and no bump is half applied.
     pub fn promise(&self)
-        ensures { IsRawLane self.now.part self.now.received }
+        ensures { IsRawLane self.now.sheet self.now.received }
     {
         self.carrier.promise();
     }
@@ -64,7 +64,7 @@ impl<N: Name, L: RowLaw> RawLane<N, L> {
 
     /// The number of its worker.
     pub fn worker(&self) -> u32
-        ensures { result ≡ self.now.part.worker }
+        ensures { result ≡ self.now.sheet.worker }
     {
         self.carrier.worker()
     }

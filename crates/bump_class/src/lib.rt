@@ -25,7 +25,7 @@ pub use bump_ring::{ClosedSender, Receiver};
 pub use bump_rules::{
     Applied, Bump, ClassConfig, Ended, Head, ItemId, Outcome, Place, Pulled, Segment, Start, Tail,
 };
-pub use bump_steps::{AnyRow, ClassPart, LanePart, Ride, RowLaw, Rule};
+pub use bump_steps::{AnyRow, ClassSheet, LaneSheet, Ride, RowLaw, Rule};
 pub use ending::UnlinkRefusal;
 pub use lanes::RawLane;
 pub use linking::LinkRefusal;

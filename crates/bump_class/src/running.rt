@@ -56,7 +56,7 @@ impl<N: Name, L: RowLaw> Book<N, L> {
     /// At `limit` nothing is aboard.
     pub fn apply_run(&mut self, lane: &mut RawLane<N, L>, now: u64, limit: u32) -> u32
         requires carries { IsSome (carries lane.old) }
-        requires own { IfSome (carries lane.old) (λ bump. owns bump.life.chunk self.old.part ≡ true) }
+        requires own { IfSome (carries lane.old) (λ bump. owns bump.life.chunk self.old.sheet ≡ true) }
         requires some { 1 ≤ limit }
         ensures applied { AppliesUpTo limit now self.old lane.old result self.new lane.new }
         ensures over { result < limit → IsRunOver (carries lane.new) self.new lane.new }
@@ -85,7 +85,7 @@ impl<N: Name, L: RowLaw> Book<N, L> {
         freed: &mut [u32],
     ) -> RunEnd
         requires carries { IsSome (carries lane.old) }
-        requires own { IfSome (carries lane.old) (λ bump. owns bump.life.chunk self.old.part ≡ true) }
+        requires own { IfSome (carries lane.old) (λ bump. owns bump.life.chunk self.old.sheet ≡ true) }
         requires some { 1 ≤ limit }
         requires room { 1 ≤ length freed.old }
         ensures applied { AppliesUpTo limit now self.old lane.old result.applied self.new lane.new }
@@ -123,7 +123,7 @@ impl<N: Name, L: RowLaw> Book<N, L> {
         freed: &mut [u32],
     ) -> (RunEnd, Option<Bump>)
         requires carries { carries lane.old ≡ Some first }
-        requires own { owns first.life.chunk self.old.part ≡ true }
+        requires own { owns first.life.chunk self.old.sheet ≡ true }
         requires some { 1 ≤ limit }
         ensures applied { AppliesUpTo limit now self.old lane.old result.0.applied self.new lane.new }
         ensures freed { (last : TheLaneView) × (chunks : TheList ℕ)

@@ -2,13 +2,13 @@
 use Rattle.std.proofs.Common.{◌≡◌, ℕ, ◌<◌, true, length, inl, inr, arith, Some}
 use Rattle.std.proofs.lemmas.Bool.{cases_lt, and_from, lt-ltb, eq-eqb}
 use Rattle.bump_rules.specs.declared.items.ItemId.{ItemId}
-use Rattle.bump_state.specs.Events.{next_chunk}
+use Rattle.model_state.specs.Events.{next_chunk}
 use Rattle.bump_rules.specs.Lives.{life}
-use Rattle.bump_state.specs.State.{State, chunk_at, is_held}
-use Rattle.bump_state.specs.Worlds.{IsLawful, holds_of}
-use Rattle.bump_state.proofs.LawfulStates.{referred_in_range, referred_used}
-use Rattle.bump_state.proofs.Fronts.{next_front}
-pub use Rattle.bump_state.proofs.LawfulStates.{held_by, held_at, held_else, held_current, holds_counted, one_if_same, one_if_cases}
+use Rattle.model_state.specs.State.{State, chunk_at, is_held}
+use Rattle.model_state.specs.Worlds.{IsLawful, holds_of}
+use Rattle.model_state.proofs.LawfulStates.{referred_in_range, referred_used}
+use Rattle.model_state.proofs.Fronts.{next_front}
+pub use Rattle.model_state.proofs.LawfulStates.{held_by, held_at, held_else, held_current, holds_counted, one_if_same, one_if_cases}
 
 -- nobody holds a life of the chunk that is linked next
 pub unheld_next : (s : State) → IsLawful s → (k c g : ℕ) → k < length s.classes → next_chunk s k ≡ Some c

@@ -1,7 +1,7 @@
 -- The classes of a new World.
 use Rattle.std.proofs.Common.{◌≡◌, ℕ, ◌+◌, List, [], ◌∷◌, length, refl, arith}
 use Rattle.bump_rules.specs.declared.configs.ClassConfig.{ClassConfig}
-use Rattle.bump_state.specs.Opening.{classes_from}
+use Rattle.model_state.specs.Opening.{classes_from}
 
 -- there are as many classes as are configured
 pub classes_long : (g from : ℕ) (ks : List ClassConfig) → length (classes_from g from ks) ≡ length ks

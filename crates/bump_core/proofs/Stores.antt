@@ -3,7 +3,7 @@ use Rattle.std.proofs.Common.{◌≡◌, ℕ, refl}
 use Rattle.bump_rules.specs.declared.places.Start.{Start}
 use Rattle.bump_rules.specs.declared.places.Start.TheVariants.{Hot, Temp}
 use Rattle.bump_rules.specs.Starts.{link_command}
-use Rattle.bump_state.specs.State.{State}
+use Rattle.model_state.specs.State.{State}
 use Rattle.bump_core.specs.Commands.{may_store, is_allowed}
 
 -- when it is allowed

@@ -1,14 +1,12 @@
 pub mod AreEvents
 pub mod ChangedLists
 pub mod ChangedState
-pub mod Done
 pub mod EndsAsEvents
 pub mod FreedChunks
 pub mod HitsAsEvents
 pub mod HoldsAsEvents
 pub mod LanesAsEvents
 pub mod LinksAsEvents
-pub mod Memory
 pub mod NextBumps
 pub mod PullsAsEvents
 pub mod UnheldChunks

@@ -12,7 +12,7 @@ use Rattle.bump_rules.specs.declared.places.Tail.{Tail}
 use Rattle.bump_rules.specs.declared.places.Tail.TheVariants as tail
 use Rattle.bump_rules.specs.declared.items.ItemId.{ItemId}
 use Rattle.bump_rules.specs.declared.items.Head.{Head}
-use Rattle.bump_state.specs.declared.chunks.Chunk.{Chunk}
+use Rattle.model_state.specs.declared.chunks.Chunk.{Chunk}
 use Rattle.bump_rules.specs.declared.bumps.Applied.{Applied}
 use Rattle.bump_rules.specs.declared.bumps.Applied.TheVariants as applied
 use Rattle.bump_rules.specs.declared.bumps.Ended.{Ended}
@@ -50,16 +50,16 @@ use Rattle.bump_rules.specs.History.{freed_change}
 use Rattle.bump_rules.specs.Starts.{begun_change, link_event}
 use Rattle.bump_rules.specs.Tables.{Get, IsStale, IsRefsFull, IsHeld, is_cold, get_of, ended_of, is_unheld, hit_of}
 use Rattle.bump_rules.specs.Tables.{dropped_of, touch_of, outcome_of, pulled_of, pulled_to, segment_of, last_pulled}
-use Rattle.bump_state.specs.Sweeps.{sweep_of}
-use Rattle.bump_state.specs.State.{State, ClassState, WorkerState, chunk_at, head_at, class_at, worker_at, is_chunk}
-use Rattle.bump_state.specs.State.{is_class, is_worker, with_chunk, with_head, with_worker, with_change, with_changes}
-use Rattle.bump_state.specs.State.{class_of, is_linked, is_held, has_free_hold, is_open}
+use Rattle.model_state.specs.Sweeps.{sweep_of}
+use Rattle.model_state.specs.State.{State, ClassState, WorkerState, chunk_at, head_at, class_at, worker_at, is_chunk}
+use Rattle.model_state.specs.State.{is_class, is_worker, with_chunk, with_head, with_worker, with_change, with_changes}
+use Rattle.model_state.specs.State.{class_of, is_linked, is_held, has_free_hold, is_open}
 use Rattle.bump_core.specs.Runs.{one_asks}
 use Rattle.bump_rules.specs.Hands.{is_idle}
 use Rattle.bump_rules.specs.Rings.{most_attempts}
 use Rattle.bump_rules.specs.Heads.{linked_head, one_more, one_fewer, fetched_head, marked_head, unlinked_head}
-use Rattle.bump_state.specs.Events.{is_at_rest, next_chunk, next_life, waiting, next_bump, with_hold, without_hold}
-use Rattle.bump_state.specs.Events.{unlink, close}
+use Rattle.model_state.specs.Events.{is_at_rest, next_chunk, next_life, waiting, next_bump, with_hold, without_hold}
+use Rattle.model_state.specs.Events.{unlink, close}
 use Rattle.bump_rules.specs.Lanes.{bump_of, applied_bump, is_half_made}
 
 -- Ends.

@@ -15,11 +15,11 @@ use Rattle.bump_rules.specs.History.{is_place}
 use Rattle.bump_rules.specs.Lawful.{bit, Shows}
 use Rattle.bump_links.specs.Lists.{times}
 use Rattle.bump_rules.specs.Lists.{list_at, times_in_all}
-use Rattle.bump_state.specs.Rings.{in_ring}
+use Rattle.model_state.specs.Rings.{in_ring}
 use Rattle.bump_core.specs.Runs.{run_of}
 use Rattle.bump_rules.specs.Rings.{aboard, bump_applied, numbered_from, IsRing, IsAccounts}
-use Rattle.bump_state.specs.State.{State, WorkerState, head_at, class_at, class_of, worker_at}
-use Rattle.bump_state.specs.Worlds.{references, owns, stands_in, is_of_class, CountsMoves}
+use Rattle.model_state.specs.State.{State, WorkerState, head_at, class_at, class_of, worker_at}
+use Rattle.model_state.specs.Worlds.{references, owns, stands_in, is_of_class, CountsMoves}
 
 -- What a lane applied, then the bump aboard, and then the bumps in the ring are what the ring accepted, numbered from
 -- 0: so every bump is applied once at most, and in that worker's order, and what is not applied yet is still on its

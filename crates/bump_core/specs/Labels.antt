@@ -3,11 +3,11 @@ use Rattle.std.specs.Prelude.{◌≡◌, ℕ, List, [], ◌∷◌, ◌++◌, Opt
 use Rattle.std.specs.Option.{option_map_or}
 use Rattle.bump_rules.specs.declared.events.Event.{Event}
 use Rattle.bump_rules.specs.declared.events.Event.TheVariants as event
-use Rattle.bump_state.specs.Events.{after, next_chunk, next_life}
+use Rattle.model_state.specs.Events.{after, next_chunk, next_life}
 use Rattle.bump_rules.specs.Lawful.{IsUsed}
 use Rattle.bump_rules.specs.Lives.{life}
-use Rattle.bump_state.specs.State.{State, chunk_at, head_at}
-use Rattle.bump_state.specs.Worlds.{place}
+use Rattle.model_state.specs.State.{State, chunk_at, head_at}
+use Rattle.model_state.specs.Worlds.{place}
 use Rattle.bump_rules.specs.declared.labels.LabelStep.{LabelStep}
 use Rattle.bump_rules.specs.declared.labels.LabelStep.TheVariants.{Stored, Linked}
 use Rattle.bump_rules.specs.Labels.{label_of_life}

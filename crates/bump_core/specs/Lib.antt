@@ -18,10 +18,10 @@ pub use Rattle.bump_rules.specs.Rings
 pub use Rattle.bump_rules.specs.Starts
 pub use Rattle.bump_rules.specs.Tables
 pub use Rattle.bump_rules.specs.Totals
-pub use Rattle.bump_state.specs.Events
-pub use Rattle.bump_state.specs.Opening
-pub use Rattle.bump_state.specs.Rings as StateRings
-pub use Rattle.bump_state.specs.State
-pub use Rattle.bump_state.specs.Sweeps
-pub use Rattle.bump_state.specs.Views
-pub use Rattle.bump_state.specs.Worlds
+pub use Rattle.model_state.specs.Events
+pub use Rattle.model_state.specs.Opening
+pub use Rattle.model_state.specs.Rings as StateRings
+pub use Rattle.model_state.specs.State
+pub use Rattle.model_state.specs.Sweeps
+pub use Rattle.model_state.specs.Views
+pub use Rattle.model_state.specs.Worlds

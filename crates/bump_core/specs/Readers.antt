@@ -6,7 +6,7 @@ use Rattle.bump_rules.specs.declared.bumps.Accounts.{Accounts}
 use Rattle.bump_rules.specs.declared.bumps.AppliedBump.{AppliedBump}
 use Rattle.bump_rules.specs.declared.history.Change.{Change}
 use Rattle.bump_rules.specs.Lists.{list_at}
-use Rattle.bump_state.specs.State.{State, chunk_at, class_at, worker_at}
+use Rattle.model_state.specs.State.{State, chunk_at, class_at, worker_at}
 
 -- a list of a class
 abbrev pub class_list : State → ℕ → Place → List ℕ

@@ -1,20 +1,11 @@
--- Steps, and runs of many.
+-- Runs of many steps.
 use Rattle.std.specs.Prelude.{◌≡◌, ℕ, Bool, true, false, ◌||◌, List, [], ◌∷◌, take, slice_get, Option, None, Some}
-use Rattle.std.specs.Prelude.{Result, Ok, Err, OnOk, IfOk, OnErr, if◌then◌else◌}
+use Rattle.std.specs.Prelude.{Result, Ok, Err, if◌then◌else◌}
 use Rattle.bump_rules.specs.declared.events.Event.{Event}
-use Rattle.bump_rules.specs.declared.events.Reply.{Reply}
 use Rattle.bump_rules.specs.declared.events.Refused.{Refused}
 use Rattle.bump_rules.specs.declared.events.Refused.TheVariants.{NotEnabled, OutOfMemory}
-use Rattle.bump_state.specs.State.{State}
-use Rattle.bump_state.specs.Events.{IsEnabledBy, is_enabled, asks_for_memory, after, reply_of}
-
--- What a step does: where the event is enabled it makes it and answers its reply, else it refuses. A refusal changes
--- nothing.
-pub record Steps (old : State) (event : Event) (new : State) (result : Result Reply Refused) : Type 0 where
-  pub enabled : IsEnabledBy (is_enabled old event) result
-  pub state : OnOk result (new ≡ after old event)
-  pub reply : IfOk result (λ answered. answered ≡ reply_of old event)
-  pub unchanged : OnErr result (new ≡ old)
+use Rattle.model_state.specs.State.{State}
+use Rattle.model_state.specs.Events.{is_enabled, asks_for_memory, after}
 
 -- the state after all events in order, where each is enabled in its turn
 abbrev pub run_of : State → List Event → Option State

@@ -1,5 +1,5 @@
-//! The pure core of bump: a World in which each event is one atomic step of one thread. Its types are those of
-//! bump_rules, and its state is that of bump_state.
+//! The model of bump, which no running cache or store uses: a World in which each event is one atomic step of one thread.
+//! Its types are those of bump_rules, and its state is that of model_state.
 #![tactic(auto)]
 
 mod commands;
@@ -12,5 +12,5 @@ pub use bump_rules::{
     ListedChunks, MAX_CAPACITY, MAX_CHUNKS, MAX_REFS, MOST_ATTEMPTS, Outcome, Place, Pulled,
     Refused, Reply, Segment, Start, Tail, Touch,
 };
-pub use bump_state::Chunk;
+pub use model_state::Chunk;
 pub use worlds::{OutOfMemory, World};

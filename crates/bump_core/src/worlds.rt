@@ -3,7 +3,7 @@ mod readers;
 
 use crate::step;
 use bump_rules::{Answer, Command, Config, Event, Refused, Reply};
-use bump_state::WorldParts;
+use model_state::WorldState;
 use std::alloc::{AllocError, Global};
 use std::marker::Model;
 
@@ -13,19 +13,19 @@ pub type OutOfMemory = AllocError;
 /// A World: plain data, and a state machine in which each event is one atomic step of one thread.
 #[derive(Drop)]
 pub struct World {
-    parts: WorldParts,
+    inside: WorldState,
 }
 
 impl Model for World {
-    ghost use Rattle.bump_state.specs.State.{State};
-    ghost use Rattle.bump_state.specs.Views.{state_of};
-    ghost use Rattle.bump_state.specs.Worlds.{IsLawful, IsSized};
+    ghost use Rattle.model_state.specs.State.{State};
+    ghost use Rattle.model_state.specs.Views.{state_of};
+    ghost use Rattle.model_state.specs.Worlds.{IsLawful, IsSized};
 
     ghost Value = { State };
 
-    ghost view = { λ a. state_of a.parts };
+    ghost view = { λ a. state_of a.inside };
 
-    ghost invariant = { λ a. IsLawful (state_of a.parts) × IsSized (state_of a.parts) };
+    ghost invariant = { λ a. IsLawful (state_of a.inside) × IsSized (state_of a.inside) };
 }
 
 impl World {
@@ -34,20 +34,20 @@ impl World {
     ghost use Rattle.bump_core.specs.Headline.{Headline, ClosedStay, ClosedStayFrom};
     ghost use Rattle.bump_rules.specs.declared.events.Refused.TheVariants.{NotEnabled};
     ghost use Rattle.bump_core.specs.Labels.{KeepsLabels};
-    ghost use Rattle.bump_state.specs.Opening.{new_state};
-    ghost use Rattle.bump_core.specs.Runs.{Steps, Runs, run_of, made, made_by};
-    ghost use Rattle.bump_state.specs.Events.{asks_for_memory};
-    ghost use Rattle.bump_state.specs.State.{head_at, SameSizes};
+    ghost use Rattle.model_state.specs.Opening.{new_state};
+    ghost use Rattle.bump_core.specs.Runs.{Runs, run_of, made, made_by};
+    ghost use Rattle.model_state.specs.Events.{Steps, asks_for_memory};
+    ghost use Rattle.model_state.specs.State.{head_at, SameSizes};
     ghost use Rattle.bump_core.specs.Readers.{class_list, time_of, label_of, holds_at, accounts_of, sent_of, received_of};
     ghost use Rattle.bump_core.specs.Readers.{applied_of};
-    ghost use Rattle.bump_state.specs.Worlds.{IsLawful};
+    ghost use Rattle.model_state.specs.Worlds.{IsLawful};
 
     /// A World in which nothing has happened: every chunk is UNUSED, in ascending order, and every worker is idle.
     pub fn new(alloc: Global, config: &Config) -> Result<World, OutOfMemory>
         ensures { IfOk result (λ w. w ≡ new_state config.now) }
     {
         Ok(World {
-            parts: WorldParts::new(alloc, config)?,
+            inside: WorldState::new(alloc, config)?,
         })
     }
 
@@ -63,7 +63,7 @@ impl World {
         ensures labels { KeepsLabels self.old (made_by (event ∷ []) result) self.new }
         ensures closed { ClosedStay self.old self.new }
     {
-        step::step(&mut self.parts, event)
+        step::step(&mut self.inside, event)
     }
 
     /// Makes the events in order, up to the first that is refused, whose place it tells. The events before it stay.
@@ -75,7 +75,7 @@ impl World {
         ensures labels { KeepsLabels self.old (made events.now result) self.new }
         ensures closed { ClosedStayFrom self.old (made events.now result) self.new }
     {
-        let _ = &self.parts;
+        let _ = &self.inside;
         for (place, event) in events.iter().enumerate() {
             if let Err(refused) = self.step(*event) {
                 return Err((place, refused));
@@ -99,6 +99,6 @@ impl World {
         ensures labels { KeepsLabels self.old (made_by (events_of self.old command) result) self.new }
         ensures closed { ClosedStay self.old self.new }
     {
-        step::command(&mut self.parts, command)
+        step::command(&mut self.inside, command)
     }
 }

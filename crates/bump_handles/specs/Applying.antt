@@ -9,8 +9,8 @@ use Rattle.bump_class.specs.declared.running.RunEnd.{RunEnd}
 use Rattle.bump_class.specs.Runs.{AppliesRun, FreesRun, HasNextAboard, MayHaveBoarded, IsRunOver}
 use Rattle.bump_class.specs.Sweeps.{told_first}
 use Rattle.bump_steps.specs.Views.{owns}
-use Rattle.bump_parts.specs.Closing.{ClosedState, AppliedAll}
-use Rattle.bump_parts.specs.Parting.{IsBetweenStarts}
+use Rattle.bump_unlocked.specs.Closing.{ClosedState, AppliedAll}
+use Rattle.bump_unlocked.specs.UnlockedStore.{IsBetweenStarts}
 use Rattle.bump_handles.specs.declared.drainers.OtherClass.{OtherClass}
 use Rattle.bump_handles.specs.declared.drainers.Rested.{Rested}
 use Rattle.bump_handles.specs.declared.drainers.RestState.{RestState}
@@ -41,7 +41,7 @@ pub record TellsClass (before after : DrainerView) (answer : Option ℕ) : Type 
 -- What a run that applies none comes to, where the next bump, if there is one, isn't of another class: that one is aboard from
 -- then on, and is the Book's; where there is none, nothing is changed.
 pub record AppliesNone (book : TaggedBookView) (before after : DrainerView) : Type 0 where
-  pub own : IfSome (carries after.lane) (λ bump. owns bump.life.chunk book.book.part ≡ true)
+  pub own : IfSome (carries after.lane) (λ bump. owns bump.life.chunk book.book.sheet ≡ true)
   pub next : IsSome (carries after.lane) → HasNextAboard (carries before.lane) before.lane after.lane
   pub empty : IfNone (carries after.lane) ((before.lane.known ≡ []) × (after ≡ before))
 
@@ -70,7 +70,7 @@ pub record AppliesBumps (now limit : ℕ) (book : TaggedBookView) (before : Drai
 -- The next bump is of another class: it is aboard from then on, and nothing is applied.
 pub record IsOfOtherClass (book : TaggedBookView) (before : DrainerView) (left : TaggedBookView) (after : DrainerView)
     : Type 0 where
-  pub other : IfSome (carries after.lane) (λ bump. owns bump.life.chunk book.book.part ≡ false)
+  pub other : IfSome (carries after.lane) (λ bump. owns bump.life.chunk book.book.sheet ≡ false)
   pub aboard : IsSome (carries after.lane)
   pub next : HasNextAboard (carries before.lane) before.lane after.lane
   pub applied : entries after.lane ≡ entries before.lane
@@ -134,7 +134,7 @@ rested_closed false counts applied = record { state = state.Unseen; left = 0; co
 -- isn't closed is in this state. Of one whose worker isn't closed nothing else is told.
 abbrev pub rested : Option ClosedState → RestState → ℕ → Rested
 rested None unclosed applied = record { state = unclosed; left = 0; counts = no_accounts; applied = applied }
-rested (Some closed) unclosed applied = rested_closed closed.sender.shows_end closed.part.accounts applied
+rested (Some closed) unclosed applied = rested_closed closed.sender.shows_end closed.sheet.accounts applied
 
 -- a worker that isn't closed is Open, or it is gone, and never will be
 abbrev pub IsNotClosed : RestState → Type 0
@@ -151,6 +151,6 @@ pub record DrainerRests (before after : DrainerView) (answer : Rested) : Type 0 
   pub accepted : answer.state ≡ state.Settled → answer.applied ≡ answer.counts.accepted
   pub left : answer.state ≡ state.Left → (0 < answer.left)
       × (answer.applied + answer.left ≡ answer.counts.accepted)
-  pub counts : IfSome before.closed (λ closed. answer.counts ≡ closed.part.accounts)
+  pub counts : IfSome before.closed (λ closed. answer.counts ≡ closed.sheet.accounts)
   pub applied : answer.applied ≡ length (entries after.lane)
   pub kept : after ≡ record before { lane = record before.lane { known = after.lane.known } }

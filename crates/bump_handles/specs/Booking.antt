@@ -27,16 +27,16 @@ pub record BookLinks (start : Start) (label now : ℕ) (before after : TaggedBoo
     (answer : Result ItemId LinkRefusal) : Type 0 where
   pub item : answer ≡ linked_item before.book
   pub linked : IfOk answer (λ id. after.book ≡ book_with_item start id label now before.book)
-  pub labelled : IfOk answer (λ id. label_of_life id 0 after.book.part.labels ≡ Some label)
+  pub labelled : IfOk answer (λ id. label_of_life id 0 after.book.sheet.labels ≡ Some label)
   pub unchanged : OnErr answer (after.book ≡ before.book)
   pub store : after.store ≡ before.store
 
 -- What reading the label of a chunk leaves and tells: the last one that was stored for it. Of one that the class doesn't
 -- have nothing is read.
 pub record ReadsLabel (chunk : ℕ) (before after : BookView) (label : ℕ) : Type 0 where
-  pub stored : owns chunk before.part ≡ true → label ≡ last_label before.part chunk
-  pub seen : owns chunk before.part ≡ true → after ≡ book_after_see_label chunk label before
-  pub none : owns chunk before.part ≡ false → (label ≡ 0) × (after ≡ before)
+  pub stored : owns chunk before.sheet ≡ true → label ≡ last_label before.sheet chunk
+  pub seen : owns chunk before.sheet ≡ true → after ≡ book_after_see_label chunk label before
+  pub none : owns chunk before.sheet ≡ false → (label ≡ 0) × (after ≡ before)
 
 -- what the unlink itself answered
 abbrev pub ended_alone : Result (Ended × ℕ) UnlinkRefusal → Result Ended UnlinkRefusal
@@ -77,6 +77,6 @@ pub record BookSweepsInto (before : TaggedBookView) (slice : List ℕ) (after : 
 
 -- how many moves for bumps of the worker the class's history has
 pub record AreMovesOfWorker (worker : ℕ) (book : TaggedBookView) (answer : Option ℕ) : Type 0 where
-  pub moves : IfSome answer (λ moves. moves ≡ moves_of worker book.book.part.history)
+  pub moves : IfSome answer (λ moves. moves ≡ moves_of worker book.book.sheet.history)
   pub range : IfSome answer (λ moves. worker < book.book.workers)
   pub none : IfNone answer (book.book.workers ≤ worker)

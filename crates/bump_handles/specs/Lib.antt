@@ -15,13 +15,13 @@ pub use Rattle.bump_class.specs.Pulls
 pub use Rattle.bump_class.specs.Runs
 pub use Rattle.bump_class.specs.Sweeps
 pub use Rattle.bump_heads.specs.Linking as HeadsLinking
-pub use Rattle.bump_parts.specs.Closing
-pub use Rattle.bump_parts.specs.Gets
-pub use Rattle.bump_parts.specs.Holds
-pub use Rattle.bump_parts.specs.Parting
-pub use Rattle.bump_parts.specs.StepCounts
-pub use Rattle.bump_parts.specs.Touches
-pub use Rattle.bump_parts.specs.Workers
+pub use Rattle.bump_unlocked.specs.Closing
+pub use Rattle.bump_unlocked.specs.Gets
+pub use Rattle.bump_unlocked.specs.Holds
+pub use Rattle.bump_unlocked.specs.UnlockedStore
+pub use Rattle.bump_unlocked.specs.StepCounts
+pub use Rattle.bump_unlocked.specs.Touches
+pub use Rattle.bump_unlocked.specs.Workers
 pub use Rattle.bump_readers.specs.Attempts
 pub use Rattle.bump_rules.specs.Entries
 pub use Rattle.bump_links.specs.Lists as LinksLists

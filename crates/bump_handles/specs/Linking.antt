@@ -26,8 +26,8 @@ pub record BookLinksWords (start : Start) (further label : ℕ) (words : List �
   pub too_many : further < length words → answer ≡ Err TooMany
   pub item : length words ≤ further → answer ≡ words_linked (linked_item before.book)
   pub linked : IfOk answer (λ id. after.book ≡ book_with_words start id label words now before.book)
-  pub labelled : IfOk answer (λ id. label_of_life id 0 after.book.part.labels ≡ Some label)
+  pub labelled : IfOk answer (λ id. label_of_life id 0 after.book.sheet.labels ≡ Some label)
   pub has_words : IfOk answer (λ id. (j : ℕ) → j < length words
-      → label_of_life id 0 (of_word j after.book.part.words) ≡ Some (slice_index words j))
+      → label_of_life id 0 (of_word j after.book.sheet.words) ≡ Some (slice_index words j))
   pub unchanged : OnErr answer (after.book ≡ before.book)
   pub store : after.store ≡ before.store

@@ -31,8 +31,8 @@ looked_at (Some chunk) xs = previous_of chunk xs
 pub record IsTarget (place : Place) (behind : Option ℕ) (book : TaggedBookView) (answer : Result (Option ℕ) NotThere)
     : Type 0 where
   pub chunk : IfOk answer (λ told. told ≡ looked_at behind (list_at book.book.lists place))
-  pub stands : IfOk answer (λ told. IfSome told (λ chunk. (owns chunk book.book.part ≡ true)
-      × (place_of_chunk book.book.part chunk ≡ place)))
+  pub stands : IfOk answer (λ told. IfSome told (λ chunk. (owns chunk book.book.sheet ≡ true)
+      × (place_of_chunk book.book.sheet chunk ≡ place)))
   pub there : IfOk answer (λ told. IfSome behind (λ chunk. 0 < times_at chunk place book))
   pub given : OnErr answer (IsSome behind)
   pub not_there : OnErr answer (IfSome behind (λ chunk. times_at chunk place book ≡ 0))
@@ -41,17 +41,17 @@ pub record IsTarget (place : Place) (behind : Option ℕ) (book : TaggedBookView
 -- generation; the label is the last one that was stored for it.
 pub record SeesAll (before after : TaggedBookView) (it : Sight) : Type 0 where
   pub seen : after.book ≡ book_after_see_label it.chunk it.label (book_after_see it.chunk it.head it.time before.book)
-  pub shows : Shows it.head (place_of_chunk before.book.part it.chunk)
-  pub generation : it.head.generation ≡ generation_of_chunk before.book.part it.chunk
-  pub stored : it.label ≡ last_label before.book.part it.chunk
+  pub shows : Shows it.head (place_of_chunk before.book.sheet it.chunk)
+  pub generation : it.head.generation ≡ generation_of_chunk before.book.sheet it.chunk
+  pub stored : it.label ≡ last_label before.book.sheet it.chunk
 
 -- What a look at a chunk comes to.
 pub record BookSees (chunk : ℕ) (before after : TaggedBookView) (answer : Option Sight) : Type 0 where
   pub sees : IfSome answer (λ it. SeesAll before after it)
   pub named : IfSome answer (λ it. it.chunk ≡ chunk)
-  pub own : IfSome answer (λ it. owns chunk before.book.part ≡ true)
+  pub own : IfSome answer (λ it. owns chunk before.book.sheet ≡ true)
   -- there is no such chunk
-  pub none : IfNone answer (owns chunk before.book.part ≡ false)
+  pub none : IfNone answer (owns chunk before.book.sheet ≡ false)
   pub unchanged : IfNone answer (after ≡ before)
   pub store : after.store ≡ before.store
 
@@ -60,7 +60,7 @@ pub record BookLooks (place : Place) (behind : Option ℕ) (before after : Tagge
     (answer : Result (Option Sight) NotThere) : Type 0 where
   pub chunk : IfOk answer (λ told. option_map (λ it. it.chunk) told ≡ looked_at behind (list_at before.book.lists place))
   pub sees : IfOk answer (λ told. IfSome told (λ it. SeesAll before after it))
-  pub stands : IfOk answer (λ told. IfSome told (λ it. place_of_chunk before.book.part it.chunk ≡ place))
+  pub stands : IfOk answer (λ told. IfSome told (λ it. place_of_chunk before.book.sheet it.chunk ≡ place))
   pub nothing : IfOk answer (λ told. IfNone told (after ≡ before))
   pub there : IfOk answer (λ told. IfSome behind (λ chunk. 0 < times_at chunk place before))
   -- the given chunk doesn't stand in the list
@@ -86,8 +86,8 @@ pub record IsFirst (place : Place) (from : Option ℕ) (book : TaggedBookView) (
   pub all : from ≡ None → IfOk answer (λ first. first ≡ first_of (list_at book.book.lists place))
   pub given_one : IfSome from (λ chunk. IfOk answer (λ first. first ≡ Some chunk))
   pub there : IfOk answer (λ first. IfSome from (λ chunk. 0 < times_at chunk place book))
-  pub stands : IfOk answer (λ first. IfSome first (λ chunk. (owns chunk book.book.part ≡ true)
-      × (place_of_chunk book.book.part chunk ≡ place)))
+  pub stands : IfOk answer (λ first. IfSome first (λ chunk. (owns chunk book.book.sheet ≡ true)
+      × (place_of_chunk book.book.sheet chunk ≡ place)))
   pub given : OnErr answer (IsSome from)
   pub not_there : OnErr answer (IfSome from (λ chunk. times_at chunk place book ≡ 0))
 

@@ -2,11 +2,11 @@
 use Rattle.std.specs.Prelude.{◌≡◌, ◌≢◌, ℕ, ◌+◌, ◌-◌, List, [], ◌∷◌, map, replicate, slice_get, slice_set, All}
 use Rattle.std.specs.Prelude.{Option, None, Some, IfSome, IfNone}
 use Rattle.bump_rules.specs.declared.configs.Config.{Config}
-use Rattle.bump_steps.specs.Rule.{class_parts, worker_parts, lane_parts}
+use Rattle.bump_steps.specs.Rule.{class_sheets, worker_sheets, lane_sheets}
 use Rattle.bump_class.specs.Books.{BookView}
 use Rattle.bump_class.specs.Lanes.{LaneView}
-use Rattle.bump_parts.specs.Workers.{worker_rings, worker_parts_of, WorkerState}
-use Rattle.bump_parts.specs.Parting.{raw_rings, raw_parts_of, new_books, starts_from}
+use Rattle.bump_unlocked.specs.Workers.{worker_rings, worker_sheets_of, WorkerState}
+use Rattle.bump_unlocked.specs.UnlockedStore.{raw_rings, raw_sheets_of, new_books, starts_from}
 use Rattle.bump_handles.specs.Views.{ReaderView, TaggedBookView, DrainerView, OpenedView}
 
 -- the readers of these workers, whose numbers go from this one on, each with so many places that have no hold
@@ -48,8 +48,8 @@ pub record IsOpened (store : ℕ) (config : Config) (places : ℕ) (opened : Ope
   pub has_lanes : opened.lanes ≡ all_there (drainers_of store (starts_from 0 config.classes) lanes)
   -- the worker and the lane of a number have one ring
   pub rings : worker_rings workers ≡ raw_rings lanes
-  pub new_workers : worker_parts_of workers ≡ worker_parts 0 config.workers
-  pub new_lanes : raw_parts_of lanes ≡ lane_parts 0 config.workers
+  pub new_workers : worker_sheets_of workers ≡ worker_sheets 0 config.workers
+  pub new_lanes : raw_sheets_of lanes ≡ lane_sheets 0 config.workers
   pub capacity : All (λ worker. worker.sender.capacity ≡ config.capacity) workers
-  pub books : opened.books ≡ all_there (tagged store (new_books (class_parts (config.first_generation - 1) 0 0
+  pub books : opened.books ≡ all_there (tagged store (new_books (class_sheets (config.first_generation - 1) 0 0
       config.classes) config.classes config.workers))

@@ -1,11 +1,11 @@
 -- What contracts see of the parts of an open store.
 use Rattle.std.specs.Prelude.{ℕ, List, Option}
 use Rattle.bump_rules.specs.declared.configs.Config.{Config}
-use Rattle.bump_steps.specs.declared.views.HoldPart.{HoldPart}
+use Rattle.bump_steps.specs.declared.views.HoldSheet.{HoldSheet}
 use Rattle.bump_class.specs.Books.{BookView}
 use Rattle.bump_class.specs.Lanes.{LaneView}
-use Rattle.bump_parts.specs.Closing.{ClosedState}
-use Rattle.bump_parts.specs.Workers.{WorkerState}
+use Rattle.bump_unlocked.specs.Closing.{ClosedState}
+use Rattle.bump_unlocked.specs.Workers.{WorkerState}
 
 -- a worker of the store with this number, and what stands in each of its places
 pub record ReaderView : Type 0 where
@@ -15,7 +15,7 @@ pub record ReaderView : Type 0 where
   -- what the store was made from
   pub config : Config
   pub worker : WorkerState
-  pub holds : List (Option HoldPart)
+  pub holds : List (Option HoldSheet)
 
 -- a class of the store with this number
 pub record TaggedBookView : Type 0 where

@@ -1,7 +1,7 @@
 //! Lanes, each with the closed worker of its ring at the end.
 ghost use Rattle.std.specs.Prelude.{◌≡◌, IfSome, IfNone, IsSome, None};
 ghost use Rattle.std.specs.Option.{ForSome};
-ghost use Rattle.bump_parts.specs.Parting.{IsBetweenStarts};
+ghost use Rattle.bump_unlocked.specs.UnlockedStore.{IsBetweenStarts};
 ghost use Rattle.bump_handles.specs.Draining.{why_not_closed};
 ghost use Rattle.bump_handles.specs.Applying.{DrainerApplies, DrainerFrees, DrainerRests, HasNoClass, IsNotClosed, TellsClass, state_of_left};
 ghost use Rattle.bump_handles.specs.Views.{DrainerView as TheDrainerView};
@@ -10,8 +10,8 @@ use crate::books::TaggedBook;
 use crate::readers::Reader;
 use bump_class::{RawLane, RunEnd};
 use bump_heads::Name;
-use bump_parts::ClosedWorker;
 use bump_rules::Accounts;
+use bump_unlocked::ClosedWorker;
 use std::alloc::Global;
 use std::marker::Model;
 use std::sync::Arc;
@@ -222,7 +222,7 @@ impl<N: Name> Drainer<N> {
     pub fn close(&mut self, reader: Reader<N>)
         requires ring { reader.worker.sender.ring ≡ self.old.lane.ring }
         ensures closed { IfSome self.new.closed (λ c. (c.sender.sent ≡ reader.worker.sender.sent)
-            × (c.part ≡ reader.worker.part)) }
+            × (c.sheet ≡ reader.worker.sheet)) }
         ensures has { IsSome self.new.closed }
         ensures kept { self.new ≡ record self.old { closed = self.new.closed } }
     {

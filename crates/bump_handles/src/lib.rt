@@ -15,12 +15,12 @@ mod readers;
 pub use books::TaggedBook;
 pub use bump_class::{Book, LinkRefusal, RawLane, RunEnd, UnlinkRefusal};
 pub use bump_heads::{Blank, Heads, Name};
-pub use bump_parts::{GetRefusal, Worker};
 pub use bump_rules::{
     Accounts, Bump, ClassConfig, Classes, Config, Dropped, Ended, Head, ItemId, Place, Pulled,
     Segment, Start, Tail, Touch,
 };
-pub use bump_steps::{AnyRow, HoldPart, RowLaw, Rule};
+pub use bump_steps::{AnyRow, HoldSheet, RowLaw, Rule};
+pub use bump_unlocked::{GetRefusal, Worker};
 pub use drainers::{Drainer, NotClosed, OtherClass, RestState, Rested};
 pub use linking::WordsRefusal;
 pub use looking::{NotThere, Sight, Walked};

@@ -43,8 +43,8 @@ impl<N: Name> TaggedBook<N> {
     // Whether the class has a chunk, and it stands in a list.
     fn stands(&self, chunk: u32, place: Place) -> bool
         ensures there { StandsThere chunk place self.now result }
-        ensures own { result ≡ true → owns chunk self.now.book.part ≡ true }
-        ensures stands { result ≡ true → place_of_chunk self.now.book.part chunk ≡ place }
+        ensures own { result ≡ true → owns chunk self.now.book.sheet ≡ true }
+        ensures stands { result ≡ true → place_of_chunk self.now.book.sheet chunk ≡ place }
     {
         self.book.promise();
         self.book.has_chunk(chunk) && self.book.stands_in(chunk, place)
@@ -65,7 +65,7 @@ impl<N: Name> TaggedBook<N> {
 
     // The head, the time and the label of a chunk of the class, by three loads.
     fn sight_of(&mut self, chunk: u32) -> Sight
-        requires own { owns chunk self.old.book.part ≡ true }
+        requires own { owns chunk self.old.book.sheet ≡ true }
         ensures chunk { result.chunk ≡ chunk }
         ensures sees { SeesAll self.old self.new result }
         ensures store { self.new.store ≡ self.old.store }
@@ -136,8 +136,8 @@ impl<N: Name> TaggedBook<N> {
 
     // The same, from the chunk at hand on, which stands in the list.
     fn walk_on(&self, place: Place, first: Option<u32>, chunks: &mut [u32]) -> Walked
-        requires stands { IfSome first (λ c. (owns c self.now.book.part ≡ true)
-            × (place_of_chunk self.now.book.part c ≡ place)) }
+        requires stands { IfSome first (λ c. (owns c self.now.book.sheet ≡ true)
+            × (place_of_chunk self.now.book.sheet c ≡ place)) }
         ensures walks { WalksOn (list_at self.now.book.lists place) first chunks.old chunks.new result }
     {
         let mut next = first;

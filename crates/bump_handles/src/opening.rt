@@ -10,8 +10,8 @@ use crate::drainers::Drainer;
 use crate::readers::Reader;
 use bump_class::{Book, RawLane};
 use bump_heads::{Heads, Name};
-use bump_parts::{Blank, StoreParts, Worker};
 use bump_rules::Config;
+use bump_unlocked::{Blank, UnlockedStore, Worker};
 use std::alloc::{AllocError, Global};
 use std::marker::Model;
 use std::sync::Arc;
@@ -150,7 +150,7 @@ fn make_lanes<N: Name>(
     Ok(all)
 }
 
-/// Opens a store over a blank, under the name that its table has, as `StoreParts::open` does. `store` is the number by
+/// Opens a store over a blank, under the name that its table has, as `UnlockedStore::open` does. `store` is the number by
 /// which its parts are told from those of others, and each reader has so many places for holds. It is refused only for
 /// want of memory, and the blank is gone then.
 pub fn open<N: Name>(
@@ -164,13 +164,13 @@ pub fn open<N: Name>(
     requires config { blank.config ≡ config.now }
     ensures { IfOk result (λ opened. IsOpened store config.now places opened) }
 {
-    let StoreParts {
+    let UnlockedStore {
         heads,
         books,
         starts,
         workers,
         lanes,
-    } = StoreParts::<N>::open(alloc, blank, config)?;
+    } = UnlockedStore::<N>::open(alloc, blank, config)?;
     let tokens = make_tokens(alloc, workers.len())?;
     let lent = tokens.as_slice();
     Ok(Opened {

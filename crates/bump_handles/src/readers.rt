@@ -4,15 +4,15 @@ ghost use Rattle.std.specs.Arc.{arc_value};
 ghost use Rattle.bump_rules.specs.declared.hands.Hand.TheVariants as hand;
 ghost use Rattle.bump_rules.specs.Rings.{IsAccounts};
 ghost use Rattle.bump_readers.specs.Attempts.{attempts_in};
-ghost use Rattle.bump_parts.specs.StepCounts.{MakesAtMost};
+ghost use Rattle.bump_unlocked.specs.StepCounts.{MakesAtMost};
 ghost use Rattle.bump_handles.specs.Draining.{has_hold};
 ghost use Rattle.bump_handles.specs.Reading.{taken_told, CopiesWords, HoldsBehindAll, HoldsNothing, HoldsOne, ReaderCopies, ReaderGets, ReaderHits, ReaderReads, ReaderReleases, ReaderSees, ReaderTouches};
 ghost use Rattle.bump_handles.specs.Views.{ReaderView as TheReaderView};
 
 use bump_heads::{Heads, Name};
-use bump_parts::{GetRefusal, Hold, Worker};
 use bump_readers::ReaderHeads;
 use bump_rules::{Accounts, Head, ItemId, Touch};
+use bump_unlocked::{GetRefusal, Hold, Worker};
 use std::alloc::{AllocError, Global};
 use std::marker::Model;
 use std::sync::Arc;
@@ -173,7 +173,7 @@ impl<N: Name> Reader<N> {
     #[inline(always)]
     pub fn get(&mut self, place: u32, id: ItemId) -> Taken
         ensures gets { ReaderGets place id self.old self.new result }
-        ensures few { MakesAtMost 1 8 0 self.old.worker.part.steps self.new.worker.part.steps }
+        ensures few { MakesAtMost 1 8 0 self.old.worker.sheet.steps self.new.worker.sheet.steps }
     {
         let Some(free) = self.holds.get_mut(place as usize) else {
             return Taken::NoPlace;
@@ -194,7 +194,7 @@ impl<N: Name> Reader<N> {
     #[inline(always)]
     pub fn touch(&mut self, place: u32, now: u64) -> Option<Touch>
         ensures touches { ReaderTouches place now self.old self.new result }
-        ensures few { MakesAtMost 1 8 4 self.old.worker.part.steps self.new.worker.part.steps }
+        ensures few { MakesAtMost 1 8 4 self.old.worker.sheet.steps self.new.worker.sheet.steps }
     {
         let Some(held) = self.holds.get_mut(place as usize) else {
             return None;
@@ -306,9 +306,9 @@ impl<N: Name> Reader<N> {
 
     /// The worker's counts of bumps, as `Worker::counts` tells them.
     pub fn counts(&self) -> Accounts
-        ensures counts { result ≡ self.now.worker.part.accounts }
+        ensures counts { result ≡ self.now.worker.sheet.accounts }
         ensures add_up { IsAccounts result (length self.now.worker.sender.sent) hand.Idle }
-        ensures attempts { result.attempted ≡ attempts_in self.now.worker.part.steps }
+        ensures attempts { result.attempted ≡ attempts_in self.now.worker.sheet.steps }
     {
         self.worker.counts()
     }

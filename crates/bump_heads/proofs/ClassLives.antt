@@ -1,4 +1,4 @@
--- What a class's part keeps, it keeps by each step that begins or ends a life.
+-- What a class's sheet keeps, it keeps by each step that begins or ends a life.
 use Rattle.std.proofs.Common.{◌≡◌, ℕ, ◌+◌, ◌==◌, ◌∙◌, eqb, Bool, true, false, List, [], ◌∷◌, ◌++◌, Some, if◌then◌else◌, refl, sym, ap, subst, arith, eq-eqb}
 use Rattle.std.proofs.lemmas.Bool.{and_from}
 use Rattle.bump_rules.specs.declared.items.ItemId.{ItemId}
@@ -20,10 +20,10 @@ use Rattle.bump_rules.proofs.Beginnings.{begun_subject, begun_quiet}
 use Rattle.bump_rules.proofs.Replay.{are_between_push}
 use Rattle.bump_rules.proofs.ToldMoves.{no_stray}
 use Rattle.bump_rules.proofs.Updates.{total_push}
-use Rattle.bump_steps.specs.declared.views.ClassPart.{ClassPart}
+use Rattle.bump_steps.specs.declared.views.ClassSheet.{ClassSheet}
 use Rattle.bump_steps.specs.Views.{owns, standing, labels_of, last_label, last_word}
-use Rattle.bump_heads.specs.Seats.{IsClassPart, is_barred}
-use Rattle.bump_heads.proofs.ClassParts.{noted_part, entered_part}
+use Rattle.bump_heads.specs.Seats.{IsClassSheet, is_barred}
+use Rattle.bump_heads.proofs.ClassSheets.{noted_sheet, entered_sheet}
 use Rattle.bump_steps.specs.Lives.{class_after_load, class_after_put_label, class_after_put_word, class_after_link, class_after_unlink, class_after_sweep, class_after_sweep_or_load, IsInSegment}
 use Rattle.bump_steps.proofs.LabelLists.{life_linked, labels_begun}
 use Rattle.bump_steps.proofs.LifeLabels.{put_label_labels, put_word_labels, link_labels}
@@ -41,9 +41,9 @@ begun_allowed : (a : Start) (l : ItemId) → is_barred (begun_change a l) ≡ fa
 begun_allowed start.Hot l = refl
 begun_allowed start.Temp l = refl
 
-module _ (words : ℕ) (k : ClassPart) (o : IsClassPart words k) where
+module _ (words : ℕ) (k : ClassSheet) (o : IsClassSheet words k) where
   -- a label that is stored for a free chunk
-  pub keeps_put_label : (c y : ℕ) → (standing k c).0 ≡ Unused → IsClassPart words (class_after_put_label c y k)
+  pub keeps_put_label : (c y : ℕ) → (standing k c).0 ≡ Unused → IsClassSheet words (class_after_put_label c y k)
   keeps_put_label c y unused =
       let have = put_label_labels c y k (record { labelled = o.labelled; unbegun = o.unbegun }) unused in record {
         within = o.within;
@@ -55,7 +55,7 @@ module _ (words : ℕ) (k : ClassPart) (o : IsClassPart words k) where
       }
 
   -- and so of a further word
-  pub keeps_put_word : (c j y : ℕ) → (standing k c).0 ≡ Unused → IsClassPart words (class_after_put_word c j y k)
+  pub keeps_put_word : (c j y : ℕ) → (standing k c).0 ≡ Unused → IsClassSheet words (class_after_put_word c j y k)
   keeps_put_word c j y unused =
       let have = put_word_labels c j y k (record { labelled = o.labelled; unbegun = o.unbegun }) unused in record {
         within = o.within;
@@ -68,26 +68,26 @@ module _ (words : ℕ) (k : ClassPart) (o : IsClassPart words k) where
 
   -- the chunk's life is unlinked
   pub keeps_unlink : (c n : ℕ) → owns c k ≡ true → IsInSegment (standing k c).0
-      → IsClassPart words (class_after_unlink c n k)
-  keeps_unlink c n own in_it = entered_part words k (change.Unlinked (life c (standing k c).1)) _ o own refl refl refl
+      → IsClassSheet words (class_after_unlink c n k)
+  keeps_unlink c n own in_it = entered_sheet words k (change.Unlinked (life c (standing k c).1)) _ o own refl refl refl
       (λ used. used_in_place (standing k c).0 in_it)
 
   -- the chunk is freed
-  pub keeps_sweep : (c n : ℕ) → owns c k ≡ true → IsClassPart words (class_after_sweep c n k)
+  pub keeps_sweep : (c n : ℕ) → owns c k ≡ true → IsClassSheet words (class_after_sweep c n k)
   keeps_sweep c n own = let l : ItemId = life c (standing k c).1 in
-      entered_part words k (freed_change l) _ o
+      entered_sheet words k (freed_change l) _ o
       (subst (λ (j : ItemId). owns j.chunk k ≡ true) (sym (freed_subject l)) own)
       (subst (λ (j : ItemId). j.generation ≡ (standing k j.chunk).1) (sym (freed_subject l)) refl)
       (no_stray (freed_change l) (freed_quiet l)) (freed_allowed l) (λ used. absurd (freed_unused l used))
 
   -- or seen
   pub keeps_sweep_or_load : (c refs n : ℕ) → owns c k ≡ true
-      → IsClassPart words (class_after_sweep_or_load c refs n k)
+      → IsClassSheet words (class_after_sweep_or_load c refs n k)
   keeps_sweep_or_load c refs n own = by (refs == 0)
     where
-      by : (b : Bool) → IsClassPart words (if b then class_after_sweep c n k else class_after_load c n k)
+      by : (b : Bool) → IsClassSheet words (if b then class_after_sweep c n k else class_after_load c n k)
       by true = keeps_sweep c n own
-      by false = noted_part words k _ o
+      by false = noted_sheet words k _ o
 
   -- a new life has the label and the words that were stored last for the chunk
   pub link_word : (i c : ℕ) → label_of_life (life c ((standing k c).1 + 1)) 0
@@ -106,7 +106,7 @@ module _ (words : ℕ) (k : ClassPart) (o : IsClassPart words k) where
 
   -- and where one begins the class keeps what it keeps
   pub keeps_link : (a : Start) (c n : ℕ) → owns c k ≡ true
-      → IsClassPart words (class_after_link a c ((standing k c).1 + 1) n k)
+      → IsClassSheet words (class_after_link a c ((standing k c).1 + 1) n k)
   keeps_link a c n own =
       let l : ItemId = life c ((standing k c).1 + 1) in
       let e : Change = begun_change a l in
@@ -133,7 +133,7 @@ module _ (words : ℕ) (k : ClassPart) (o : IsClassPart words k) where
       }
 
 -- a look leaves the class's number
-pub number_kept : (c refs n : ℕ) (k : ClassPart) → (class_after_sweep_or_load c refs n k).class ≡ k.class
+pub number_kept : (c refs n : ℕ) (k : ClassSheet) → (class_after_sweep_or_load c refs n k).class ≡ k.class
 number_kept c refs n k = by (refs == 0)
   where
     by : (b : Bool) → (if b then class_after_sweep c n k else class_after_load c n k).class ≡ k.class
@@ -141,7 +141,7 @@ number_kept c refs n k = by (refs == 0)
     by false = refl
 
 -- and the application that it names
-pub naming_kept : (c refs n : ℕ) (k : ClassPart) → (class_after_sweep_or_load c refs n k).applying ≡ k.applying
+pub naming_kept : (c refs n : ℕ) (k : ClassSheet) → (class_after_sweep_or_load c refs n k).applying ≡ k.applying
 naming_kept c refs n k = by (refs == 0)
   where
     by : (b : Bool) → (if b then class_after_sweep c n k else class_after_load c n k).applying ≡ k.applying

@@ -14,12 +14,11 @@ use Rattle.bump_rules.specs.Lanes.{carried, applied_bump, ending_at}
 use Rattle.bump_rules.specs.Lawful.{Shows, IsUsed}
 use Rattle.bump_rules.proofs.Laws.{not_cold}
 use Rattle.bump_rules.specs.Tables.{is_cold}
-use Rattle.bump_rules.proofs.Laws.{placed_where_linked}
 use Rattle.bump_word.specs.Words.{Fits, word_of}
 use Rattle.bump_steps.specs.declared.views.Kind.TheVariants as kind
-use Rattle.bump_steps.specs.declared.views.ClassPart.{ClassPart}
+use Rattle.bump_steps.specs.declared.views.ClassSheet.{ClassSheet}
 use Rattle.bump_heads.specs.declared.views.ClassView.{ClassView}
-use Rattle.bump_steps.specs.declared.views.LanePart.{LanePart}
+use Rattle.bump_steps.specs.declared.views.LaneSheet.{LaneSheet}
 use Rattle.bump_steps.specs.Views.{owns, standing}
 use Rattle.bump_steps.specs.Plays.{step_of}
 use Rattle.bump_steps.specs.Applications.{lane_after_try, noted_class, class_after_move}
@@ -27,12 +26,12 @@ use Rattle.bump_heads.specs.Applying.{carried_by, life_aboard, MayClearActive, M
 use Rattle.bump_steps.specs.Lives.{IsInSegment}
 
 -- a lane that carries this bump
-pub carrying : (o : Option LanePart) (b : Bump) → carried_by o ≡ Some b → (l : LanePart)
+pub carrying : (o : Option LaneSheet) (b : Bump) → carried_by o ≡ Some b → (l : LaneSheet)
     × (o ≡ Some (record l { stage = lane.Carrying b }))
 carrying None b is = absurd (cc is)
 carrying (Some l) b is = by l.stage refl is
   where
-    by : (s : LaneStage) → l.stage ≡ s → carried s ≡ Some b → (m : LanePart)
+    by : (s : LaneStage) → l.stage ≡ s → carried s ≡ Some b → (m : LaneSheet)
         × (Some l ≡ Some (record m { stage = lane.Carrying b }))
     by lane.Empty at is = absurd (cc is)
     by (lane.Carrying d) at is = let e : d ≡ b = cc is in
@@ -42,41 +41,26 @@ carrying (Some l) b is = by l.stage refl is
     by (lane.Moved d) at is = absurd (cc is)
 
 -- whose chunk is the class's, where the bump's is
-pub own_aboard : (b : Bump) (o : Option LanePart) (k : ClassPart) → carried_by o ≡ Some b
+pub own_aboard : (b : Bump) (o : Option LaneSheet) (k : ClassSheet) → carried_by o ≡ Some b
     → owns b.life.chunk k ≡ true → owns (life_aboard o).chunk k ≡ true
-own_aboard b o k is own = ap (λ (x : Option LanePart). owns (life_aboard x).chunk k) (carrying o b is).1 ∙ own
+own_aboard b o k is own = ap (λ (x : Option LaneSheet). owns (life_aboard x).chunk k) (carrying o b is).1 ∙ own
 
--- the list of a linked item is that of its segment
-linked_in : (s : Segment) → IsInSegment (place_of s)
-linked_in Hot = refl
-linked_in Warm = refl
-linked_in Cold = refl
-linked_in Temp = refl
-
-module _ (v v₁ : ClassView) (o : Option LanePart) (l : LanePart) (b : Bump) (c : ℕ) (h : Head)
+module _ (v v₁ : ClassView) (o : Option LaneSheet) (l : LaneSheet) (b : Bump) (c : ℕ) (h : Head)
     (carries : o ≡ Some (record l { stage = lane.Carrying b })) (of : b.life.chunk ≡ c)
     (after : v₁ ≡ record v { lane = option_map (lane_after_try (life_aboard o).chunk (word_of h)) o })
-    (seen : FoundOfBump v.part (life_aboard o) h) (fits : Fits h) (own : owns c v.part ≡ true) where
+    (seen : FoundOfBump v.sheet (life_aboard o) h) (fits : Fits h) (own : owns c v.sheet ≡ true) where
   -- the lane after the look at the head
-  abbrev pub lane_tried : LanePart
+  abbrev pub lane_tried : LaneSheet
   lane_tried = lane_after_try c (word_of h) (record l { stage = lane.Carrying b })
 
-  pub tried_is : v₁ ≡ record { part = v.part; lane = Some lane_tried }
+  pub tried_is : v₁ ≡ record { sheet = v.sheet; lane = Some lane_tried }
   tried_is = after
-      ∙ ap (λ (x : Option LanePart). record v {
+      ∙ ap (λ (x : Option LaneSheet). record v {
         lane = option_map (lane_after_try (life_aboard x).chunk (word_of h))
             x;
       }) carries
       ∙ ap (λ (d : ℕ). record v { lane = Some (lane_after_try d (word_of h) (record l { stage = lane.Carrying b })) })
       of
-
-  -- where the chunk stands, by the head that was found
-  pub stood : Shows h (standing v.part c).0 × ((standing v.part c).1 ≡ b.life.generation)
-      × IsUsed (standing v.part c).0
-  stood = subst (λ (d : ℕ). Shows h (standing v.part d).0 × ((standing v.part d).1 ≡ b.life.generation)
-      × IsUsed (standing v.part d).0) of
-      ((subst (λ (x : Option LanePart). FoundOfBump v.part (life_aboard x) h) carries seen).stands
-      (ap (λ (d : ℕ). owns d v.part) of ∙ own))
 
   -- what the lane's look found
   pub try_found : TryFound lane_tried b h
@@ -97,23 +81,12 @@ module _ (v v₁ : ClassView) (o : Option LanePart) (l : LanePart) (b : Bump) (c
         (if not on then Some Gone else (if is_cold h.segment then None else Some TimeOnly))) off;
   }
 
-  pub ends_gone : h.linked ≡ false → (x : LanePart) × (g : Head) × MayEndAs v₁ x b g Gone
+  pub ends_gone : h.linked ≡ false → (x : LaneSheet) × (g : Head) × MayEndAs v₁ x b g Gone
   ends_gone off = (lane_tried, h, gone_as off)
-
-  -- the time of one that is linked may be stored
-  pub may_put_time : h.linked ≡ true → (owns c v₁.part ≡ true) × MayPutTime c (standing v₁.part c).0 v₁.lane
-  may_put_time on = subst (λ (x : ClassView). (owns c x.part ≡ true) × MayPutTime c (standing x.part c).0 x.lane)
-      (sym tried_is) (
-        own,
-        (
-          subst IsInSegment (sym (placed_where_linked h (standing v.part c).0 stood.0 on)) (linked_in h.segment),
-          of,
-        ),
-      )
 
   module _ (now : ℕ) (w₁ : ClassView) (timed : w₁ ≡ seat_after_put_time c now v₁) where
     pub put_time_is : w₁ ≡ record {
-      part = noted_class kind.PutTime c now (lane_tried ∷ []) v.part;
+      sheet = noted_class kind.PutTime c now (lane_tried ∷ []) v.sheet;
       lane =
           Some lane_tried;
     }
@@ -128,26 +101,18 @@ module _ (v v₁ : ClassView) (o : Option LanePart) (l : LanePart) (b : Bump) (c
           (if not there then Some Gone else (if cold then None else Some TimeOnly))) on (not_cold h.segment other);
     }
 
-    pub ends_elsewhere : h.linked ≡ true → h.segment ≢ Cold → (x : LanePart) × (g : Head)
+    pub ends_elsewhere : h.linked ≡ true → h.segment ≢ Cold → (x : LaneSheet) × (g : Head)
         × MayEndAs w₁ x b g TimeOnly
     ends_elsewhere on other = (lane_tried, h, elsewhere_as on other)
 
-    -- ACTIVE of one in COLD may be cleared
-    pub may_clear_active : h.linked ≡ true → h.segment ≡ Cold → (owns c w₁.part ≡ true)
-        × MayClearActive c (standing w₁.part c).0 w₁.lane
-    may_clear_active on cold =
-        subst (λ (x : ClassView). (owns c x.part ≡ true) × MayClearActive c (standing x.part c).0 x.lane)
-        (sym put_time_is)
-        (own, (placed_where_linked h (standing v.part c).0 stood.0 on ∙ ap place_of cold, of))
-
     module _ (found : Head) (v₂ : ClassView) (cleared : v₂ ≡ seat_after_clear_active c found w₁) where
       -- the class after the clearing
-      abbrev pub cleared_part : ClassPart
-      cleared_part = noted_class kind.ClearActive c (word_of found) (lane_tried ∷ [])
-          (noted_class kind.PutTime c now (lane_tried ∷ []) v.part)
+      abbrev pub cleared_sheet : ClassSheet
+      cleared_sheet = noted_class kind.ClearActive c (word_of found) (lane_tried ∷ [])
+          (noted_class kind.PutTime c now (lane_tried ∷ []) v.sheet)
 
       pub clear_active_is : v₂ ≡ record {
-        part = cleared_part;
+        sheet = cleared_sheet;
         lane =
             Some (record lane_tried { stage = lane.Cleared b found.active });
       }
@@ -162,14 +127,14 @@ module _ (v v₁ : ClassView) (o : Option LanePart) (l : LanePart) (b : Bump) (c
         ending = ap (λ (f : Bool). ending_at (λ d. h) (lane.Cleared b f)) off;
       }
 
-      pub ends_clear : found.active ≡ false → (x : LanePart) × (g : Head) × MayEndAs v₂ x b g TimeOnly
+      pub ends_clear : found.active ≡ false → (x : LaneSheet) × (g : Head) × MayEndAs v₂ x b g TimeOnly
       ends_clear off = (record lane_tried { stage = lane.Cleared b found.active }, h, clear_as off)
 
       -- the class after the move
       pub moved_is : (last : Head) (v₃ : ClassView) → v₃ ≡ seat_after_move c Cold Warm last v₂
           → v₃ ≡ record {
-            part = class_after_move Cold Warm c (word_of last)
-                (record lane_tried { stage = lane.Cleared b found.active } ∷ []) cleared_part;
+            sheet = class_after_move Cold Warm c (word_of last)
+                (record lane_tried { stage = lane.Cleared b found.active } ∷ []) cleared_sheet;
             lane =
                 Some (record lane_tried { stage = lane.Moved b });
           }
@@ -185,6 +150,6 @@ module _ (v v₁ : ClassView) (o : Option LanePart) (l : LanePart) (b : Bump) (c
       }
 
       pub ends_moved : (last : Head) (v₃ : ClassView) → v₃ ≡ seat_after_move c Cold Warm last v₂ → found.active ≡ true
-          → (x : LanePart) × (g : Head) × MayEndAs v₃ x b g Moved
+          → (x : LaneSheet) × (g : Head) × MayEndAs v₃ x b g Moved
       ends_moved last v₃ moved some =
           (record lane_tried { stage = lane.Moved b }, h, moved_as last v₃ moved some)

@@ -27,8 +27,8 @@ use Rattle.bump_word.specs.Layout.{linked_first, active_first}
 use Rattle.bump_word.specs.Words.{Fits, Spells, segment_number, word_of, segment_bits}
 use Rattle.bump_word.proofs.Words.{fields, number_one, one_head}
 use Rattle.bump_steps.specs.declared.views.Kind.TheVariants as kind
-use Rattle.bump_steps.specs.declared.views.ClassPart.{ClassPart}
-use Rattle.bump_steps.specs.declared.views.LanePart.{LanePart}
+use Rattle.bump_steps.specs.declared.views.ClassSheet.{ClassSheet}
+use Rattle.bump_steps.specs.declared.views.LaneSheet.{LaneSheet}
 use Rattle.bump_steps.specs.declared.views.OwnStep.{OwnStep}
 use Rattle.bump_steps.specs.Views.{bump_aboard, owns, standing, is_for, linked_elsewhere, active_clear, shows_time_only}
 use Rattle.bump_steps.specs.Plays.{step_of}
@@ -79,13 +79,13 @@ one_end d b p o is = let e : applied_bump d p ≡ applied_bump b o = cc is in
     (ap bump_in e, ap (λ (a : AppliedBump). a.outcome) e)
 
 -- what is shown of one is shown of an equal one
-shown_as : (k : ClassPart) (l : LanePart) (d b : Bump) (p o : Outcome) → ◌≡◌ {A = Option AppliedBump}
+shown_as : (k : ClassSheet) (l : LaneSheet) (d b : Bump) (p o : Outcome) → ◌≡◌ {A = Option AppliedBump}
     (Some (applied_bump d p)) (Some (applied_bump b o)) → IsShown k l d p → IsShown k l b o
 shown_as k l d b p o is shown = let e = one_end d b p o is in subst (λ (x : Bump × Outcome). IsShown k l x.0 x.1)
     (λ i. (e.0 i, e.1 i)) shown
 
 -- a step that is only noted takes nothing from what shows an entry
-more_steps : (k : ClassPart) (l : LanePart) (x : OwnStep) (b : Bump) (o : Outcome) → IsShown k l b o
+more_steps : (k : ClassSheet) (l : LaneSheet) (x : OwnStep) (b : Bump) (o : Outcome) → IsShown k l b o
     → IsShown (record k { steps = k.steps ++ x ∷ [] }) l b o
 more_steps k l x b outcome.Moved is = is
 more_steps k l x b outcome.Gone is = is
@@ -95,7 +95,7 @@ more_steps k l x b outcome.TimeOnly is =
 -- ---- steps
 
 -- a step of the class that is only noted
-pub noted_joined : (k : ClassPart) (x : OwnStep) (o : Option LanePart) (j : Joined) → IsJoined k o j
+pub noted_joined : (k : ClassSheet) (x : OwnStep) (o : Option LaneSheet) (j : Joined) → IsJoined k o j
     → IsJoined (record k { steps = k.steps ++ x ∷ [] }) o j
 noted_joined k x None j is = is
 noted_joined k x (Some l) j is = record {
@@ -112,15 +112,15 @@ noted_joined k x (Some l) j is = record {
 }
 
 -- any step while no lane is joined, and which names no application
-pub alone_joined : (k m : ClassPart) (o : Option LanePart) (j : Joined) → o ≡ None → m.applying ≡ k.applying
+pub alone_joined : (k m : ClassSheet) (o : Option LaneSheet) (j : Joined) → o ≡ None → m.applying ≡ k.applying
     → IsJoined k o j → IsJoined m o j
 alone_joined k m None j none same is = same ∙ is
 alone_joined k m (Some l) j none same is = absurd (cc none)
 
-module _ (h : Head) (k : ClassPart) (l : LanePart) (b : Bump) (fits : Fits h) (seen : FoundOfBump k b.life h)
+module _ (h : Head) (k : ClassSheet) (l : LaneSheet) (b : Bump) (fits : Fits h) (seen : FoundOfBump k b.life h)
     (own : owns b.life.chunk k ≡ true) (idle : k.applying ≡ None) where
   -- the lane after its look
-  abbrev after_look : LanePart
+  abbrev after_look : LaneSheet
   after_look = lane_after_try b.life.chunk (word_of h) (record l { stage = lane.Carrying b })
 
   -- a lane's look at the head of its bump's item
@@ -166,7 +166,7 @@ module _ (h : Head) (k : ClassPart) (l : LanePart) (b : Bump) (fits : Fits h) (s
       by true false on is d o may = shown_as k after_look b d outcome.TimeOnly o may (time_only on is)
 
 -- a lane that carries a bump joins, and looks
-pub tried_joined : (h : Head) (k : ClassPart) (o : Option LanePart) (b : Bump) → IsSome (carried_by o)
+pub tried_joined : (h : Head) (k : ClassSheet) (o : Option LaneSheet) (b : Bump) → IsSome (carried_by o)
     → aboard_lane o ≡ Some b → k.applying ≡ None → Fits h → FoundOfBump k (life_aboard o) h
     → owns (life_aboard o).chunk k ≡ true
     → IsJoined k (option_map (lane_after_try (life_aboard o).chunk (word_of h)) o)
@@ -186,24 +186,24 @@ tried_joined h k (Some l) b some is idle fits seen own = by l.stage some is seen
     by (lane.Cleared d f) some is seen own = absurd (cc some)
     by (lane.Moved d) some is seen own = absurd (cc some)
 
--- the class's part after ACTIVE of the bump's item was cleared, and after it was moved
-abbrev part_cleared : ℕ → Head → ClassPart → LanePart → Bump → ClassPart
-part_cleared c h k l b = noted_class kind.ClearActive c (word_of h) (record l { stage = lane.Tried b } ∷ []) k
+-- the class's sheet after ACTIVE of the bump's item was cleared, and after it was moved
+abbrev sheet_cleared : ℕ → Head → ClassSheet → LaneSheet → Bump → ClassSheet
+sheet_cleared c h k l b = noted_class kind.ClearActive c (word_of h) (record l { stage = lane.Tried b } ∷ []) k
 
-abbrev part_moved : ℕ → ℕ → ClassPart → LanePart → Bump → ClassPart
-part_moved c n k l b = class_after_move Cold Warm c n (record l { stage = lane.Cleared b true } ∷ []) k
+abbrev sheet_moved : ℕ → ℕ → ClassSheet → LaneSheet → Bump → ClassSheet
+sheet_moved c n k l b = class_after_move Cold Warm c n (record l { stage = lane.Cleared b true } ∷ []) k
 
 -- a chunk in COLD isn't in DYING
-not_dying : (k : ClassPart) (c : ℕ) (b d : Bump) → b.life.chunk ≡ c → b ≡ d → (standing k c).0 ≡ place.Cold
+not_dying : (k : ClassSheet) (c : ℕ) (b d : Bump) → b.life.chunk ≡ c → b ≡ d → (standing k c).0 ≡ place.Cold
     → (standing k d.life.chunk).0 ≡ place.Dying → ⊥
 not_dying k c b d of same cold dying =
     let e : place.Cold ≡ place.Dying = sym cold ∙ ap (λ (x : ℕ). (standing k x).0) (sym of)
     ∙ ap (λ (x : Bump). (standing k x.life.chunk).0) same ∙ dying in cc e
 
 -- ACTIVE of the bump's item is cleared
-clears : (c : ℕ) (h : Head) (k : ClassPart) (l : LanePart) (j : Joined) (b : Bump) → Fits h → b.life.chunk ≡ c
+clears : (c : ℕ) (h : Head) (k : ClassSheet) (l : LaneSheet) (j : Joined) (b : Bump) → Fits h → b.life.chunk ≡ c
     → (standing k c).0 ≡ place.Cold → Joins k (record l { stage = lane.Tried b }) j
-    → Joins (part_cleared c h k l b) (record l { stage = lane.Cleared b h.active }) j
+    → Joins (sheet_cleared c h k l b) (record l { stage = lane.Cleared b h.active }) j
 clears c h k l j b fits of cold is = record {
   bump = is.bump;
   aboard = is.aboard;
@@ -226,7 +226,7 @@ clears c h k l j b fits of cold is = record {
         ∙ ap (λ (x : Bool). if not x then outcome.Gone else outcome.TimeOnly) on
     still false off = absurd (not_dying k c b is.bump of (cc is.aboard) cold (is.gone off))
 
-    shown : h.active ≡ false → IsShown (part_cleared c h k l b) (record l { stage = lane.Cleared b h.active }) b
+    shown : h.active ≡ false → IsShown (sheet_cleared c h k l b) (record l { stage = lane.Cleared b h.active }) b
         outcome.TimeOnly
     shown off = omega (
       arith,
@@ -238,15 +238,15 @@ clears c h k l j b fits of cold is = record {
 
     by : (f : Bool) → h.active ≡ f → (d : Bump) (o : Outcome) → ending_at (λ c. is.found) (lane.Cleared b f) ≡ Some
         (applied_bump d o)
-        → IsShown (part_cleared c h k l b) (record l { stage = lane.Cleared b h.active }) d o
+        → IsShown (sheet_cleared c h k l b) (record l { stage = lane.Cleared b h.active }) d o
     by true on d o may = absurd (cc may)
-    by false off d o may = shown_as (part_cleared c h k l b) (record l { stage = lane.Cleared b h.active }) b d
+    by false off d o may = shown_as (sheet_cleared c h k l b) (record l { stage = lane.Cleared b h.active }) b d
         outcome.TimeOnly o may (shown off)
 
 -- the item is moved
-moves : (c n : ℕ) (k : ClassPart) (l : LanePart) (j : Joined) (b : Bump) → b.life.chunk ≡ c
+moves : (c n : ℕ) (k : ClassSheet) (l : LaneSheet) (j : Joined) (b : Bump) → b.life.chunk ≡ c
     → (standing k c).0 ≡ place.Cold → Joins k (record l { stage = lane.Cleared b true }) j
-    → Joins (part_moved c n k l b) (record l { stage = lane.Moved b }) (joined_after_move j)
+    → Joins (sheet_moved c n k l b) (record l { stage = lane.Moved b }) (joined_after_move j)
 moves c n k l j b of cold is = record {
   bump = is.bump;
   aboard = is.aboard;
@@ -261,11 +261,11 @@ moves c n k l j b of cold is = record {
   };
   gone = λ off. absurd (not_dying k c b is.bump of (cc is.aboard) cold (is.gone off));
   outcome = refl;
-  entry = λ d o may. shown_as (part_moved c n k l b) (record l { stage = lane.Moved b }) b d outcome.Moved o may
+  entry = λ d o may. shown_as (sheet_moved c n k l b) (record l { stage = lane.Moved b }) b d outcome.Moved o may
       shown;
 }
   where
-    shown : IsShown (part_moved c n k l b) (record l { stage = lane.Moved b }) b outcome.Moved
+    shown : IsShown (sheet_moved c n k l b) (record l { stage = lane.Moved b }) b outcome.Moved
     shown = omega (
       arith,
       total_push (λ x. bit (is_move_for (is_same b.life) l.worker b.number x)) k.history
@@ -292,7 +292,7 @@ at_cleared c (lane.Cleared b true) is = (b, refl, is)
 at_cleared c (lane.Cleared b false) is = absurd is
 at_cleared c (lane.Moved b) is = absurd is
 
-pub joined_cleared : (c : ℕ) (h : Head) (k : ClassPart) (o : Option LanePart) (j : Joined) → Fits h
+pub joined_cleared : (c : ℕ) (h : Head) (k : ClassSheet) (o : Option LaneSheet) (j : Joined) → Fits h
     → MayClearActive c (standing k c).0 o → IsJoined k o j
     → IsJoined (noted_class kind.ClearActive c (word_of h) (listed o) k)
     (option_map (lane_after_clear_active h.active) o) j
@@ -303,7 +303,7 @@ joined_cleared c h k (Some l) j fits may is =
     (lane_after_clear_active h.active (record l { stage = s })) j) (sym t.1)
     (clears c h k l j t.0 fits t.2 may.0 (subst (λ (s : LaneStage). Joins k (record l { stage = s }) j) t.1 is))
 
-pub joined_moved : (c n : ℕ) (from to : Segment) (k : ClassPart) (o : Option LanePart) (j : Joined)
+pub joined_moved : (c n : ℕ) (from to : Segment) (k : ClassSheet) (o : Option LaneSheet) (j : Joined)
     → (standing k c).0 ≡ place_of from → MayChangeSegment c from to o → IsJoined k o j
     → IsJoined (class_after_move from to c n (listed o) k) (option_map lane_after_move o)
     (joined_after_move j)
@@ -350,7 +350,7 @@ last_push n [] x = refl
 last_push n (y ∷ ys) x = last_push y.word ys x
 
 -- a lane's look found one head
-one_try : (l : LanePart) (b d : Bump) (g h : Head) → TryFound l b g → TryFound l d h → g ≡ h
+one_try : (l : LaneSheet) (b d : Bump) (g h : Head) → TryFound l b g → TryFound l d h → g ≡ h
 one_try l b d g h x y =
     let word : word_of g ≡ word_of h =
     sym (last_push 0 x.before (step_of kind.Try b.life.chunk (word_of g) (Some (l.worker, b.number))))
@@ -360,20 +360,20 @@ one_try l b d g h x y =
 
 -- The bump aboard the joined lane, which is of this chunk of the class, ends with the outcome: its item was moved
 -- exactly where that is Moved, and the entry is true.
-pub record Ending (v : ClassView) (c : ℕ) (o : Outcome) (l : LanePart) (b : Bump) : Type 0 where
+pub record Ending (v : ClassView) (c : ℕ) (o : Outcome) (l : LaneSheet) (b : Bump) : Type 0 where
   pub joined : v.lane ≡ Some l
   pub aboard : applied_now l.stage ≡ Some b
   pub chunk : b.life.chunk ≡ c
-  pub own : owns c v.part ≡ true
+  pub own : owns c v.sheet ≡ true
   pub past : is_past_move l.stage ≡ is_moved o
-  pub named : v.part.applying ≡ application_of l.worker l.stage
-  pub entry : IsShown v.part l b o
+  pub named : v.sheet.applying ≡ application_of l.worker l.stage
+  pub entry : IsShown v.sheet l b o
 
-module _ (v : ClassView) (l : LanePart) (b : Bump) (h : Head) (o : Outcome) (ends : MayEndAs v l b h o) where
-  module _ (j : Joined) (is : IsJoined v.part v.lane j) where
+module _ (v : ClassView) (l : LaneSheet) (b : Bump) (h : Head) (o : Outcome) (ends : MayEndAs v l b h o) where
+  module _ (j : Joined) (is : IsJoined v.sheet v.lane j) where
     -- the seat keeps what a caller knows of the lane
-    joins : Joins v.part l j
-    joins = subst (λ (y : Option LanePart). IsJoined v.part y j) ends.joined is
+    joins : Joins v.sheet l j
+    joins = subst (λ (y : Option LaneSheet). IsJoined v.sheet y j) ends.joined is
 
     -- the head that its look found is the caller's
     found_is : h ≡ joins.found
@@ -388,7 +388,7 @@ module _ (v : ClassView) (l : LanePart) (b : Bump) (h : Head) (o : Outcome) (end
       joined = ends.joined;
       aboard = m.0;
       chunk = refl;
-      own = ap (λ (x : Bump). owns x.life.chunk v.part) bump_is ∙ joins.own;
+      own = ap (λ (x : Bump). owns x.life.chunk v.sheet) bump_is ∙ joins.own;
       past = m.1;
       named = joins.named;
       entry = joins.entry b o

@@ -1,7 +1,7 @@
 pub mod Badges
 pub mod Joining
 pub mod Seeing
-pub mod ClassParts
+pub mod ClassSheets
 pub mod ClassLives
 pub mod ClassSeats
 pub mod Makings

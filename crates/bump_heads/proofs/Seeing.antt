@@ -3,6 +3,7 @@ use Rattle.std.proofs.Common.{◌≡◌, ℕ, ◌+◌, ◌<◌, inl, inr, ◌&&�
 use Rattle.std.proofs.lemmas.Bool.{and_parts}
 use Rattle.std.specs.Prelude.{option_map, IfSome, IsSome}
 use Rattle.atomic_table.specs.Seated.{TableId}
+use Rattle.atomic_table.specs.declared.badge.Badge.{Badge}
 use Rattle.atomic_table.specs.declared.shared.Seat.{Seat}
 use Rattle.bump_steps.specs.Places.{rows}
 use Rattle.bump_rules.specs.declared.items.Head.{Head}
@@ -30,8 +31,8 @@ use Rattle.bump_rules.proofs.Laws.{used_in_segment}
 use Rattle.bump_word.specs.Words.{Spells, word_of}
 use Rattle.bump_steps.specs.declared.views.Empty.{Empty}
 use Rattle.bump_steps.specs.declared.views.Kind.TheVariants as kind
-use Rattle.bump_steps.specs.declared.views.ClassPart.{ClassPart}
-use Rattle.bump_steps.specs.declared.views.LanePart.{LanePart}
+use Rattle.bump_steps.specs.declared.views.ClassSheet.{ClassSheet}
+use Rattle.bump_steps.specs.declared.views.LaneSheet.{LaneSheet}
 use Rattle.bump_heads.specs.declared.joined.Joined.{Joined}
 use Rattle.bump_heads.specs.declared.views.ClassView.{ClassView}
 use Rattle.bump_steps.specs.declared.views.View.{View}
@@ -41,13 +42,14 @@ use Rattle.bump_steps.specs.Cuts.{joined, lanes_only, without_lanes}
 use Rattle.bump_steps.specs.Lives.{on_class}
 use Rattle.bump_steps.specs.Meetings.{class_after_meet, AreOfWorkers}
 use Rattle.bump_steps.specs.Applications.{applying, bump_for, lane_after_try, view_after_try, lane_after_clear_active, view_after_clear_active, view_after_put_time, noted_class, stage_after_move, lane_after_move, change_of_move_for, application_of, class_at_rest, class_after_move, view_after_move, life_in, lane_after_alight, entries_of_alight, view_after_alight, MayTry, MayMove, MayAlight}
-use Rattle.bump_heads.specs.Applying.{life_aboard, life_of, IsOf, MayClearActive, MayChangeSegment, IsShown, IsJoined, carried_by, joined_after_try, joined_after_move, seat_after_move, seat_after_clear_active, seat_after_put_time, FoundOfBump, NamesNoBumpTwice, NamesWorkersBelow, is_own, TellsMoves}
+use Rattle.bump_heads.specs.Applying.{life_aboard, life_of, IsOf, MayClearActive, MayChangeSegment, IsShown, IsJoined, KeepsJoined, carried_by, joined_after_try, joined_after_move, seat_after_move, seat_after_clear_active, seat_after_put_time, FoundOfBump, NamesNoBumpTwice, NamesWorkersBelow, is_own, TellsMoves}
 use Rattle.bump_readers.specs.Seats.{head_or, listed}
 use Rattle.bump_steps.specs.Riders.{lane_me, applied_by}
-use Rattle.bump_heads.specs.Seats.{class_me, class_in, lane_in, IsLane, IsOfWorker, IsInRange, IsClassPart, aboard_lane, no_class, no_lane}
+use Rattle.bump_heads.specs.Seats.{class_me, class_in, lane_in, lane_in_views, lane_views, most_workers, IsAtRest, IsLane, IsOfWorker, IsInRange, IsClassSheet, aboard_lane, no_class, no_lane}
 use Rattle.bump_steps.proofs.Applications.{try_going, try_refers, clear_active_refers}
 use Rattle.bump_steps.proofs.Alightings.{alight_refers}
-use Rattle.bump_heads.proofs.ClassParts.{entered_part, noted_part, named_part}
+use Rattle.bump_heads.proofs.Badges.{carries_aboard, carries_some, out_is, out_lane}
+use Rattle.bump_heads.proofs.ClassSheets.{entered_sheet, noted_sheet, named_sheet}
 use Rattle.bump_heads.proofs.ClassSeats.{class_in_me, found_is}
 use Rattle.bump_heads.proofs.Joining.{active_found, noted_joined, joined_cleared, joined_moved, tried_joined, Ending}
 use Rattle.bump_steps.proofs.Told.{stands_alone}
@@ -62,24 +64,24 @@ one_more (y ∷ ys) x none = cc none
 
 -- what a seat's invariant says of the view that it is made of
 pub seen_whole : (words : ℕ) (table : TableId) (number : ℕ) (m : Sat) (v : ClassView) (joined : Joined)
-    → m ≡ class_me v → IsInRange table (aboard_lane v.lane) → number ≡ v.part.class → IsClassPart words v.part
-    → IsJoined v.part v.lane joined
+    → m ≡ class_me v → IsInRange table (aboard_lane v.lane) → number ≡ v.sheet.class → IsClassSheet words v.sheet
+    → IsJoined v.sheet v.lane joined
     → (m ≡ class_me (class_in m.0)) × IsInRange table (aboard_lane (class_in m.0).lane)
-    × (number ≡ (class_in m.0).part.class) × IsClassPart words (class_in m.0).part × IsJoined (class_in m.0).part
+    × (number ≡ (class_in m.0).sheet.class) × IsClassSheet words (class_in m.0).sheet × IsJoined (class_in m.0).sheet
     (class_in m.0).lane joined
-seen_whole words table number m v joined is near class part lane =
-    subst (λ (x : ClassView). (m ≡ class_me x) × IsInRange table (aboard_lane x.lane) × (number ≡ x.part.class)
-    × IsClassPart words x.part × IsJoined x.part x.lane joined)
-    (sym (ap (λ (x : Sat). class_in x.0) is ∙ class_in_me v)) (is, near, class, part, lane)
+seen_whole words table number m v joined is near class sheet lane =
+    subst (λ (x : ClassView). (m ≡ class_me x) × IsInRange table (aboard_lane x.lane) × (number ≡ x.sheet.class)
+    × IsClassSheet words x.sheet × IsJoined x.sheet x.lane joined)
+    (sym (ap (λ (x : Sat). class_in x.0) is ∙ class_in_me v)) (is, near, class, sheet, lane)
 
 -- and the view is the one that is seen
 pub seen_as : (m : Sat) (v : ClassView) → m ≡ class_me v → class_in m.0 ≡ v
 seen_as m v is = ap (λ (x : Sat). class_in x.0) is ∙ class_in_me v
 
 -- the seat of a class whose lane, if one is joined, changes
-lane_changed : (k : ClassPart) (o : Option LanePart) (f : LanePart → LanePart)
-    → ◌≡◌ {A = Sat} (record (class_me (record { part = k; lane = o })).0 { lanes = on_first f (listed o) }, [])
-    (class_me (record { part = k; lane = option_map f o }))
+lane_changed : (k : ClassSheet) (o : Option LaneSheet) (f : LaneSheet → LaneSheet)
+    → ◌≡◌ {A = Sat} (record (class_me (record { sheet = k; lane = o })).0 { lanes = on_first f (listed o) }, [])
+    (class_me (record { sheet = k; lane = option_map f o }))
 lane_changed k None f = refl
 lane_changed k (Some l) f = refl
 
@@ -97,10 +99,10 @@ module _ (m p : Sat) (v w : ClassView) (is : m ≡ class_me v) (same : v ≡ w) 
       → p ≡ class_me (seat_after_move c from to h w)
   move_me from to h spells told = told
       ∙ ap (λ (x : Sat). (view_after_move from to c n x.0, x.1)) whole_as
-      ∙ lane_changed (class_after_move from to c n (listed w.lane) w.part) w.lane lane_after_move
+      ∙ lane_changed (class_after_move from to c n (listed w.lane) w.sheet) w.lane lane_after_move
       ∙ ap (λ (z : ℕ). class_me
       (record {
-        part = class_after_move from to c z (listed w.lane) w.part;
+        sheet = class_after_move from to c z (listed w.lane) w.sheet;
         lane =
             option_map lane_after_move w.lane;
       })) spells.0
@@ -125,10 +127,10 @@ module _ (c : ℕ) where
   of_active (lane.Moved b) is = absurd is
 
   -- the bump aboard a lane that is joined is of the chunk
-  abbrev pub IsOfChunk : Option LanePart → Type 0
+  abbrev pub IsOfChunk : Option LaneSheet → Type 0
   IsOfChunk o = IfSome (aboard_lane o) (λ b. b.life.chunk ≡ c)
 
-  pub clear_active_chunk : (at : Place) (o : Option LanePart) → MayClearActive c at o → IsOfChunk o
+  pub clear_active_chunk : (at : Place) (o : Option LaneSheet) → MayClearActive c at o → IsOfChunk o
   clear_active_chunk at None may = tt
   clear_active_chunk at (Some l) may = by l.stage (of_tried l.stage may.1)
     where
@@ -139,7 +141,7 @@ module _ (c : ℕ) where
       by (lane.Cleared b f) is = is
       by (lane.Moved b) is = is
 
-  pub change_segment_chunk : (from to : Segment) (o : Option LanePart) → MayChangeSegment c from to o → IsOfChunk o
+  pub change_segment_chunk : (from to : Segment) (o : Option LaneSheet) → MayChangeSegment c from to o → IsOfChunk o
   change_segment_chunk from to None may = tt
   change_segment_chunk from to (Some l) may = let b = of_active l.stage may.2 in
       subst (λ (s : LaneStage). IfSome (bump_aboard s) (λ d. d.life.chunk ≡ c)) (sym b.1) b.2
@@ -153,7 +155,7 @@ aboard_now (lane.Moved d) b is = is
 
 -- ---- what is told of the head found
 
-finds_of_bump : (k : ClassPart) (l : LanePart) (b : Bump) (h : Head) → bump_aboard l.stage ≡ Some b
+finds_of_bump : (k : ClassSheet) (l : LaneSheet) (b : Bump) (h : Head) → bump_aboard l.stage ≡ Some b
     → Told b.life.chunk (applying k l) h → FoundOfBump k b.life h
 finds_of_bump k l b h is told =
     let some : 0 < refers b.life.chunk b.life.generation (bump_aboard l.stage) + 0 =
@@ -168,26 +170,26 @@ finds_of_bump k l b h is told =
 
 -- of the bump aboard a lane that is joined
 pub found_of_bump : (v : ClassView) (b : Bump) (h : Head) → aboard_lane v.lane ≡ Some b
-    → Told b.life.chunk (class_me v).0 h → FoundOfBump v.part (life_aboard v.lane) h
-found_of_bump v b h is told = subst (λ (x : ItemId). FoundOfBump v.part x h) (sym (ap life_of is)) (by v.lane is told)
+    → Told b.life.chunk (class_me v).0 h → FoundOfBump v.sheet (life_aboard v.lane) h
+found_of_bump v b h is told = subst (λ (x : ItemId). FoundOfBump v.sheet x h) (sym (ap life_of is)) (by v.lane is told)
   where
-    by : (o : Option LanePart) → aboard_lane o ≡ Some b
-        → Told b.life.chunk (class_me (record { part = v.part; lane = o })).0 h → FoundOfBump v.part b.life h
+    by : (o : Option LaneSheet) → aboard_lane o ≡ Some b
+        → Told b.life.chunk (class_me (record { sheet = v.sheet; lane = o })).0 h → FoundOfBump v.sheet b.life h
     by None is told = absurd (cc is)
-    by (Some l) is told = finds_of_bump v.part l b h is told
+    by (Some l) is told = finds_of_bump v.sheet l b h is told
 
 -- of the class's own chunk
-pub own_told : (v : ClassView) (c : ℕ) (h : Head) → owns c v.part ≡ true → Told c (class_me v).0 h
-    → Shows h (standing v.part c).0 × (h.generation ≡ (standing v.part c).1)
-own_told v c h own told = told.stood (standing v.part c) (stands_alone c (class_me v).0 v.part refl own)
+pub own_told : (v : ClassView) (c : ℕ) (h : Head) → owns c v.sheet ≡ true → Told c (class_me v).0 h
+    → Shows h (standing v.sheet c).0 × (h.generation ≡ (standing v.sheet c).1)
+own_told v c h own told = told.stood (standing v.sheet c) (stands_alone c (class_me v).0 v.sheet refl own)
 
 -- of a bump's life
 pub life_told : (v : ClassView) (c : ℕ) (h : Head) → IsOfChunk c v.lane → Told c (class_me v).0 h
     → IfSome (aboard_lane v.lane) (λ b. b.life.generation ≡ h.generation)
 life_told v c h of told = by v.lane of told
   where
-    at : (l : LanePart) (o : Option Bump) → bump_aboard l.stage ≡ o → IfSome o (λ b. b.life.chunk ≡ c)
-        → Told c (applying v.part l) h → IfSome o (λ b. b.life.generation ≡ h.generation)
+    at : (l : LaneSheet) (o : Option Bump) → bump_aboard l.stage ≡ o → IfSome o (λ b. b.life.chunk ≡ c)
+        → Told c (applying v.sheet l) h → IfSome o (λ b. b.life.generation ≡ h.generation)
     at l None is of told = tt
     at l (Some b) is of told = told.held b.life.generation
         (omega (
@@ -197,13 +199,13 @@ life_told v c h of told = by v.lane of told
           ap (λ (d : ℕ). refers d b.life.generation (Some b)) of,
         ))
 
-    by : (o : Option LanePart) → IsOfChunk c o → Told c (class_me (record { part = v.part; lane = o })).0 h
+    by : (o : Option LaneSheet) → IsOfChunk c o → Told c (class_me (record { sheet = v.sheet; lane = o })).0 h
         → IfSome (aboard_lane o) (λ b. b.life.generation ≡ h.generation)
     by None of told = tt
     by (Some l) of told = at l (bump_aboard l.stage) refl of told
 
 -- a class whose history is of its own chunks alone has moves of its own items alone
-own_move : (k : ClassPart) (test : ItemId → Bool) (w n : ℕ) (e : Change) → bit (not (owns (subject e).chunk k)) ≡ 0
+own_move : (k : ClassSheet) (test : ItemId → Bool) (w n : ℕ) (e : Change) → bit (not (owns (subject e).chunk k)) ≡ 0
     → is_move_for test w n e ≡ is_move_for (is_own k test) w n e
 own_move k test w n (change.Linked j) own = refl
 own_move k test w n (change.LinkedTemp j) own = refl
@@ -217,7 +219,7 @@ own_move k test w n (change.Unlinked j) own = refl
 own_move k test w n (change.Swept j) own = refl
 own_move k test w n (change.Retired j) own = refl
 
-own_moves : (k : ClassPart) (test : ItemId → Bool) (w n : ℕ) (es : List Change)
+own_moves : (k : ClassSheet) (test : ItemId → Bool) (w n : ℕ) (es : List Change)
     → how_many (λ e. not (owns (subject e).chunk k)) es ≡ 0
     → how_many (is_move_for test w n) es ≡ how_many (is_move_for (is_own k test) w n) es
 own_moves k test w n [] own = refl
@@ -228,10 +230,10 @@ own_moves k test w n (e ∷ es) own = omega (
 )
 
 -- of moves
-pub once_told : (v : ClassView) (c : ℕ) (h : Head) → Told c (class_me v).0 h → NamesNoBumpTwice v.part
+pub once_told : (v : ClassView) (c : ℕ) (h : Head) → Told c (class_me v).0 h → NamesNoBumpTwice v.sheet
 once_told v c h told = λ w n. omega (arith, told.once w n)
 
-pub moves_told_by : (k : ClassPart) (l : LanePart) (c : ℕ) (h : Head) → Told c (applying k l) h → TellsMoves k l
+pub moves_told_by : (k : ClassSheet) (l : LaneSheet) (c : ℕ) (h : Head) → Told c (applying k l) h → TellsMoves k l
 moves_told_by k l c h told = λ test n. let mine : eqb l.worker l.worker ≡ true = eq-eqb l.worker l.worker refl in
     omega (
       arith,
@@ -245,41 +247,41 @@ moves_told_by k l c h told = λ test n. let mine : eqb l.worker l.worker ≡ tru
 -- ---- what a move keeps
 
 -- the entry of a move is of the chunk, in the life that it has, and no stray one
-pub move_keeps : (words c n : ℕ) (from to : Segment) (h : Head) (v : ClassView) → IsClassPart words v.part
-    → owns c v.part ≡ true → (standing v.part c).0 ≡ place_of from → MayChangeSegment c from to v.lane
-    → h.generation ≡ (standing v.part c).1 → IfSome (aboard_lane v.lane) (λ b. b.life.generation ≡ h.generation)
-    → IsClassPart words (class_after_move from to c n (listed v.lane) v.part)
-move_keeps words c n from to h v part own stands may gen lives = by v.lane may lives
+pub move_keeps : (words c n : ℕ) (from to : Segment) (h : Head) (v : ClassView) → IsClassSheet words v.sheet
+    → owns c v.sheet ≡ true → (standing v.sheet c).0 ≡ place_of from → MayChangeSegment c from to v.lane
+    → h.generation ≡ (standing v.sheet c).1 → IfSome (aboard_lane v.lane) (λ b. b.life.generation ≡ h.generation)
+    → IsClassSheet words (class_after_move from to c n (listed v.lane) v.sheet)
+move_keeps words c n from to h v sheet own stands may gen lives = by v.lane may lives
   where
-    used : IsUsed (place_of to) → IsUsed (standing v.part c).0
+    used : IsUsed (place_of to) → IsUsed (standing v.sheet c).0
     used there = subst IsUsed (sym stands) (used_in_segment from)
 
-    for_bump : (l : LanePart) (b : Bump) → bump_aboard l.stage ≡ Some b → b.life.chunk ≡ c → from ≡ Cold → to ≡ Warm
-        → b.life.generation ≡ h.generation → IsClassPart words (class_after_move from to c n (l ∷ []) v.part)
+    for_bump : (l : LaneSheet) (b : Bump) → bump_aboard l.stage ≡ Some b → b.life.chunk ≡ c → from ≡ Cold → to ≡ Warm
+        → b.life.generation ≡ h.generation → IsClassSheet words (class_after_move from to c n (l ∷ []) v.sheet)
     for_bump l b is of cold warm same_life = subst
-        (λ (o : Option Bump). IsClassPart words
-        (record v.part {
-          history = v.part.history ++ change_of_move_for (life_in v.part c) from to l.worker o
+        (λ (o : Option Bump). IsClassSheet words
+        (record v.sheet {
+          history = v.sheet.history ++ change_of_move_for (life_in v.sheet c) from to l.worker o
               ∷ [];
           applying = application_of l.worker (stage_after_move l.stage);
-          steps = v.part.steps ++ step_of kind.Move c n (bump_for l.worker o) ∷ [];
+          steps = v.sheet.steps ++ step_of kind.Move c n (bump_for l.worker o) ∷ [];
         }))
         (sym is)
-        (named_part words _ (application_of l.worker (stage_after_move l.stage))
-        (entered_part words v.part (change.Moved b.life from to (cause.Bump l.worker b.number))
-        (v.part.steps ++ step_of kind.Move c n (Some (l.worker, b.number)) ∷ []) part
-        (ap (λ (d : ℕ). owns d v.part) of ∙ own)
-        (same_life ∙ gen ∙ ap (λ (d : ℕ). (standing v.part d).1) (sym of))
+        (named_sheet words _ (application_of l.worker (stage_after_move l.stage))
+        (entered_sheet words v.sheet (change.Moved b.life from to (cause.Bump l.worker b.number))
+        (v.sheet.steps ++ step_of kind.Move c n (Some (l.worker, b.number)) ∷ []) sheet
+        (ap (λ (d : ℕ). owns d v.sheet) of ∙ own)
+        (same_life ∙ gen ∙ ap (λ (d : ℕ). (standing v.sheet d).1) (sym of))
         (ap₂ (λ (f t : Segment). not (is_cold f && is_warm t)) cold warm)
         (ap₂ (λ (f t : Segment). not (may_move f t)) cold warm)
-        (λ there. subst (λ (d : ℕ). IsUsed (standing v.part d).0) (sym of) (used there))))
+        (λ there. subst (λ (d : ℕ). IsUsed (standing v.sheet d).0) (sym of) (used there))))
 
-    by : (o : Option LanePart) → MayChangeSegment c from to o
+    by : (o : Option LaneSheet) → MayChangeSegment c from to o
         → IfSome (aboard_lane o) (λ b. b.life.generation ≡ h.generation)
-        → IsClassPart words (class_after_move from to c n (listed o) v.part)
-    by None may lives = named_part words _ v.part.applying
-        (entered_part words v.part (change.Moved (life_in v.part c) from to cause.Pull)
-        (v.part.steps ++ step_of kind.Move c n None ∷ []) part own refl refl (ap not may) used)
+        → IsClassSheet words (class_after_move from to c n (listed o) v.sheet)
+    by None may lives = named_sheet words _ v.sheet.applying
+        (entered_sheet words v.sheet (change.Moved (life_in v.sheet c) from to cause.Pull)
+        (v.sheet.steps ++ step_of kind.Move c n None ∷ []) sheet own refl refl (ap not may) used)
     by (Some l) may lives = let b = of_active c l.stage may.2 in let is : bump_aboard l.stage ≡ Some b.0 =
         ap bump_aboard b.1 in
         for_bump l b.0 is b.2 may.0 may.1
@@ -287,17 +289,17 @@ move_keeps words c n from to h v part own stands may gen lives = by v.lane may l
 
 -- what is asked of the step of a move
 pub may_change_segment : (from to : Segment) (c : ℕ) (m : Sat) (v w : ClassView) (joined : Joined) → m ≡ class_me v
-    → v ≡ w → IsJoined v.part v.lane joined → owns c w.part ≡ true → (standing w.part c).0 ≡ place_of from
+    → v ≡ w → IsJoined v.sheet v.lane joined → owns c w.sheet ≡ true → (standing w.sheet c).0 ≡ place_of from
     → MayChangeSegment c from to w.lane → MayMove from to c m.0
 may_change_segment from to c m v w joined is same kept own stands may = subst (λ (x : Sat). MayMove from to c x.0)
-    (sym (is ∙ ap class_me same)) (by w.lane may (subst (λ (x : ClassView). IsJoined x.part x.lane joined) same kept))
+    (sym (is ∙ ap class_me same)) (by w.lane may (subst (λ (x : ClassView). IsJoined x.sheet x.lane joined) same kept))
   where
-    by : (o : Option LanePart) → MayChangeSegment c from to o → IsJoined w.part o joined
-        → MayMove from to c (class_me (record { part = w.part; lane = o })).0
-    by None may kept = inl (w.part, record { view = refl; stands = (own, stands); may = may })
+    by : (o : Option LaneSheet) → MayChangeSegment c from to o → IsJoined w.sheet o joined
+        → MayMove from to c (class_me (record { sheet = w.sheet; lane = o })).0
+    by None may kept = inl (w.sheet, record { view = refl; stands = (own, stands); may = may })
     by (Some l) may kept = let b = of_active c l.stage may.2 in
         inr (
-          w.part,
+          w.sheet,
           l,
           b.0,
           record {
@@ -321,85 +323,85 @@ move_refers (lane.Tried b) = refl
 move_refers (lane.Cleared b f) = refl
 move_refers (lane.Moved b) = refl
 
-near_as : (table : TableId) (f : LanePart → LanePart)
-    → ((l : LanePart) → bump_aboard (f l).stage ≡ bump_aboard l.stage) → (o : Option LanePart)
+near_as : (table : TableId) (f : LaneSheet → LaneSheet)
+    → ((l : LaneSheet) → bump_aboard (f l).stage ≡ bump_aboard l.stage) → (o : Option LaneSheet)
     → IsInRange table (aboard_lane o) → IsInRange table (aboard_lane (option_map f o))
 near_as table f same None near = near
 near_as table f same (Some l) near = subst (IsInRange table) (sym (same l)) near
 
-pub move_near : (table : TableId) (o : Option LanePart) → IsInRange table (aboard_lane o)
+pub move_near : (table : TableId) (o : Option LaneSheet) → IsInRange table (aboard_lane o)
     → IsInRange table (aboard_lane (option_map lane_after_move o))
 move_near table o near = near_as table lane_after_move (λ l. move_refers l.stage) o near
 
 -- what the class's seat is after a move
 module _ (table : TableId) (number c n : ℕ) (m p : Sat) (v w : ClassView) (is : m ≡ class_me v) (same : v ≡ w)
-    (near : IsInRange table (aboard_lane v.lane)) (class : number ≡ v.part.class)
-    (part : IsClassPart (rows table) v.part) (joined : Joined) (lane : IsJoined v.part v.lane joined) where
-  pub shifted_whole : (from to : Segment) (h : Head) → Spells n h → owns c w.part ≡ true
-      → (standing w.part c).0 ≡ place_of from → MayChangeSegment c from to w.lane
+    (near : IsInRange table (aboard_lane v.lane)) (class : number ≡ v.sheet.class)
+    (sheet : IsClassSheet (rows table) v.sheet) (joined : Joined) (lane : IsJoined v.sheet v.lane joined) where
+  pub shifted_whole : (from to : Segment) (h : Head) → Spells n h → owns c w.sheet ≡ true
+      → (standing w.sheet c).0 ≡ place_of from → MayChangeSegment c from to w.lane
       → p ≡ (view_after_move from to c n m.0, m.1) → Found n (Told c m.0)
       → (p ≡ class_me (class_in p.0)) × IsInRange table (aboard_lane (class_in p.0).lane)
-      × (number ≡ (class_in p.0).part.class) × IsClassPart (rows table) (class_in p.0).part
-      × IsJoined (class_in p.0).part (class_in p.0).lane (joined_after_move joined)
+      × (number ≡ (class_in p.0).sheet.class) × IsClassSheet (rows table) (class_in p.0).sheet
+      × IsJoined (class_in p.0).sheet (class_in p.0).lane (joined_after_move joined)
   shifted_whole from to h spells own stands may moved found = let told = told_as m p v w is same n c h spells found in
       seen_whole (rows table) table number p (seat_after_move c from to h w) (joined_after_move joined)
       (move_me m p v w is same n c from to h spells moved)
       (move_near table w.lane (subst (λ (x : ClassView). IsInRange table (aboard_lane x.lane)) same near))
-      (class ∙ ap (λ (x : ClassView). x.part.class) same)
+      (class ∙ ap (λ (x : ClassView). x.sheet.class) same)
       (move_keeps (rows table) c (word_of h) from to h w
-      (subst (λ (x : ClassView). IsClassPart (rows table) x.part) same part) own stands may
+      (subst (λ (x : ClassView). IsClassSheet (rows table) x.sheet) same sheet) own stands may
       (own_told w c h own told).1 (life_told w c h (change_segment_chunk c from to w.lane may) told))
-      (joined_moved c (word_of h) from to w.part w.lane joined stands may
-      (subst (λ (x : ClassView). IsJoined x.part x.lane joined) same lane))
+      (joined_moved c (word_of h) from to w.sheet w.lane joined stands may
+      (subst (λ (x : ClassView). IsJoined x.sheet x.lane joined) same lane))
 
   -- after ACTIVE was cleared
-  pub cleared_whole : (h : Head) → Spells n h → MayClearActive c (standing w.part c).0 w.lane
+  pub cleared_whole : (h : Head) → Spells n h → MayClearActive c (standing w.sheet c).0 w.lane
       → p ≡ (view_after_clear_active c n m.0, m.1)
       → (p ≡ class_me (class_in p.0)) × IsInRange table (aboard_lane (class_in p.0).lane)
-      × (number ≡ (class_in p.0).part.class) × IsClassPart (rows table) (class_in p.0).part
-      × IsJoined (class_in p.0).part (class_in p.0).lane joined
+      × (number ≡ (class_in p.0).sheet.class) × IsClassSheet (rows table) (class_in p.0).sheet
+      × IsJoined (class_in p.0).sheet (class_in p.0).lane joined
   cleared_whole h spells may told =
       let whole : m ≡ class_me w = is ∙ ap class_me same in
       let me : p ≡ class_me (seat_after_clear_active c h w) = told
       ∙ ap (λ (x : Sat). (view_after_clear_active c n x.0, x.1)) whole
-      ∙ lane_changed (noted_class kind.ClearActive c n (listed w.lane) w.part) w.lane
+      ∙ lane_changed (noted_class kind.ClearActive c n (listed w.lane) w.sheet) w.lane
       (lane_after_clear_active (not (active_clear n)))
       ∙ ap₂ (λ (z : ℕ) (f : Bool). class_me
       (record {
-        part = noted_class kind.ClearActive c z (listed w.lane) w.part;
+        sheet = noted_class kind.ClearActive c z (listed w.lane) w.sheet;
         lane =
             option_map (lane_after_clear_active f) w.lane;
       })) spells.0 (active_found n h spells) in
       seen_whole (rows table) table number p (seat_after_clear_active c h w) joined me
       (near_as table (lane_after_clear_active h.active) (λ l. clear_active_refers h.active l.stage) w.lane
       (subst (λ (x : ClassView). IsInRange table (aboard_lane x.lane)) same near))
-      (class ∙ ap (λ (x : ClassView). x.part.class) same)
-      (noted_part (rows table) w.part _ (subst (λ (x : ClassView). IsClassPart (rows table) x.part) same part))
-      (joined_cleared c h w.part w.lane joined spells.1 may
-      (subst (λ (x : ClassView). IsJoined x.part x.lane joined) same lane))
+      (class ∙ ap (λ (x : ClassView). x.sheet.class) same)
+      (noted_sheet (rows table) w.sheet _ (subst (λ (x : ClassView). IsClassSheet (rows table) x.sheet) same sheet))
+      (joined_cleared c h w.sheet w.lane joined spells.1 may
+      (subst (λ (x : ClassView). IsJoined x.sheet x.lane joined) same lane))
 
   -- after its time was stored
   pub timed_whole : (now : ℕ) → p ≡ (view_after_put_time c now m.0, m.1)
       → (p ≡ class_me (class_in p.0)) × IsInRange table (aboard_lane (class_in p.0).lane)
-      × (number ≡ (class_in p.0).part.class) × IsClassPart (rows table) (class_in p.0).part
-      × IsJoined (class_in p.0).part (class_in p.0).lane joined
+      × (number ≡ (class_in p.0).sheet.class) × IsClassSheet (rows table) (class_in p.0).sheet
+      × IsJoined (class_in p.0).sheet (class_in p.0).lane joined
   timed_whole now told =
       seen_whole (rows table) table number p (seat_after_put_time c now w) joined
       (told ∙ ap (λ (x : Sat). (view_after_put_time c now x.0, x.1)) (is ∙ ap class_me same))
       (subst (λ (x : ClassView). IsInRange table (aboard_lane x.lane)) same near)
-      (class ∙ ap (λ (x : ClassView). x.part.class) same)
-      (noted_part (rows table) w.part _ (subst (λ (x : ClassView). IsClassPart (rows table) x.part) same part))
-      (noted_joined w.part _ w.lane joined (subst (λ (x : ClassView). IsJoined x.part x.lane joined) same lane))
+      (class ∙ ap (λ (x : ClassView). x.sheet.class) same)
+      (noted_sheet (rows table) w.sheet _ (subst (λ (x : ClassView). IsClassSheet (rows table) x.sheet) same sheet))
+      (noted_joined w.sheet _ w.lane joined (subst (λ (x : ClassView). IsJoined x.sheet x.lane joined) same lane))
 
 -- ---- a lane joins
 
 -- while no lane is joined no application is in progress
-pub idle_alone : (k : ClassPart) (o : Option LanePart) (j : Joined) → o ≡ None → IsJoined k o j → k.applying ≡ None
+pub idle_alone : (k : ClassSheet) (o : Option LaneSheet) (j : Joined) → o ≡ None → IsJoined k o j → k.applying ≡ None
 idle_alone k None j none is = is
 idle_alone k (Some l) j none is = absurd (cc none)
 
 -- the bump that a lane carries may be looked at by the class that has its chunk
-carries_it : (k : ClassPart) (l : LanePart) (b : Bump) (s : LaneStage) → l.stage ≡ s → IsSome (carried s)
+carries_it : (k : ClassSheet) (l : LaneSheet) (b : Bump) (s : LaneStage) → l.stage ≡ s → IsSome (carried s)
     → bump_aboard s ≡ Some b → owns b.life.chunk k ≡ true → MayTry b.life.chunk (applying k l)
 carries_it k l b lane.Empty is carries on own = absurd (cc carries)
 carries_it k l b (lane.Carrying d) is carries on own = let same : d ≡ b = cc on in
@@ -408,102 +410,120 @@ carries_it k l b (lane.Tried d) is carries on own = absurd (cc carries)
 carries_it k l b (lane.Cleared d f) is carries on own = absurd (cc carries)
 carries_it k l b (lane.Moved d) is carries on own = absurd (cc carries)
 
-fronts : (w : ClassView) (o : Option LanePart) (b : Bump) → IsSome (carried_by o) → aboard_lane o ≡ Some b
-    → owns b.life.chunk w.part ≡ true → MayTry b.life.chunk (class_me (record w { lane = o })).0
+fronts : (w : ClassView) (o : Option LaneSheet) (b : Bump) → IsSome (carried_by o) → aboard_lane o ≡ Some b
+    → owns b.life.chunk w.sheet ≡ true → MayTry b.life.chunk (class_me (record w { lane = o })).0
 fronts w None b carries on own = absurd (cc on)
-fronts w (Some l) b carries on own = carries_it w.part l b l.stage refl carries on own
+fronts w (Some l) b carries on own = carries_it w.sheet l b l.stage refl carries on own
 
 module _ (m : Sat) (v w : ClassView) (o : Option (Seat Empty View)) (s : Seat Empty View) (table : TableId)
-    (lane : Option LanePart) (is : m ≡ class_me v) (same : v ≡ w) (alone : w.lane ≡ None) (whole : IsLane table o)
+    (lane : Option LaneSheet) (is : m ≡ class_me v) (same : v ≡ w) (alone : w.lane ≡ None) (whole : IsLane table o)
     (some : o ≡ Some s) (lane_is : lane_in o ≡ lane) where
   -- the two seats together
   pub joined_me : ◌≡◌ {A = Sat} (joined m.0 s.me.0, m.1) (class_me (record w { lane = lane }))
   joined_me = ap (λ (x : Sat). (joined x.0 s.me.0, x.1)) (is ∙ ap class_me same)
-      ∙ ap (λ (p : Option LanePart). (joined (class_me (record w { lane = p })).0 s.me.0, [])) alone
+      ∙ ap (λ (p : Option LaneSheet). (joined (class_me (record w { lane = p })).0 s.me.0, [])) alone
       ∙ ap (λ (x : Sat). (joined (class_me (record w { lane = None })).0 x.0, [])) (subst (IsLane table) some whole).0
-      ∙ ap (λ (p : Option LanePart). class_me (record w { lane = p })) (sym (ap lane_in some) ∙ lane_is)
+      ∙ ap (λ (p : Option LaneSheet). class_me (record w { lane = p })) (sym (ap lane_in some) ∙ lane_is)
+
+-- what a class's seat keeps
+abbrev pub KeepsClass : TableId → Sat → TableId → ℕ → Type 0
+KeepsClass table m id number = (m ≡ class_me (class_in m.0)) × (id ≡ table) × IsInRange table (aboard_lane (class_in m.0).lane)
+    × (number ≡ (class_in m.0).sheet.class) × IsClassSheet (rows table) (class_in m.0).sheet
+    × KeepsJoined (class_in m.0).sheet (class_in m.0).lane
+
+-- what a lane's seat keeps
+abbrev pub KeepsLane : TableId → Badge View → ℕ → Type 0
+KeepsLane table badge worker = (badge.views ≡ lane_views (lane_in_views badge.views))
+    × (IsSome (lane_in_views badge.views) → badge.table_id ≡ table) × IsAtRest (lane_in_views badge.views)
+    × IsInRange table (aboard_lane (lane_in_views badge.views))
+    × IsOfWorker worker (lane_in_views badge.views) × (worker < most_workers)
+
+-- a class's seat is joined with a lane's, which comes out of its badge and carries a bump of the class
+module _ (table : TableId) (badge taken : Badge View) (s : Seat Empty View) (worker : ℕ) (lane : Option LaneSheet) (b : Bump)
+    (same_badge : taken ≡ badge) (out : (s.table_id ≡ taken.table_id) × (s.id ≡ taken.id) × (taken.views ≡ s.me.0 ∷ []) × (s.me.1 ≡ []))
+    (lane_is : lane_in_views badge.views ≡ lane) (kept_lane : KeepsLane table badge worker) (carries : carried_by lane ≡ Some b)
+    (m : Sat) (id : TableId) (number : ℕ) (w : ClassView) (view_is : class_in m.0 ≡ w) (kept : KeepsClass table m id number)
+    (alone : w.lane ≡ None) (own : owns (life_aboard lane).chunk w.sheet ≡ true) (q : Sat) (joins : q ≡ (joined m.0 s.me.0, m.1)) where
+  -- the two together
+  both_me : q ≡ class_me (record w { lane = lane })
+  both_me = joins ∙ joined_me m (class_in m.0) w (Some s) s table lane kept.0 view_is alone
+      (out_is table badge taken same_badge s out.2 out.3 kept_lane.0 kept_lane.1 kept_lane.2 out.0) refl
+      (out_lane table badge taken same_badge s out.2 ∙ lane_is)
+
+  -- the bump is aboard
+  on : aboard_lane lane ≡ Some b
+  on = carries_aboard lane b carries
 
   -- what is asked of the look at its head
-  module _ (b : Bump) (aboard : aboard_lane (lane_in o) ≡ Some b) (q : Sat) (joins : q ≡ (joined m.0 s.me.0, m.1))
-    where
-      pub may_front : IsSome (carried_by lane) → owns (life_aboard lane).chunk w.part ≡ true → MayTry b.life.chunk q.0
-      may_front carries own = let on : aboard_lane lane ≡ Some b = sym (ap aboard_lane lane_is) ∙ aboard in
-          subst (λ (x : Sat). MayTry b.life.chunk x.0) (sym (joins ∙ joined_me))
-          (fronts w lane b carries on (ap (λ (j : ItemId). owns j.chunk w.part) (sym (ap life_of on)) ∙ own))
+  pub may_front : MayTry b.life.chunk q.0
+  may_front = subst (λ (x : Sat). MayTry b.life.chunk x.0) (sym both_me)
+      (fronts w lane b (carries_some lane b carries) on (ap (λ (j : ItemId). owns j.chunk w.sheet) (sym (ap life_of on)) ∙ own))
 
-  module _ (b : Bump) (aboard : aboard_lane (lane_in o) ≡ Some b) (n : ℕ) (h : Head) (spells : Spells n h) (p q : Sat)
-      (joins : q ≡ (joined m.0 s.me.0, m.1)) (told : p ≡ (view_after_try b.life.chunk n q.0, q.1)) where
-    -- the life of the bump aboard
-    life_is : life_aboard lane ≡ b.life
-    life_is = ap life_of (sym (ap aboard_lane lane_is) ∙ aboard)
-
+  module _ (n : ℕ) (h : Head) (spells : Spells n h) (p : Sat) (told : p ≡ (view_after_try b.life.chunk n q.0, q.1))
+      (found : Found n (Told b.life.chunk q.0)) where
     -- after the look at its head
-    pub tried_me : p ≡ class_me
+    tried_me : p ≡ class_me
         (record w { lane = option_map (lane_after_try (life_aboard lane).chunk (word_of h)) lane })
     tried_me = told
-        ∙ ap (λ (x : Sat). (view_after_try b.life.chunk n x.0, x.1)) (joins ∙ joined_me)
-        ∙ lane_changed w.part lane (lane_after_try b.life.chunk n)
+        ∙ ap (λ (x : Sat). (view_after_try b.life.chunk n x.0, x.1)) both_me
+        ∙ lane_changed w.sheet lane (lane_after_try b.life.chunk n)
         ∙ ap₂ (λ (d z : ℕ). class_me (record w { lane = option_map (lane_after_try d z) lane }))
-        (sym (ap (λ (l : ItemId). l.chunk) life_is)) spells.0
+        (sym (ap (λ (l : ItemId). l.chunk) (ap life_of on))) spells.0
+
+    -- what was told there
+    told_here : Told b.life.chunk (class_me (record w { lane = lane })).0 h
+    told_here = subst (λ (x : Sat). Told b.life.chunk x.0 h) both_me
+        (found_is n (Told b.life.chunk q.0) h spells found)
+
+    -- so what it found is of a bump
+    tried_seen : FoundOfBump w.sheet (life_aboard lane) h
+    tried_seen = found_of_bump (record w { lane = lane }) b h on told_here
 
     -- it keeps what a class's seat keeps
-    pub tried_whole : (number : ℕ) → number ≡ v.part.class → IsClassPart (rows table) v.part
-        → (kept : Joined) → IsJoined v.part v.lane kept → IsInRange table (aboard_lane (lane_in o)) → IsSome (carried_by lane) → owns (life_aboard lane).chunk w.part
-        ≡ true → FoundOfBump w.part (life_aboard lane) h
-        → (p ≡ class_me (class_in p.0)) × IsInRange table (aboard_lane (class_in p.0).lane)
-        × (number ≡ (class_in p.0).part.class) × IsClassPart (rows table) (class_in p.0).part
-        × IsJoined (class_in p.0).part (class_in p.0).lane (joined_after_try b.life.chunk h)
-    tried_whole number class part kept rests near carries own seen =
-        seen_whole (rows table) table number p
+    pub tried_keeps : (after : TableId) → after ≡ id → KeepsClass table p after number
+    tried_keeps after same =
+        let whole = seen_whole (rows table) table number p
         (record w { lane = option_map (lane_after_try (life_aboard lane).chunk (word_of h)) lane })
         (joined_after_try b.life.chunk h) tried_me
         (near_as table (lane_after_try (life_aboard lane).chunk (word_of h)) (λ l. try_refers l.stage) lane
-        (subst (λ (x : Option LanePart). IsInRange table (aboard_lane x)) lane_is near))
-        (class ∙ ap (λ (x : ClassView). x.part.class) same)
-        (subst (λ (x : ClassView). IsClassPart (rows table) x.part) same part)
-        (tried_joined h w.part lane b carries (sym (ap aboard_lane lane_is) ∙ aboard)
-        (idle_alone w.part w.lane kept alone
-        (subst (λ (x : ClassView). IsJoined x.part x.lane kept) same rests)) spells.1 seen own)
+        (subst (λ (x : Option LaneSheet). IsInRange table (aboard_lane x)) lane_is kept_lane.3))
+        (kept.3 ∙ ap (λ (x : ClassView). x.sheet.class) view_is)
+        (subst (λ (x : ClassView). IsClassSheet (rows table) x.sheet) view_is kept.4)
+        (tried_joined h w.sheet lane b (carries_some lane b carries) on
+        (idle_alone w.sheet w.lane kept.5.0 alone
+        (subst (λ (x : ClassView). IsJoined x.sheet x.lane kept.5.0) view_is kept.5.1)) spells.1 tried_seen own) in
+        (whole.0, same ∙ kept.1, whole.1, whole.2, whole.3, (joined_after_try b.life.chunk h, whole.4))
 
-    -- what was told there
-    told_here : Found n (Told b.life.chunk q.0) → Told b.life.chunk (class_me (record w { lane = lane })).0 h
-    told_here found = subst (λ (x : Sat). Told b.life.chunk x.0 h) (joins ∙ joined_me)
-        (found_is n (Told b.life.chunk q.0) h spells found)
-
-    pub tried_seen : Found n (Told b.life.chunk q.0) → FoundOfBump w.part (life_aboard lane) h
-    tried_seen found = found_of_bump (record w { lane = lane }) b h (sym (ap aboard_lane lane_is) ∙ aboard)
-        (told_here found)
-
-    tried_moves : (x : Option LanePart) → Told b.life.chunk (class_me (record w { lane = x })).0 h → (d z : ℕ)
-        → IfSome (option_map (lane_after_try d z) x) (TellsMoves w.part)
+    -- the moves for bumps that it tells of
+    tried_moves : (x : Option LaneSheet) → Told b.life.chunk (class_me (record w { lane = x })).0 h → (d z : ℕ)
+        → IfSome (option_map (lane_after_try d z) x) (TellsMoves w.sheet)
     tried_moves None t d z = tt
     tried_moves (Some l) t d z = λ test i. omega (
       arith,
-      moves_told_by w.part l b.life.chunk h t test i,
-      try_going (record { test = is_own w.part test; worker = 0; number = i }) l.stage,
+      moves_told_by w.sheet l b.life.chunk h t test i,
+      try_going (record { test = is_own w.sheet test; worker = 0; number = i }) l.stage,
     )
 
-    -- of moves for bumps
-    pub tried_told : Found n (Told b.life.chunk q.0) → NamesNoBumpTwice (class_in p.0).part
-        × IfSome (class_in p.0).lane (TellsMoves (class_in p.0).part)
-    tried_told found = subst (λ (x : ClassView). NamesNoBumpTwice x.part × IfSome x.lane (TellsMoves x.part))
-        (sym (seen_as p _ tried_me)) (
-          once_told (record w { lane = lane }) b.life.chunk h (told_here found),
-          tried_moves lane (told_here found)
-              (life_aboard lane).chunk (word_of h),
-        )
+    -- no bump is named twice, of moves for bumps is told, and what it found is of a bump
+    pub tried_told : NamesNoBumpTwice (class_in p.0).sheet × IfSome (class_in p.0).lane (TellsMoves (class_in p.0).sheet)
+        × FoundOfBump w.sheet (life_aboard lane) h
+    tried_told =
+        let of_both = subst (λ (x : ClassView). NamesNoBumpTwice x.sheet × IfSome x.lane (TellsMoves x.sheet))
+        (sym (seen_as p _ tried_me))
+        (once_told (record w { lane = lane }) b.life.chunk h told_here, tried_moves lane told_here (life_aboard lane).chunk (word_of h)) in
+        (of_both.0, of_both.1, tried_seen)
 
 -- ---- a lane is split off
 
 -- what an entry is shown by stays where no application is named
-at_rest_shown : (k : ClassPart) (l : LanePart) (b : Bump) (out : Outcome) → IsShown k l b out
+at_rest_shown : (k : ClassSheet) (l : LaneSheet) (b : Bump) (out : Outcome) → IsShown k l b out
     → IsShown (class_at_rest k) l b out
 at_rest_shown k l b outcome.Moved is = is
 at_rest_shown k l b outcome.Gone is = is
 at_rest_shown k l b outcome.TimeOnly is = is
 
--- an entry that is shown is true of what the two parts have
-shown : (k : ClassPart) (l : LanePart) (b : Bump) (out : Outcome) → owns b.life.chunk k ≡ true → IsShown k l b out
+-- an entry that is shown is true of what the two sheets have
+shown : (k : ClassSheet) (l : LaneSheet) (b : Bump) (out : Outcome) → owns b.life.chunk k ≡ true → IsShown k l b out
     → 0 < evidence l.worker (applied_bump b out) (applying k l)
 shown k l b outcome.Moved own is = let mine : of_owner b.life.chunk
     (λ j. how_many (is_move_for (is_same b.life) l.worker b.number) j.history) k ≡ how_many
@@ -519,15 +539,15 @@ shown k l b outcome.TimeOnly own is = let mine : of_owner b.life.chunk
     ap (λ (o : Bool). cond o (how_many (shows_time_only l.worker b.number b.life.chunk) k.steps) 0) own in
     omega (arith, is, mine)
 
-module _ (m : Sat) (v w : ClassView) (is : m ≡ class_me v) (same : v ≡ w) (c : ℕ) (out : Outcome) (l : LanePart)
+module _ (m : Sat) (v w : ClassView) (is : m ≡ class_me v) (same : v ≡ w) (c : ℕ) (out : Outcome) (l : LaneSheet)
     (b : Bump) (ends : Ending w c out l b) where
   -- the seat is that of the class and of this lane
-  view_is : m ≡ (applying w.part l, [])
-  view_is = is ∙ ap class_me same ∙ ap (λ (o : Option LanePart). class_me (record w { lane = o })) ends.joined
+  view_is : m ≡ (applying w.sheet l, [])
+  view_is = is ∙ ap class_me same ∙ ap (λ (o : Option LaneSheet). class_me (record w { lane = o })) ends.joined
 
   pub may_end : MayAlight c out m.0
   may_end = (
-    w.part,
+    w.sheet,
     l,
     b,
     record {
@@ -536,7 +556,7 @@ module _ (m : Sat) (v w : ClassView) (is : m ≡ class_me v) (same : v ≡ w) (c
       chunk = ends.chunk;
       past = ends.past;
       named = ends.named;
-      proof = shown w.part l b out (ap (λ (d : ℕ). owns d w.part) ends.chunk
+      proof = shown w.sheet l b out (ap (λ (d : ℕ). owns d w.sheet) ends.chunk
           ∙ ends.own) ends.entry;
     },
   )
@@ -545,56 +565,56 @@ module _ (m : Sat) (v w : ClassView) (is : m ≡ class_me v) (same : v ≡ w) (c
   aboard_is = ap aboard_lane ends.joined ∙ aboard_now l.stage b ends.aboard
 
   module _ (n : ℕ) (h : Head) (spells : Spells n h) where
-    told_there : Found n (Told c m.0) → Told c (applying w.part l) h
+    told_there : Found n (Told c m.0) → Told c (applying w.sheet l) h
     told_there found = subst (λ (x : Sat). Told c x.0 h) view_is (found_is n (Told c m.0) h spells found)
 
-    pub alighted_seen : Found n (Told c m.0) → FoundOfBump w.part (life_aboard w.lane) h
+    pub alighted_seen : Found n (Told c m.0) → FoundOfBump w.sheet (life_aboard w.lane) h
     alighted_seen found = found_of_bump w b h aboard_is
-        (subst (λ (x : ℕ × Option LanePart). Told x.0 (class_me (record w { lane = x.1 })).0 h)
+        (subst (λ (x : ℕ × Option LaneSheet). Told x.0 (class_me (record w { lane = x.1 })).0 h)
         (λ i. (sym ends.chunk i, sym ends.joined i)) (told_there found))
 
     module _ (r p q : Sat) (told : q ≡ (view_after_alight out c n m.0, m.1)) (rest : r ≡ (without_lanes q.0, q.1))
-        (parts : p ≡ (lanes_only q.0, [])) where
+        (sheets : p ≡ (lanes_only q.0, [])) where
       -- what the lane gets back
       back_is : Some (head_or no_lane p.0.lanes) ≡ Some (lane_after_alight out c (word_of h) l)
       back_is = ap (λ (x : Sat). Some (head_or no_lane x.0.lanes))
-          (parts ∙ ap (λ (x : Sat). (lanes_only x.0, []))
+          (sheets ∙ ap (λ (x : Sat). (lanes_only x.0, []))
           (told ∙ ap (λ (x : Sat). (view_after_alight out c n x.0, x.1)) view_is))
           ∙ ap (λ (z : ℕ). Some (lane_after_alight out c z l)) spells.0
 
       -- the class is as before, and names no application
-      part_is : head_or no_class r.0.classes ≡ class_at_rest w.part
-      part_is = ap (λ (x : Sat). head_or no_class x.0.classes)
+      sheet_is : head_or no_class r.0.classes ≡ class_at_rest w.sheet
+      sheet_is = ap (λ (x : Sat). head_or no_class x.0.classes)
           (rest ∙ ap (λ (x : Sat). (without_lanes x.0, x.1))
           (told ∙ ap (λ (x : Sat). (view_after_alight out c n x.0, x.1)) view_is))
 
       -- its entry is true by what is left in the two
       pub entry_told : IfSome w.lane
           (λ m. IfSome (bump_aboard m.stage) (λ d. IsShown (head_or no_class r.0.classes) m d out))
-      entry_told = subst (λ (k : ClassPart). IfSome w.lane (λ m. IfSome (bump_aboard m.stage) (λ d. IsShown k m d out)))
-          (sym part_is)
-          (subst (λ (o : Option LanePart). IfSome o
-          (λ m. IfSome (bump_aboard m.stage) (λ d. IsShown (class_at_rest w.part) m d out))) (sym ends.joined)
-          (subst (λ (o : Option Bump). IfSome o (λ d. IsShown (class_at_rest w.part) l d out))
-          (sym (aboard_now l.stage b ends.aboard)) (at_rest_shown w.part l b out ends.entry)))
+      entry_told = subst (λ (k : ClassSheet). IfSome w.lane (λ m. IfSome (bump_aboard m.stage) (λ d. IsShown k m d out)))
+          (sym sheet_is)
+          (subst (λ (o : Option LaneSheet). IfSome o
+          (λ m. IfSome (bump_aboard m.stage) (λ d. IsShown (class_at_rest w.sheet) m d out))) (sym ends.joined)
+          (subst (λ (o : Option Bump). IfSome o (λ d. IsShown (class_at_rest w.sheet) l d out))
+          (sym (aboard_now l.stage b ends.aboard)) (at_rest_shown w.sheet l b out ends.entry)))
 
       -- what is left is a class's seat
-      pub alighted_whole : (table : TableId) (number : ℕ) (joined : Joined) → number ≡ v.part.class
-          → IsClassPart (rows table) v.part
+      pub alighted_whole : (table : TableId) (number : ℕ) (joined : Joined) → number ≡ v.sheet.class
+          → IsClassSheet (rows table) v.sheet
           → (r ≡ class_me (class_in r.0)) × IsInRange table (aboard_lane (class_in r.0).lane)
-          × (number ≡ (class_in r.0).part.class) × IsClassPart (rows table) (class_in r.0).part × IsJoined
-          (class_in r.0).part (class_in r.0).lane joined
-      alighted_whole table number joined class part = seen_whole (rows table) table number r
-          (record { part = class_at_rest w.part; lane = None }) joined
+          × (number ≡ (class_in r.0).sheet.class) × IsClassSheet (rows table) (class_in r.0).sheet × IsJoined
+          (class_in r.0).sheet (class_in r.0).lane joined
+      alighted_whole table number joined class sheet = seen_whole (rows table) table number r
+          (record { sheet = class_at_rest w.sheet; lane = None }) joined
           (rest ∙ ap (λ (x : Sat). (without_lanes x.0, x.1))
           (told ∙ ap (λ (x : Sat). (view_after_alight out c n x.0, x.1)) view_is)) tt
-          (class ∙ ap (λ (x : ClassView). x.part.class) same)
-          (named_part (rows table) w.part None (subst (λ (x : ClassView). IsClassPart (rows table) x.part) same part))
+          (class ∙ ap (λ (x : ClassView). x.sheet.class) same)
+          (named_sheet (rows table) w.sheet None (subst (λ (x : ClassView). IsClassSheet (rows table) x.sheet) same sheet))
           refl
 
       -- and as it is seen
-      pub alighted_seat : class_in r.0 ≡ record { part = class_at_rest w.part; lane = None }
-      alighted_seat = seen_as r (record { part = class_at_rest w.part; lane = None })
+      pub alighted_seat : class_in r.0 ≡ record { sheet = class_at_rest w.sheet; lane = None }
+      alighted_seat = seen_as r (record { sheet = class_at_rest w.sheet; lane = None })
           (rest ∙ ap (λ (x : Sat). (without_lanes x.0, x.1))
           (told ∙ ap (λ (x : Sat). (view_after_alight out c n x.0, x.1)) view_is))
 
@@ -609,36 +629,36 @@ module _ (m : Sat) (v w : ClassView) (is : m ≡ class_me v) (same : v ≡ w) (c
       pub alighted_lane : (table id : TableId) → id ≡ table → (s : Seat Empty View) → s.me ≡ p → s.table_id ≡ id
           → IsLane table (Some s)
       alighted_lane table id near s me named = (
-        me ∙ parts
+        me ∙ sheets
             ∙ ap (λ (x : Sat). (lanes_only x.0, []))
             (told ∙ ap (λ (x : Sat). (view_after_alight out c n x.0, x.1)) view_is)
             ∙ ap lane_me (sym (ap (λ (x : Sat). head_or no_lane x.0.lanes)
-            (me ∙ parts ∙ ap (λ (x : Sat). (lanes_only x.0, []))
+            (me ∙ sheets ∙ ap (λ (x : Sat). (lanes_only x.0, []))
             (told ∙ ap (λ (x : Sat). (view_after_alight out c n x.0, x.1)) view_is)))),
         named ∙ near,
         ap (λ (x : Sat). is_half_made (head_or no_lane x.0.lanes).stage)
-            (me ∙ parts ∙ ap (λ (x : Sat). (lanes_only x.0, []))
+            (me ∙ sheets ∙ ap (λ (x : Sat). (lanes_only x.0, []))
             (told ∙ ap (λ (x : Sat). (view_after_alight out c n x.0, x.1)) view_is)),
       )
 
       -- of moves for bumps
       pub alighted_told : Found n (Told c m.0) → NamesNoBumpTwice (head_or no_class r.0.classes)
           × TellsMoves (head_or no_class r.0.classes) (head_or no_lane p.0.lanes)
-      alighted_told found = subst (λ (k : ClassPart). NamesNoBumpTwice k × TellsMoves k (head_or no_lane p.0.lanes))
-          (sym part_is) (
+      alighted_told found = subst (λ (k : ClassSheet). NamesNoBumpTwice k × TellsMoves k (head_or no_lane p.0.lanes))
+          (sym sheet_is) (
             once_told (record w { lane = Some l }) c h (told_there found),
-            subst (λ (x : Option LanePart). IfSome x (TellsMoves (class_at_rest w.part))) (sym back_is)
+            subst (λ (x : Option LaneSheet). IfSome x (TellsMoves (class_at_rest w.sheet))) (sym back_is)
                 (λ test i. omega (
                   arith,
-                  moves_told_by w.part l c h (told_there found) test i,
-                  alight_refers (is_own w.part test) i l b out (aboard_now l.stage b ends.aboard) ends.past,
+                  moves_told_by w.sheet l c h (told_there found) test i,
+                  alight_refers (is_own w.sheet test) i l b out (aboard_now l.stage b ends.aboard) ends.past,
                 )),
           )
 
 -- ---- a lane meets a class
 
--- what the two parts tell of moves, whatever head is found
-pub tells_by : (k : ClassPart) (l : LanePart) → TellsOfMoves (applying k l) → TellsMoves k l
+-- what the two sheets tell of moves, whatever head is found
+pub tells_by : (k : ClassSheet) (l : LaneSheet) → TellsOfMoves (applying k l) → TellsMoves k l
 tells_by k l told = λ test n. let mine : eqb l.worker l.worker ≡ true = eq-eqb l.worker l.worker refl in
     omega (
       arith,
@@ -650,45 +670,45 @@ tells_by k l told = λ test n. let mine : eqb l.worker l.worker ≡ true = eq-eq
     )
 
 module _ (m q n r p : Sat) (v w : ClassView) (o : Option (Seat Empty View)) (s : Seat Empty View) (table : TableId)
-    (lane : Option LanePart) (is : m ≡ class_me v) (same : v ≡ w) (alone : w.lane ≡ None) (whole : IsLane table o)
+    (lane : Option LaneSheet) (is : m ≡ class_me v) (same : v ≡ w) (alone : w.lane ≡ None) (whole : IsLane table o)
     (some : o ≡ Some s) (lane_is : lane_in o ≡ lane) (joins : q ≡ (joined m.0 s.me.0, m.1))
     (note : n ≡ (on_class class_after_meet q.0, q.1))
-    (rest : r ≡ (without_lanes n.0, n.1)) (parts : p ≡ (lanes_only n.0, [])) where
+    (rest : r ≡ (without_lanes n.0, n.1)) (sheets : p ≡ (lanes_only n.0, [])) where
   met_me : q ≡ class_me (record w { lane = lane })
   met_me = joins ∙ joined_me m v w o s table lane is same alone whole some lane_is
 
   met_some : lane ≡ Some (head_or no_lane s.me.0.lanes)
   met_some = sym lane_is ∙ ap lane_in some
 
-  met_noted : n ≡ class_me (record w { part = class_after_meet w.part; lane = lane })
+  met_noted : n ≡ class_me (record w { sheet = class_after_meet w.sheet; lane = lane })
   met_noted = note ∙ ap (λ (x : Sat). (on_class class_after_meet x.0, x.1)) met_me
 
   -- the class's seat noted the load, and is as before
   pub met_rest : r ≡ (on_class class_after_meet m.0, m.1)
   met_rest = rest ∙ ap (λ (x : Sat). (without_lanes x.0, x.1)) met_noted
-      ∙ ap (λ (x : Option LanePart). class_me (record { part = class_after_meet w.part; lane = x })) (sym alone)
+      ∙ ap (λ (x : Option LaneSheet). class_me (record { sheet = class_after_meet w.sheet; lane = x })) (sym alone)
       ∙ ap (λ (x : Sat). (on_class class_after_meet x.0, x.1)) (sym (is ∙ ap class_me same))
 
   -- what both have of moves agrees
-  pub met_told : TellsOfMoves q.0 → NamesNoBumpTwice w.part × IfSome lane (TellsMoves w.part)
-  met_told told = let t : TellsOfMoves (applying w.part (head_or no_lane s.me.0.lanes)) =
+  pub met_told : TellsOfMoves q.0 → NamesNoBumpTwice w.sheet × IfSome lane (TellsMoves w.sheet)
+  met_told told = let t : TellsOfMoves (applying w.sheet (head_or no_lane s.me.0.lanes)) =
       subst (λ (x : Sat). TellsOfMoves x.0)
-      (met_me ∙ ap (λ (x : Option LanePart). class_me (record w { lane = x })) met_some) told in (
+      (met_me ∙ ap (λ (x : Option LaneSheet). class_me (record w { lane = x })) met_some) told in (
         λ a n. omega (arith, t.once a n),
-        subst (λ (x : Option LanePart). IfSome x (TellsMoves w.part)) (sym met_some)
-            (tells_by w.part (head_or no_lane s.me.0.lanes) t),
+        subst (λ (x : Option LaneSheet). IfSome x (TellsMoves w.sheet)) (sym met_some)
+            (tells_by w.sheet (head_or no_lane s.me.0.lanes) t),
       )
 
 module _ (m : Sat) (v w : ClassView) (is : m ≡ class_me v) (same : v ≡ w) where
   -- the moves of a class's seat alone are those of its class's history
-  pub met_workers : (workers : ℕ) → AreOfWorkers workers m.0 → NamesWorkersBelow workers w.part
+  pub met_workers : (workers : ℕ) → AreOfWorkers workers m.0 → NamesWorkersBelow workers w.sheet
   met_workers workers of worker number far =
       let none : AreOfWorkers workers (class_me w).0 =
       subst (λ (x : Sat). AreOfWorkers workers x.0) (is ∙ ap class_me same) of in
       omega (arith, none (record { test = λ l. true; worker = worker; number = number }) far)
 
   -- and no bump is named twice
-  pub met_once : TellsOfMoves m.0 → NamesNoBumpTwice w.part
+  pub met_once : TellsOfMoves m.0 → NamesNoBumpTwice w.sheet
   met_once told worker number =
       let t : TellsOfMoves (class_me w).0 = subst (λ (x : Sat). TellsOfMoves x.0) (is ∙ ap class_me same) told in
       omega (arith, t.once worker number)

@@ -22,11 +22,11 @@ use Rattle.bump_rules.specs.Totals.{how_many}
 use Rattle.bump_word.specs.Words.{word_of, Fits}
 use Rattle.bump_steps.specs.declared.views.Kind.{Kind}
 use Rattle.bump_steps.specs.declared.views.Kind.TheVariants as kind
-use Rattle.bump_steps.specs.declared.views.ClassPart.{ClassPart}
+use Rattle.bump_steps.specs.declared.views.ClassSheet.{ClassSheet}
 use Rattle.bump_steps.specs.declared.views.OwnStep.{OwnStep}
 use Rattle.bump_heads.specs.declared.joined.Joined.{Joined}
 use Rattle.bump_heads.specs.declared.views.ClassView.{ClassView}
-use Rattle.bump_steps.specs.declared.views.LanePart.{LanePart}
+use Rattle.bump_steps.specs.declared.views.LaneSheet.{LaneSheet}
 use Rattle.bump_steps.specs.Views.{owns, standing, shows_time_only}
 use Rattle.bump_steps.specs.Lives.{IsInSegment}
 use Rattle.bump_steps.specs.Plays.{step_of}
@@ -38,7 +38,7 @@ use Rattle.bump_heads.specs.Seats.{aboard_lane}
 -- ---- the bump aboard
 
 -- the bump that a lane carries, at which nobody looked yet
-abbrev pub carried_by : Option LanePart → Option Bump
+abbrev pub carried_by : Option LaneSheet → Option Bump
 carried_by None = None
 carried_by (Some this_lane) = carried this_lane.stage
 
@@ -46,10 +46,10 @@ abbrev pub life_of : Option Bump → ItemId
 life_of None = life 0 0
 life_of (Some bump) = bump.life
 
-abbrev pub life_aboard : Option LanePart → ItemId
+abbrev pub life_aboard : Option LaneSheet → ItemId
 life_aboard joined = life_of (aboard_lane joined)
 
-abbrev pub stage_of : Option LanePart → LaneStage
+abbrev pub stage_of : Option LaneSheet → LaneStage
 stage_of None = lane.Empty
 stage_of (Some this_lane) = this_lane.stage
 
@@ -62,37 +62,37 @@ IsOf chunk (Some bump) = bump.life.chunk ≡ chunk
 
 -- ACTIVE of a chunk that stands there may be cleared: for a pull where its item is linked; for the bump aboard once its
 -- head was looked at, in COLD
-abbrev pub MayClearActive : ℕ → Place → Option LanePart → Type 0
+abbrev pub MayClearActive : ℕ → Place → Option LaneSheet → Type 0
 MayClearActive chunk at None = IsInSegment at
 MayClearActive chunk at (Some this_lane) = (at ≡ Cold) × IsOf chunk (tried this_lane.stage)
 
 -- its time may be stored: for a link where the chunk is in UNUSED; for the bump aboard from the look at its head on,
 -- where its item is linked
-abbrev pub MayPutTime : ℕ → Place → Option LanePart → Type 0
+abbrev pub MayPutTime : ℕ → Place → Option LaneSheet → Type 0
 MayPutTime chunk at None = at ≡ Unused
 MayPutTime chunk at (Some this_lane) = IsInSegment at × IsOf chunk (applied_now this_lane.stage)
 
 -- it may be moved: by a pull as the tail table has it; for the bump aboard from COLD to WARM, once ACTIVE was found and
 -- cleared
-abbrev pub MayChangeSegment : ℕ → Segment → Segment → Option LanePart → Type 0
+abbrev pub MayChangeSegment : ℕ → Segment → Segment → Option LaneSheet → Type 0
 MayChangeSegment chunk from to None = may_move from to ≡ true
 MayChangeSegment chunk from to (Some this_lane) = (from ≡ segment.Cold) × (to ≡ segment.Warm)
     × IsOf chunk (cleared_active this_lane.stage)
 
 -- a step of the class or of the lane, which was made for this very bump, shows that its item wasn't to be moved
-abbrev pub ShowsNothing : ClassPart → LanePart → Bump → Type 0
+abbrev pub ShowsNothing : ClassSheet → LaneSheet → Bump → Type 0
 ShowsNothing class this_lane bump = 0 < how_many (shows_time_only this_lane.worker bump.number bump.life.chunk)
     class.steps + how_many (shows_time_only this_lane.worker bump.number bump.life.chunk) this_lane.steps
 
 -- the entry of the bump with this outcome is true, by the class's history and by the steps that were made for it
-abbrev pub IsShown : ClassPart → LanePart → Bump → Outcome → Type 0
+abbrev pub IsShown : ClassSheet → LaneSheet → Bump → Outcome → Type 0
 IsShown class this_lane bump ending = IsTrueEntry class.history this_lane.worker (ShowsNothing class this_lane bump)
     (applied_bump bump ending)
 
 -- ---- how a bump ends
 
 -- the lane's last step was made for this bump, on its chunk: the look at the head of its item, which found this one
-pub record TryFound (this_lane : LanePart) (bump : Bump) (head : Head) : Type 0 where
+pub record TryFound (this_lane : LaneSheet) (bump : Bump) (head : Head) : Type 0 where
   pub before : List OwnStep
   pub steps : this_lane.steps ≡ before ++ step_of kind.Try bump.life.chunk (word_of head)
       (Some (this_lane.worker, bump.number)) ∷ []
@@ -100,7 +100,7 @@ pub record TryFound (this_lane : LanePart) (bump : Bump) (head : Head) : Type 0 
 
 -- The bump aboard the joined lane may end, and with this outcome, by how far the lane is and the head that its look
 -- found: it isn't linked; or it is linked, but not in COLD; or ACTIVE was cleared and not found; or the item was moved.
-pub record MayEndAs (seat : ClassView) (this_lane : LanePart) (bump : Bump) (head : Head) (came_out : Outcome) : Type 0
+pub record MayEndAs (seat : ClassView) (this_lane : LaneSheet) (bump : Bump) (head : Head) (came_out : Outcome) : Type 0
   where
     pub joined : seat.lane ≡ Some this_lane
     pub found_by_try : TryFound this_lane bump head
@@ -124,12 +124,12 @@ abbrev pub joined_after_move : Joined → Joined
 joined_after_move joined = record joined { outcome = outcome.Moved }
 
 -- What a class's seat keeps of a lane that is joined to it.
-pub record Joins (class : ClassPart) (this_lane : LanePart) (joined : Joined) : Type 0 where
+pub record Joins (class : ClassSheet) (this_lane : LaneSheet) (joined : Joined) : Type 0 where
   -- it knows the chunk of the bump aboard, which is the class's
   pub bump : Bump
   pub aboard : applied_now this_lane.stage ≡ Some bump
   pub chunk : joined.chunk ≡ bump.life.chunk
-  -- and its part names the application from the move on
+  -- and its sheet names the application from the move on
   pub named : class.applying ≡ application_of this_lane.worker this_lane.stage
   pub own : owns bump.life.chunk class ≡ true
   -- the lane's look found a head: of an item in DYING, if it wasn't linked
@@ -143,37 +143,37 @@ pub record Joins (class : ClassPart) (this_lane : LanePart) (joined : Joined) : 
       → IsShown class this_lane b o
 
 -- of the lane, if one is joined; else no application is in progress
-abbrev pub IsJoined : ClassPart → Option LanePart → Joined → Type 0
+abbrev pub IsJoined : ClassSheet → Option LaneSheet → Joined → Type 0
 IsJoined class None joined = class.applying ≡ None
 IsJoined class (Some this_lane) joined = Joins class this_lane joined
 
 -- There is such a thing that it keeps.
-abbrev pub KeepsJoined : ClassPart → Option LanePart → Type 0
+abbrev pub KeepsJoined : ClassSheet → Option LaneSheet → Type 0
 KeepsJoined class joined_lane = (joined : Joined) × IsJoined class joined_lane joined
 
 -- ---- what a step leaves
 
 -- a step of the class is noted: for the bump aboard, where a lane is joined
-abbrev pub with_step : Kind → ℕ → ℕ → ClassView → ClassPart
-with_step kind chunk word seat = noted_class kind chunk word (listed seat.lane) seat.part
+abbrev pub with_step : Kind → ℕ → ℕ → ClassView → ClassSheet
+with_step kind chunk word seat = noted_class kind chunk word (listed seat.lane) seat.sheet
 
 -- ACTIVE of the chunk was cleared, whose head was h
 abbrev pub seat_after_clear_active : ℕ → Head → ClassView → ClassView
 seat_after_clear_active chunk head seat = record {
-  part = with_step kind.ClearActive chunk (word_of head) seat;
+  sheet = with_step kind.ClearActive chunk (word_of head) seat;
   lane =
       option_map (lane_after_clear_active head.active) seat.lane;
 }
 
 -- its time was stored
 abbrev pub seat_after_put_time : ℕ → ℕ → ClassView → ClassView
-seat_after_put_time chunk now seat = record seat { part = with_step kind.PutTime chunk now seat }
+seat_after_put_time chunk now seat = record seat { sheet = with_step kind.PutTime chunk now seat }
 
 -- it was moved
 abbrev pub seat_after_move : ℕ → Segment → Segment → Head → ClassView → ClassView
 seat_after_move chunk from to head seat =
     record {
-      part = class_after_move from to chunk (word_of head) (listed seat.lane) seat.part;
+      sheet = class_after_move from to chunk (word_of head) (listed seat.lane) seat.sheet;
       lane =
           option_map lane_after_move seat.lane;
     }
@@ -182,27 +182,27 @@ seat_after_move chunk from to head seat =
 
 -- What the class knows of the head that a bump's lane found: it is of the bump's life, of which there is a reference;
 -- and a chunk of the class stands where its history leaves it, in this life, and isn't free.
-pub record FoundOfBump (part : ClassPart) (item : ItemId) (head : Head) : Type 0 where
+pub record FoundOfBump (sheet : ClassSheet) (item : ItemId) (head : Head) : Type 0 where
   pub generation : head.generation ≡ item.generation
   pub counted : 0 < head.refs
-  pub stands : owns item.chunk part ≡ true → Shows head (standing part item.chunk).0
-      × ((standing part item.chunk).1 ≡ item.generation) × IsUsed (standing part item.chunk).0
+  pub stands : owns item.chunk sheet ≡ true → Shows head (standing sheet item.chunk).0
+      × ((standing sheet item.chunk).1 ≡ item.generation) × IsUsed (standing sheet item.chunk).0
 
 -- the class's history names no bump twice
-abbrev pub NamesNoBumpTwice : ClassPart → Type 0
+abbrev pub NamesNoBumpTwice : ClassSheet → Type 0
 NamesNoBumpTwice class = (w n : ℕ) → how_many (is_move_for (λ l. true) w n) class.history ≤ 1
 
 -- each move for a bump in the class's history is of a worker below this number
-abbrev pub NamesWorkersBelow : ℕ → ClassPart → Type 0
+abbrev pub NamesWorkersBelow : ℕ → ClassSheet → Type 0
 NamesWorkersBelow workers class = (w n : ℕ) → workers ≤ w → how_many (is_move_for (λ l. true) w n) class.history ≡ 0
 
 -- the item passes the test, and its chunk is the class's
-abbrev pub is_own : ClassPart → (ItemId → Bool) → ItemId → Bool
+abbrev pub is_own : ClassSheet → (ItemId → Bool) → ItemId → Bool
 is_own class test item = owns item.chunk class && test item
 
 -- The moves that the class's history has for bumps of the lane's worker are those that the lane tells of items of the
 -- class: by its entries with outcome Moved, and as the move in progress. It is counted by the bump's number and, by any
 -- test, by its item.
-abbrev pub TellsMoves : ClassPart → LanePart → Type 0
+abbrev pub TellsMoves : ClassSheet → LaneSheet → Type 0
 TellsMoves class this_lane = (test : ItemId → Bool) (n : ℕ) → how_many (is_move_for test this_lane.worker n)
     class.history ≡ moves_told (is_own class test) n this_lane.applied this_lane.stage

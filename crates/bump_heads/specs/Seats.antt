@@ -19,43 +19,43 @@ use Rattle.bump_rules.specs.Labels.{label_of_life}
 use Rattle.bump_steps.specs.Views.{labels_of, last_word}
 use Rattle.bump_steps.specs.Riders.{lane_me}
 use Rattle.bump_steps.specs.declared.views.Empty.{Empty}
-use Rattle.bump_steps.specs.declared.views.ClassPart.{ClassPart}
-use Rattle.bump_steps.specs.declared.views.LanePart.{LanePart}
+use Rattle.bump_steps.specs.declared.views.ClassSheet.{ClassSheet}
+use Rattle.bump_steps.specs.declared.views.LaneSheet.{LaneSheet}
 use Rattle.bump_heads.specs.declared.views.ClassView.{ClassView}
 use Rattle.bump_steps.specs.declared.views.View.{View}
 use Rattle.bump_steps.specs.Views.{bump_aboard, owns, standing}
-use Rattle.bump_steps.specs.Rule.{blank, lane_part}
+use Rattle.bump_steps.specs.Rule.{blank, lane_sheet}
 use Rattle.bump_steps.specs.Places.{HasChunk}
 use Rattle.bump_readers.specs.Seats.{head_or, first, listed}
 
--- parts of seats that have none
-abbrev pub no_lane : LanePart
-no_lane = lane_part 0
+-- sheets of seats that have none
+abbrev pub no_lane : LaneSheet
+no_lane = lane_sheet 0
 
-abbrev pub no_class : ClassPart
+abbrev pub no_class : ClassSheet
 no_class = record { class = 0; first = 0; count = 0; fresh = 0; history = []; labels = []; words = []; applying = None; steps = [] }
 
 -- ---- lanes
 
-abbrev pub lane_in : Option (Seat Empty View) → Option LanePart
+abbrev pub lane_in : Option (Seat Empty View) → Option LaneSheet
 lane_in None = None
 lane_in (Some seat) = Some (head_or no_lane seat.me.0.lanes)
 
--- the part of a lane by the views that it keeps: none while it is hollow
-abbrev pub lane_in_views : List View → Option LanePart
+-- the sheet of a lane by the views that it keeps: none while it is hollow
+abbrev pub lane_in_views : List View → Option LaneSheet
 lane_in_views [] = None
 lane_in_views (view ∷ vs) = Some (head_or no_lane view.lanes)
 
-abbrev pub lane_views : Option LanePart → List View
+abbrev pub lane_views : Option LaneSheet → List View
 lane_views None = []
 lane_views (Some this_lane) = record blank { lanes = this_lane ∷ [] } ∷ []
 
 -- no bump of the lane is half applied
-abbrev pub IsAtRest : Option LanePart → Type 0
+abbrev pub IsAtRest : Option LaneSheet → Type 0
 IsAtRest None = Unit {0}
 IsAtRest (Some this_lane) = is_half_made this_lane.stage ≡ false
 
--- a lane's seat, if it isn't hollow, has its part alone, and no bump that is half applied
+-- a lane's seat, if it isn't hollow, has its sheet alone, and no bump that is half applied
 abbrev pub IsLane : TableId → Option (Seat Empty View) → Type 0
 IsLane table None = Unit {0}
 IsLane table (Some seat) = (seat.me ≡ lane_me (head_or no_lane seat.me.0.lanes)) × (seat.table_id ≡ table)
@@ -66,11 +66,11 @@ abbrev pub most_workers : ℕ
 most_workers = 64
 
 -- the lane is this worker's, while it is whole and applied nothing yet
-abbrev pub IsOfWorker : ℕ → Option LanePart → Type 0
+abbrev pub IsOfWorker : ℕ → Option LaneSheet → Type 0
 IsOfWorker worker None = Unit {0}
 IsOfWorker worker (Some this_lane) = this_lane.applied ≡ [] → this_lane.worker ≡ worker
 
-abbrev pub aboard_lane : Option LanePart → Option Bump
+abbrev pub aboard_lane : Option LaneSheet → Option Bump
 aboard_lane None = None
 aboard_lane (Some this_lane) = bump_aboard this_lane.stage
 
@@ -107,13 +107,13 @@ moves_temp (change.Retired life) = false
 -- ---- classes
 
 abbrev pub class_in : View → ClassView
-class_in view = record { part = head_or no_class view.classes; lane = first view.lanes }
+class_in view = record { sheet = head_or no_class view.classes; lane = first view.lanes }
 
 abbrev pub class_me : ClassView → Me Empty View
-class_me seat = (record blank { classes = seat.part ∷ []; lanes = listed seat.lane }, [])
+class_me seat = (record blank { classes = seat.sheet ∷ []; lanes = listed seat.lane }, [])
 
--- What each class's part keeps.
-pub record IsClassPart (count : ℕ) (class : ClassPart) : Type 0 where
+-- What each class's sheet keeps.
+pub record IsClassSheet (count : ℕ) (class : ClassSheet) : Type 0 where
   -- its chunks are among the table's
   pub within : class.first + class.count ≤ count
   -- its history speaks of its own chunks alone, and its moves for bumps are from COLD to WARM

@@ -5,7 +5,7 @@ ghost use Rattle.bump_rules.specs.declared.items.Head.{Head as TheHead};
 ghost use Rattle.bump_rules.specs.History.{place_of};
 ghost use Rattle.bump_rules.specs.Lawful.{Shows};
 ghost use Rattle.bump_word.specs.Words.{word_of, Fits};
-ghost use Rattle.bump_steps.specs.declared.views.LanePart.{LanePart as TheLanePart};
+ghost use Rattle.bump_steps.specs.declared.views.LaneSheet.{LaneSheet as TheLaneSheet};
 ghost use Rattle.bump_steps.specs.Places.{head_place};
 ghost use Rattle.bump_steps.specs.Views.{bump_aboard, owns, standing};
 ghost use Rattle.bump_steps.specs.Applications.{lane_after_alight, lane_after_try, class_at_rest};
@@ -29,20 +29,20 @@ impl<N: Name, L: RowLaw> ClassSeat<N, L> {
     pub fn try_front(&mut self, lane: &mut LaneSeat<N, L>, bump: Bump, place: usize) -> Head
         requires alone { self.old.lane ≡ None }
         requires carries { carried_by lane.old ≡ Some bump }
-        requires own { owns (life_aboard lane.old).chunk self.old.part ≡ true }
+        requires own { owns (life_aboard lane.old).chunk self.old.sheet ≡ true }
         requires place { place ≡ head_place N.table.slots bump.life.chunk }
         ensures hollow { lane.new ≡ None }
         ensures tried { self.new ≡ record self.old {
           lane = option_map
               (lane_after_try (life_aboard lane.old).chunk (word_of result)) lane.old;
         } }
-        ensures found { FoundOfBump self.old.part (life_aboard lane.old) result }
+        ensures found { FoundOfBump self.old.sheet (life_aboard lane.old) result }
         ensures fits { Fits result }
 
         // No bump is named twice by the history of the class, and its moves for bumps of this lane's worker are those
         // that the lane tells of items of the class.
-        ensures once { NamesNoBumpTwice self.new.part }
-        ensures moves { IfSome self.new.lane (TellsMoves self.new.part) }
+        ensures once { NamesNoBumpTwice self.new.sheet }
+        ensures moves { IfSome self.new.lane (TellsMoves self.new.sheet) }
     {
         let seat = std::mem::replace(&mut lane.badge, Badge::blank()).into_seat();
         let words = self.heads.words();
@@ -56,12 +56,12 @@ impl<N: Name, L: RowLaw> ClassSeat<N, L> {
     /// found.
     #[inline(always)]
     pub fn clear_active(&mut self, chunk: u32, place: usize) -> Head
-        requires own { owns chunk self.old.part ≡ true }
+        requires own { owns chunk self.old.sheet ≡ true }
         requires place { place ≡ head_place N.table.slots chunk }
-        requires may { MayClearActive chunk (standing self.old.part chunk).0 self.old.lane }
+        requires may { MayClearActive chunk (standing self.old.sheet chunk).0 self.old.lane }
         ensures cleared { self.new ≡ seat_after_clear_active chunk result self.old }
-        ensures shows { Shows result (standing self.old.part chunk).0 }
-        ensures generation { result.generation ≡ (standing self.old.part chunk).1 }
+        ensures shows { Shows result (standing self.old.sheet chunk).0 }
+        ensures generation { result.generation ≡ (standing self.old.sheet chunk).1 }
         ensures life { IfSome (aboard_lane self.old.lane) (λ b. b.life.generation ≡ result.generation) }
         ensures fits { Fits result }
     {
@@ -76,9 +76,9 @@ impl<N: Name, L: RowLaw> ClassSeat<N, L> {
     /// is a link's step, and the chunk stands in UNUSED; with a lane joined it is made for its bump, which is of this
     /// chunk, at whose head the lane looked, and whose item is linked.
     pub fn put_time(&mut self, chunk: u32, place: usize, now: u64)
-        requires own { owns chunk self.old.part ≡ true }
+        requires own { owns chunk self.old.sheet ≡ true }
         requires place { place ≡ head_place N.table.slots chunk }
-        requires may { MayPutTime chunk (standing self.old.part chunk).0 self.old.lane }
+        requires may { MayPutTime chunk (standing self.old.sheet chunk).0 self.old.lane }
         ensures timed { self.new ≡ seat_after_put_time chunk now self.old }
     {
         self.heads
@@ -92,13 +92,13 @@ impl<N: Name, L: RowLaw> ClassSeat<N, L> {
     /// ACTIVE was found and cleared. Answers the head that was found.
     #[inline(always)]
     pub fn change_segment(&mut self, chunk: u32, place: usize, from: Segment, to: Segment) -> Head
-        requires own { owns chunk self.old.part ≡ true }
+        requires own { owns chunk self.old.sheet ≡ true }
         requires place { place ≡ head_place N.table.slots chunk }
-        requires stands { (standing self.old.part chunk).0 ≡ place_of from }
+        requires stands { (standing self.old.sheet chunk).0 ≡ place_of from }
         requires may { MayChangeSegment chunk from to self.old.lane }
         ensures moved { self.new ≡ seat_after_move chunk from to result self.old }
         ensures shows { Shows result (place_of from) }
-        ensures generation { result.generation ≡ (standing self.old.part chunk).1 }
+        ensures generation { result.generation ≡ (standing self.old.sheet chunk).1 }
         ensures life { IfSome (aboard_lane self.old.lane) (λ b. b.life.generation ≡ result.generation) }
         ensures fits { Fits result }
     {
@@ -128,26 +128,26 @@ impl<N: Name, L: RowLaw> ClassSeat<N, L> {
     ) -> Head
         requires hollow { lane.old ≡ None }
         requires place { place ≡ head_place N.table.slots bump.life.chunk }
-        requires ends { (l : TheLanePart) × (h : TheHead) × MayEndAs self.old l bump h outcome }
-        ensures class { self.new ≡ record { part = class_at_rest self.old.part; lane = None } }
+        requires ends { (l : TheLaneSheet) × (h : TheHead) × MayEndAs self.old l bump h outcome }
+        ensures class { self.new ≡ record { sheet = class_at_rest self.old.sheet; lane = None } }
         ensures lane { lane.new ≡ option_map (lane_after_alight outcome (life_aboard self.old.lane).chunk
             (word_of result)) self.old.lane }
-        ensures found { FoundOfBump self.old.part (life_aboard self.old.lane) result }
+        ensures found { FoundOfBump self.old.sheet (life_aboard self.old.lane) result }
         ensures fits { Fits result }
 
         // The entry that was written is true.
         ensures entry { IfSome self.old.lane (λ l. IfSome (bump_aboard l.stage)
-            (λ b. IsShown self.new.part l b outcome)) }
+            (λ b. IsShown self.new.sheet l b outcome)) }
 
         // No bump is named twice by the history of the class, and its moves for bumps of this lane's worker are those
         // that entries of the lane tell of items of the class.
-        ensures once { NamesNoBumpTwice self.new.part }
-        ensures moves { IfSome lane.new (TellsMoves self.new.part) }
+        ensures once { NamesNoBumpTwice self.new.sheet }
+        ensures moves { IfSome lane.new (TellsMoves self.new.sheet) }
     {
         let words = self.heads.words();
         let word = words.alight(&mut self.seat, bump.life.chunk, place, outcome);
-        let part = words.part_lanes(&mut self.seat);
-        lane.badge = part.into_badge();
+        let sheet = words.part_lanes(&mut self.seat);
+        lane.badge = sheet.into_badge();
         head_of(word)
     }
 }

@@ -19,9 +19,9 @@ impl<N: Name, L: RowLaw> LaneSeat<N, L> {
         requires next { rider.number ≡ length (applied_by self.old) }
         ensures boarded { self.new ≡ option_map (lane_after_board (bump_of_ride rider)) self.old }
     {
-        let (part, _life) = rider.into_parts();
+        let (sheet, _life) = rider.into_parts();
         let mut seat = std::mem::replace(&mut self.badge, Badge::blank()).into_seat();
-        self.heads.words().board(&mut seat, part);
+        self.heads.words().board(&mut seat, sheet);
         self.badge = seat.into_badge();
     }
 }

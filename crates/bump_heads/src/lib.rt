@@ -21,8 +21,8 @@ pub use bump_rules::{
     LabelStep, LaneStage, Outcome, Segment, Start,
 };
 pub use bump_steps::{
-    AnyRefusal, AnyRow, ClassPart, Empty, HoldPart, Kind, LanePart, OwnStep, Ride, RideRefusal,
-    RowLaw, Rule, TakeRefusal, View, WordStep, WorkerPart,
+    AnyRefusal, AnyRow, ClassSheet, Empty, HoldSheet, Kind, LaneSheet, OwnStep, Ride, RideRefusal,
+    RowLaw, Rule, TakeRefusal, View, WordStep, WorkerSheet,
 };
 pub use heads::Heads;
 pub use making::{Blank, HeadParts};

@@ -22,12 +22,12 @@ impl<N: Name, L: RowLaw> ClassSeat<N, L> {
     /// chunk: in HOT, WARM, COLD and TEMP it is linked and has this segment, elsewhere it is not linked; and it has the
     /// chunk's generation.
     pub fn load_head(&mut self, chunk: u32, place: usize) -> Head
-        requires own { owns chunk self.old.part ≡ true }
+        requires own { owns chunk self.old.sheet ≡ true }
         requires place { place ≡ head_place N.table.slots chunk }
-        ensures looked { self.new ≡ record self.old { part = class_after_load chunk (word_of result) self.old.part } }
+        ensures looked { self.new ≡ record self.old { sheet = class_after_load chunk (word_of result) self.old.sheet } }
         ensures fits { Fits result }
-        ensures agrees { Shows result (place_of_chunk self.old.part chunk) }
-        ensures generation { result.generation ≡ generation_of_chunk self.old.part chunk }
+        ensures agrees { Shows result (place_of_chunk self.old.sheet chunk) }
+        ensures generation { result.generation ≡ generation_of_chunk self.old.sheet chunk }
         ensures marks { bit result.active ≤ bit result.fetched }
     {
         head_of(self.heads.words().load_head(&mut self.seat, chunk, place))
@@ -35,8 +35,8 @@ impl<N: Name, L: RowLaw> ClassSeat<N, L> {
 
     /// The time of a chunk of the class, by one load, which is noted with what it found.
     pub fn see_time(&mut self, chunk: u32) -> u64
-        requires own { owns chunk self.old.part ≡ true }
-        ensures seen { self.new ≡ record self.old { part = class_after_see_time chunk result self.old.part } }
+        requires own { owns chunk self.old.sheet ≡ true }
+        ensures seen { self.new ≡ record self.old { sheet = class_after_see_time chunk result self.old.sheet } }
     {
         self.heads.words().see_time(&mut self.seat, chunk)
     }
@@ -46,10 +46,10 @@ impl<N: Name, L: RowLaw> ClassSeat<N, L> {
     /// `do_item_alloc` writes into the item before `do_item_link`.
     pub fn put_label(&mut self, chunk: u32, place: usize, label: u64)
         requires alone { self.old.lane ≡ None }
-        requires own { owns chunk self.old.part ≡ true }
+        requires own { owns chunk self.old.sheet ≡ true }
         requires place { place ≡ head_place N.table.slots chunk }
-        requires unused { place_of_chunk self.old.part chunk ≡ Unused }
-        ensures labelled { self.new ≡ record self.old { part = class_after_put_label chunk label self.old.part } }
+        requires unused { place_of_chunk self.old.sheet chunk ≡ Unused }
+        ensures labelled { self.new ≡ record self.old { sheet = class_after_put_label chunk label self.old.sheet } }
     {
         self.heads
             .words()
@@ -59,11 +59,11 @@ impl<N: Name, L: RowLaw> ClassSeat<N, L> {
     /// Stores a further word of a chunk, by one store, as `put_label` stores its label.
     pub fn put_word(&mut self, chunk: u32, place: usize, index: u32, word: u64)
         requires alone { self.old.lane ≡ None }
-        requires own { owns chunk self.old.part ≡ true }
+        requires own { owns chunk self.old.sheet ≡ true }
         requires place { place ≡ head_place N.table.slots chunk }
-        requires unused { place_of_chunk self.old.part chunk ≡ Unused }
+        requires unused { place_of_chunk self.old.sheet chunk ≡ Unused }
         requires index { index < N.table.slots }
-        ensures stored { self.new ≡ record self.old { part = class_after_put_word chunk index word self.old.part } }
+        ensures stored { self.new ≡ record self.old { sheet = class_after_put_word chunk index word self.old.sheet } }
     {
         self.heads
             .words()
@@ -76,15 +76,15 @@ impl<N: Name, L: RowLaw> ClassSeat<N, L> {
     /// holds. Answers the life. A load before the store finds the generation, which is noted as a step.
     pub fn open_life_in(&mut self, chunk: u32, place: usize, start: Start) -> ItemId
         requires alone { self.old.lane ≡ None }
-        requires own { owns chunk self.old.part ≡ true }
+        requires own { owns chunk self.old.sheet ≡ true }
         requires place { place ≡ head_place N.table.slots chunk }
-        requires unused { place_of_chunk self.old.part chunk ≡ Unused }
-        requires law { L.law (last_words self.old.part chunk) }
-        ensures next { result ≡ life chunk (generation_of_chunk self.old.part chunk + 1) }
-        ensures opened { self.new ≡ record self.old { part = class_after_open_life start result self.old.part } }
-        ensures label { label_of_life result 0 self.new.part.labels ≡ Some (last_label self.old.part chunk) }
-        ensures words { (j : ℕ) → label_of_life result 0 (of_word j self.new.part.words) ≡ Some
-            (last_word (suc j) self.old.part chunk) }
+        requires unused { place_of_chunk self.old.sheet chunk ≡ Unused }
+        requires law { L.law (last_words self.old.sheet chunk) }
+        ensures next { result ≡ life chunk (generation_of_chunk self.old.sheet chunk + 1) }
+        ensures opened { self.new ≡ record self.old { sheet = class_after_open_life start result self.old.sheet } }
+        ensures label { label_of_life result 0 self.new.sheet.labels ≡ Some (last_label self.old.sheet chunk) }
+        ensures words { (j : ℕ) → label_of_life result 0 (of_word j self.new.sheet.words) ≡ Some
+            (last_word (suc j) self.old.sheet chunk) }
     {
         let words = self.heads.words();
         let found = head_of(words.see_generation(&mut self.seat, chunk, place));
@@ -96,15 +96,15 @@ impl<N: Name, L: RowLaw> ClassSeat<N, L> {
     /// The same in HOT.
     pub fn open_life(&mut self, chunk: u32, place: usize) -> ItemId
         requires alone { self.old.lane ≡ None }
-        requires own { owns chunk self.old.part ≡ true }
+        requires own { owns chunk self.old.sheet ≡ true }
         requires place { place ≡ head_place N.table.slots chunk }
-        requires unused { place_of_chunk self.old.part chunk ≡ Unused }
-        requires law { L.law (last_words self.old.part chunk) }
-        ensures next { result ≡ life chunk (generation_of_chunk self.old.part chunk + 1) }
-        ensures opened { self.new ≡ record self.old { part = class_after_open_life start.Hot result self.old.part } }
-        ensures label { label_of_life result 0 self.new.part.labels ≡ Some (last_label self.old.part chunk) }
-        ensures words { (j : ℕ) → label_of_life result 0 (of_word j self.new.part.words) ≡ Some
-            (last_word (suc j) self.old.part chunk) }
+        requires unused { place_of_chunk self.old.sheet chunk ≡ Unused }
+        requires law { L.law (last_words self.old.sheet chunk) }
+        ensures next { result ≡ life chunk (generation_of_chunk self.old.sheet chunk + 1) }
+        ensures opened { self.new ≡ record self.old { sheet = class_after_open_life start.Hot result self.old.sheet } }
+        ensures label { label_of_life result 0 self.new.sheet.labels ≡ Some (last_label self.old.sheet chunk) }
+        ensures words { (j : ℕ) → label_of_life result 0 (of_word j self.new.sheet.words) ≡ Some
+            (last_word (suc j) self.old.sheet chunk) }
     {
         self.open_life_in(chunk, place, Start::Hot)
     }
@@ -115,13 +115,13 @@ impl<N: Name, L: RowLaw> ClassSeat<N, L> {
     /// generation, and with the link's reference at least.
     pub fn end_life(&mut self, chunk: u32, place: usize) -> Head
         requires alone { self.old.lane ≡ None }
-        requires own { owns chunk self.old.part ≡ true }
+        requires own { owns chunk self.old.sheet ≡ true }
         requires place { place ≡ head_place N.table.slots chunk }
-        requires linked { IsInSegment (place_of_chunk self.old.part chunk) }
-        ensures ended { self.new ≡ record self.old { part = class_after_unlink chunk (word_of result) self.old.part } }
+        requires linked { IsInSegment (place_of_chunk self.old.sheet chunk) }
+        ensures ended { self.new ≡ record self.old { sheet = class_after_unlink chunk (word_of result) self.old.sheet } }
         ensures fits { Fits result }
-        ensures agrees { Shows result (place_of_chunk self.old.part chunk) }
-        ensures generation { result.generation ≡ generation_of_chunk self.old.part chunk }
+        ensures agrees { Shows result (place_of_chunk self.old.sheet chunk) }
+        ensures generation { result.generation ≡ generation_of_chunk self.old.sheet chunk }
         ensures counted { 0 < result.refs }
         ensures marks { bit result.active ≤ bit result.fetched }
     {
@@ -134,16 +134,16 @@ impl<N: Name, L: RowLaw> ClassSeat<N, L> {
     /// the item (`do_item_remove`); here its class does.
     pub fn seen_unheld(&mut self, chunk: u32, place: usize) -> Head
         requires alone { self.old.lane ≡ None }
-        requires own { owns chunk self.old.part ≡ true }
+        requires own { owns chunk self.old.sheet ≡ true }
         requires place { place ≡ head_place N.table.slots chunk }
-        requires dying { place_of_chunk self.old.part chunk ≡ Dying }
+        requires dying { place_of_chunk self.old.sheet chunk ≡ Dying }
         ensures seen { self.new ≡ record self.old {
-          part = class_after_sweep_or_load chunk result.refs
-              (word_of result) self.old.part;
+          sheet = class_after_sweep_or_load chunk result.refs
+              (word_of result) self.old.sheet;
         } }
         ensures fits { Fits result }
         ensures unlinked { result.linked ≡ false }
-        ensures generation { result.generation ≡ generation_of_chunk self.old.part chunk }
+        ensures generation { result.generation ≡ generation_of_chunk self.old.sheet chunk }
     {
         head_of(self.heads.words().seen_unheld(&mut self.seat, chunk, place))
     }

@@ -2,7 +2,7 @@
 ghost use Rattle.std.specs.Prelude.{◌≡◌, ◌≤◌, ◌<◌, ◌-◌, [], IfOk, None, Some, length, map};
 ghost use Rattle.std.specs.Arc.{arc_value};
 ghost use Rattle.bump_steps.specs.Places.{rows};
-ghost use Rattle.bump_steps.specs.Rule.{opened, class_parts, worker_parts, lane_parts, blank};
+ghost use Rattle.bump_steps.specs.Rule.{opened, class_sheets, worker_sheets, lane_sheets, blank};
 ghost use Rattle.bump_steps.specs.Words.{words_id, config_of};
 ghost use Rattle.bump_readers.specs.Workers.{worker_seen};
 ghost use Rattle.bump_heads.specs.Making.{BlankView as TheBlankView, class_seen, lane_seen, AreNewClasses, AreNewLanes};
@@ -17,7 +17,7 @@ use std::alloc::{AllocError, Global};
 use std::marker::{Model, PhantomData};
 use std::sync::Arc;
 
-/// The words of a store that has no name yet, and the one seat that has every part. Its chunks had no life.
+/// The words of a store that has no name yet, and the one seat that has every sheet. Its chunks had no life.
 #[derive(Drop)]
 pub struct Blank<L: RowLaw = AnyRow> {
     words: Words<L>,
@@ -71,16 +71,16 @@ fn part_classes<N: Name, L: RowLaw>(
     count: u32,
 ) -> Result<Vec<ClassSeat<N, L>>, AllocError>
     requires seat { (seat.old.table_id ≡ N.table) × (seat.old.me.1 ≡ []) }
-    requires parts { (length seat.old.me.0.classes ≡ count) × AreNewClasses (rows N.table) 0 seat.old.me.0.classes }
+    requires sheets { (length seat.old.me.0.classes ≡ count) × AreNewClasses (rows N.table) 0 seat.old.me.0.classes }
     ensures rest { IfOk result (λ v. (seat.new.table_id ≡ N.table)
         × (seat.new.me ≡ (record seat.old.me.0 { classes = [] }, []))) }
     ensures seats { IfOk result (λ v. v.items ≡ map class_seen seat.old.me.0.classes) }
 {
     let mut seats = Vec::with_capacity(alloc, count as usize)?;
     for class in 0..count {
-        let part = heads.words().part_class(seat);
+        let sheet = heads.words().part_class(seat);
         seats.push(ClassSeat {
-            seat: part,
+            seat: sheet,
             class,
             heads: Arc::try_clone(heads)?,
             of: PhantomData,
@@ -96,7 +96,7 @@ fn part_lanes<N: Name, L: RowLaw>(
     count: u32,
 ) -> Result<Vec<LaneSeat<N, L>>, AllocError>
     requires seat { (seat.old.table_id ≡ N.table) × (seat.old.me.1 ≡ []) }
-    requires parts { (length seat.old.me.0.lanes ≡ count) × AreNewLanes 0 seat.old.me.0.lanes }
+    requires sheets { (length seat.old.me.0.lanes ≡ count) × AreNewLanes 0 seat.old.me.0.lanes }
     requires few { count ≤ most_workers }
     ensures rest { IfOk result (λ v. (seat.new.table_id ≡ N.table)
         × (seat.new.me ≡ (record seat.old.me.0 { lanes = [] }, []))) }
@@ -104,9 +104,9 @@ fn part_lanes<N: Name, L: RowLaw>(
 {
     let mut seats = Vec::with_capacity(alloc, count as usize)?;
     for worker in 0..count {
-        let part = heads.words().part_lane(seat);
+        let sheet = heads.words().part_lane(seat);
         seats.push(LaneSeat {
-            badge: part.into_badge(),
+            badge: sheet.into_badge(),
             worker,
             heads: Arc::try_clone(heads)?,
             of: PhantomData,
@@ -126,9 +126,9 @@ impl<N: Name, L: RowLaw> Heads<N, L> {
         requires config { blank.config ≡ config.now }
         ensures heads { IfOk result (λ p. arc_value p.heads ≡ config.now) }
         ensures classes { IfOk result (λ p. p.classes.items ≡ map class_seen
-            (class_parts (config.now.first_generation - 1) 0 0 config.now.classes)) }
-        ensures workers { IfOk result (λ p. p.workers.items ≡ map worker_seen (worker_parts 0 config.now.workers)) }
-        ensures lanes { IfOk result (λ p. p.lanes.items ≡ map lane_seen (lane_parts 0 config.now.workers)) }
+            (class_sheets (config.now.first_generation - 1) 0 0 config.now.classes)) }
+        ensures workers { IfOk result (λ p. p.workers.items ≡ map worker_seen (worker_sheets 0 config.now.workers)) }
+        ensures lanes { IfOk result (λ p. p.lanes.items ≡ map lane_seen (lane_sheets 0 config.now.workers)) }
     {
         let Blank { words, mut seat } = blank;
         let readers = ReaderHeads::new(words, config);

@@ -3,12 +3,12 @@ ghost use Rattle.std.specs.Prelude.{◌≡◌, ◌<◌, Option as TheOption, IsS
 ghost use Rattle.bump_heads.specs.declared.views.ClassView.{ClassView as TheClassView};
 ghost use Rattle.bump_steps.specs.Places.{rows, head_place};
 ghost use Rattle.bump_steps.specs.Views.{owns};
-ghost use Rattle.bump_steps.specs.declared.views.LanePart.{LanePart as TheLanePart};
+ghost use Rattle.bump_steps.specs.declared.views.LaneSheet.{LaneSheet as TheLaneSheet};
 ghost use Rattle.bump_rules.specs.Lanes.{is_half_made};
 ghost use Rattle.bump_rules.specs.Totals.{how_many};
 ghost use Rattle.bump_heads.specs.Applying.{stage_of, KeepsJoined};
 ghost use Rattle.bump_heads.specs.Seats.{lane_views, lane_in_views, IsAtRest, IsOfWorker, class_in, class_me};
-ghost use Rattle.bump_heads.specs.Seats.{aboard_lane, most_workers, IsInRange, IsClassPart, is_barred};
+ghost use Rattle.bump_heads.specs.Seats.{aboard_lane, most_workers, IsInRange, IsClassSheet, is_barred};
 
 use crate::heads::Heads;
 use atomic_table::Badge;
@@ -18,7 +18,7 @@ use std::alloc::Global;
 use std::marker::{Model, PhantomData};
 use std::sync::Arc;
 
-/// A class's seat: its part, and that of the lane that is joined to it for an application.
+/// A class's seat: its sheet, and that of the lane that is joined to it for an application.
 #[derive(Drop)]
 pub struct ClassSeat<N: Name, L: RowLaw = AnyRow> {
     pub(crate) seat: Seat,
@@ -33,23 +33,23 @@ impl<N: Name, L: RowLaw> Model for ClassSeat<N, L> {
     ghost view = { λ s. class_in s.seat.me.0 };
 
     ghost invariant = { λ s. (s.seat.me ≡ class_me (class_in s.seat.me.0)) × (s.seat.table_id ≡ N.table)
-        × IsInRange N.table (aboard_lane (class_in s.seat.me.0).lane) × (s.class ≡ (class_in s.seat.me.0).part.class)
-        × IsClassPart (rows N.table) (class_in s.seat.me.0).part
-        × KeepsJoined (class_in s.seat.me.0).part (class_in s.seat.me.0).lane };
+        × IsInRange N.table (aboard_lane (class_in s.seat.me.0).lane) × (s.class ≡ (class_in s.seat.me.0).sheet.class)
+        × IsClassSheet (rows N.table) (class_in s.seat.me.0).sheet
+        × KeepsJoined (class_in s.seat.me.0).sheet (class_in s.seat.me.0).lane };
 }
 
 impl<N: Name, L: RowLaw> ClassSeat<N, L> {
     /// What every class's seat keeps: each move in its class's history is one that the tail table or the update table
     /// has.
     pub fn promise(&self)
-        ensures { how_many is_barred self.now.part.history ≡ 0 }
+        ensures { how_many is_barred self.now.sheet.history ≡ 0 }
     {
         let _seat = &self.seat;
     }
 
     /// The class's number, from 0.
     pub fn class(&self) -> u32
-        ensures { result ≡ self.now.part.class }
+        ensures { result ≡ self.now.sheet.class }
     {
         self.class
     }
@@ -58,14 +58,14 @@ impl<N: Name, L: RowLaw> ClassSeat<N, L> {
     /// them find it by one multiplication.
     #[inline(always)]
     pub fn head_at(&self, chunk: u32) -> usize
-        requires own { owns chunk self.now.part ≡ true }
+        requires own { owns chunk self.now.sheet ≡ true }
         ensures { result ≡ head_place N.table.slots chunk }
     {
         self.heads.words().head_at(chunk)
     }
 }
 
-/// A lane's seat: its part, or none while it is hollow, joined to a class's seat. While it is whole no application is
+/// A lane's seat: its sheet, or none while it is hollow, joined to a class's seat. While it is whole no application is
 /// in progress: a bump aboard is one at which nobody looked yet.
 #[derive(Drop)]
 pub struct LaneSeat<N: Name, L: RowLaw = AnyRow> {
@@ -76,7 +76,7 @@ pub struct LaneSeat<N: Name, L: RowLaw = AnyRow> {
 }
 
 impl<N: Name, L: RowLaw> Model for LaneSeat<N, L> {
-    ghost Value = { TheOption TheLanePart };
+    ghost Value = { TheOption TheLaneSheet };
 
     ghost view = { λ l. lane_in_views l.badge.views };
 

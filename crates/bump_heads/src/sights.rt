@@ -23,24 +23,24 @@ impl<N: Name, L: RowLaw> ClassSeat<N, L> {
     /// The label of a chunk of the class, by one load, which is noted with what it found: the last one that was stored
     /// for the chunk. Where the chunk isn't free it is the label of its life.
     pub fn see_label(&mut self, chunk: u32) -> u64
-        requires own { owns chunk self.old.part ≡ true }
-        ensures seen { self.new ≡ record self.old { part = class_after_see_label chunk result self.old.part } }
-        ensures stored { result ≡ last_label self.old.part chunk }
-        ensures life { IsUsed (place_of_chunk self.old.part chunk)
-            → label_of_life (life chunk (generation_of_chunk self.old.part chunk)) 0 self.old.part.labels ≡ Some result }
+        requires own { owns chunk self.old.sheet ≡ true }
+        ensures seen { self.new ≡ record self.old { sheet = class_after_see_label chunk result self.old.sheet } }
+        ensures stored { result ≡ last_label self.old.sheet chunk }
+        ensures life { IsUsed (place_of_chunk self.old.sheet chunk)
+            → label_of_life (life chunk (generation_of_chunk self.old.sheet chunk)) 0 self.old.sheet.labels ≡ Some result }
     {
         self.heads.words().see_label(&mut self.seat, chunk)
     }
 
     /// A further word of a chunk of the class, in the same way. Its number is below `further`.
     pub fn see_word(&mut self, chunk: u32, index: u32) -> u64
-        requires own { owns chunk self.old.part ≡ true }
+        requires own { owns chunk self.old.sheet ≡ true }
         requires index { index < N.table.slots }
-        ensures seen { self.new ≡ record self.old { part = class_after_see_word chunk result self.old.part } }
-        ensures stored { result ≡ last_word (suc index) self.old.part chunk }
-        ensures life { IsUsed (place_of_chunk self.old.part chunk)
-            → label_of_life (life chunk (generation_of_chunk self.old.part chunk)) 0
-            (of_word index self.old.part.words) ≡ Some result }
+        ensures seen { self.new ≡ record self.old { sheet = class_after_see_word chunk result self.old.sheet } }
+        ensures stored { result ≡ last_word (suc index) self.old.sheet chunk }
+        ensures life { IsUsed (place_of_chunk self.old.sheet chunk)
+            → label_of_life (life chunk (generation_of_chunk self.old.sheet chunk)) 0
+            (of_word index self.old.sheet.words) ≡ Some result }
     {
         self.heads.words().see_word(&mut self.seat, chunk, index)
     }

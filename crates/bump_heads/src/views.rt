@@ -1,11 +1,11 @@
 //! What contracts see of classes' seats: plain data. No value of it is ever made.
-use bump_steps::{ClassPart, LanePart};
+use bump_steps::{ClassSheet, LaneSheet};
 
 /// What contracts see of a class's seat.
 pub struct ClassView {
-    /// Its part.
-    pub part: ClassPart,
+    /// Its sheet.
+    pub sheet: ClassSheet,
 
-    /// The part of the lane that is joined to it, from `try_front` to `alight`.
-    pub lane: Option<LanePart>,
+    /// The sheet of the lane that is joined to it, from `try_front` to `alight`.
+    pub lane: Option<LaneSheet>,
 }

@@ -9,13 +9,13 @@ use Rattle.bump_word.proofs.Words.{fields, one_head}
 use Rattle.bump_steps.specs.declared.views.Empty.{Empty}
 use Rattle.bump_steps.specs.declared.views.Kind.TheVariants as kind
 use Rattle.bump_steps.specs.declared.views.View.{View}
-use Rattle.bump_steps.specs.declared.views.WorkerPart.{WorkerPart}
+use Rattle.bump_steps.specs.declared.views.WorkerSheet.{WorkerSheet}
 use Rattle.bump_steps.specs.Glances.{new_glance, worker_after_glance, IsFaithful}
 use Rattle.bump_steps.specs.Marks.{noted, on_worker}
 use Rattle.bump_steps.specs.Plays.{Found}
 use Rattle.bump_readers.specs.declared.views.WorkerView.{WorkerView}
 use Rattle.bump_readers.specs.Glances.{IsGlancing, IsLinkedLife, glancing_at, looked_at}
-use Rattle.bump_readers.specs.Seats.{IsWorkerPart, worker_in, worker_me}
+use Rattle.bump_readers.specs.Seats.{IsWorkerSheet, worker_in, worker_me}
 use Rattle.bump_readers.proofs.Attempts.{attempts_push}
 use Rattle.bump_readers.proofs.Touches.{worker_read_back}
 
@@ -23,44 +23,36 @@ use Rattle.bump_readers.proofs.Touches.{worker_read_back}
 pub told_of : (word : ℕ) (found : Head) (Holds : Head → Type 0) → Spells word found → Found word Holds → Holds found
 told_of word found Holds spells told = subst Holds (one_head word told.0 found told.1 spells) told.2
 
--- a worker's part that changes so is what the view says
-pub changed_view : (f : WorkerPart → WorkerPart) (m after : Me Empty View) (w : WorkerView) → m ≡ worker_me w
-    → after ≡ (on_worker f m.0, m.1) → worker_in after.0 ≡ record w { part = f w.part }
-changed_view f m after w is told = worker_read_back after (record w { part = f w.part })
+-- a worker's sheet that changes so is what the view says
+pub changed_view : (f : WorkerSheet → WorkerSheet) (m after : Me Empty View) (w : WorkerView) → m ≡ worker_me w
+    → after ≡ (on_worker f m.0, m.1) → worker_in after.0 ≡ record w { sheet = f w.sheet }
+changed_view f m after w is told = worker_read_back after (record w { sheet = f w.sheet })
     (told ∙ ap (λ (x : Me Empty View). (on_worker f x.0, x.1)) is)
-
--- a load of a head is told by the head that was found
-pub looked_view : (chunk word : ℕ) (found : Head) (m after : Me Empty View) (w : WorkerView) → m ≡ worker_me w
-    → Spells word found → after ≡ (on_worker (noted kind.Load chunk word) m.0, m.1)
-    → worker_in after.0 ≡ record w { part = looked_at chunk found w.part }
-looked_view chunk word found m after w is spells told =
-    changed_view (noted kind.Load chunk word) m after w is told
-    ∙ ap (λ (n : ℕ). record w { part = noted kind.Load chunk n w.part }) spells.0
 
 -- so is one by which a glance begins
 pub begun_view : (chunk word : ℕ) (found : Head) (row : List ℕ) (m after : Me Empty View) (w : WorkerView)
     → m ≡ worker_me w → Spells word found → after ≡ (on_worker (worker_after_glance chunk word row) m.0, m.1)
-    → worker_in after.0 ≡ record w { part = glancing_at (life chunk found.generation) found row w.part }
+    → worker_in after.0 ≡ record w { sheet = glancing_at (life chunk found.generation) found row w.sheet }
 begun_view chunk word found row m after w is spells told =
     changed_view (worker_after_glance chunk word row) m after w is told
     ∙ ap (λ (g : ℕ). record w {
-      part = record (noted kind.Load chunk word w.part) { glances = new_glance (life chunk g) row ∷ w.part.glances };
+      sheet = record (noted kind.Load chunk word w.sheet) { glances = new_glance (life chunk g) row ∷ w.sheet.glances };
     }) (fields word found spells).generation
     ∙ ap (λ (n : ℕ). record w {
-      part = record (noted kind.Load chunk n w.part) {
-        glances = new_glance (life chunk found.generation) row ∷ w.part.glances;
+      sheet = record (noted kind.Load chunk n w.sheet) {
+        glances = new_glance (life chunk found.generation) row ∷ w.sheet.glances;
       };
     }) spells.0
 
 -- while the life lasts each word that the worker's last glance loaded is the life's
 pub faithful : (item : ItemId) (word : ℕ) (found : Head) (m : Me Empty View) (w : WorkerView) → m ≡ worker_me w
-    → Spells word found → Found word (IsFaithful item.chunk m.0) → (last : IsGlancing item w.part)
+    → Spells word found → Found word (IsFaithful item.chunk m.0) → (last : IsGlancing item w.sheet)
     → IsLinkedLife item found → last.glance.agrees ≡ true
 faithful item word found m w is spells told last lives =
     let whole : IsFaithful item.chunk (worker_me w).0 found = subst (λ (x : Me Empty View). IsFaithful item.chunk x.0 found)
     is (told_of word found (IsFaithful item.chunk m.0) spells told) in
     whole (record {
-      worker = w.part;
+      worker = w.sheet;
       workers = refl;
       glance = last.glance;
       glances = last.first;
@@ -68,7 +60,7 @@ faithful item word found m w is spells told last lives =
     }) lives.linked (lives.generation ∙ ap (λ (i : ItemId). i.generation) (sym last.of))
 
 -- a load of a head attempts nothing
-pub look_kept : (chunk word : ℕ) (p : WorkerPart) → IsWorkerPart p → IsWorkerPart (noted kind.Load chunk word p)
+pub look_kept : (chunk word : ℕ) (p : WorkerSheet) → IsWorkerSheet p → IsWorkerSheet (noted kind.Load chunk word p)
 look_kept chunk word p is = record {
   accounts = is.accounts;
   attempts = omega (arith, is.attempts, attempts_push p.steps (record { kind = kind.Load; chunk = chunk; word = word; bump = None }));

@@ -14,8 +14,8 @@ use Rattle.bump_word.specs.Words.{Spells, word_of}
 use Rattle.bump_word.proofs.Words.{fields, one_head}
 use Rattle.bump_steps.specs.declared.views.Empty.{Empty}
 use Rattle.bump_steps.specs.declared.views.Kind.TheVariants as kind
-use Rattle.bump_steps.specs.declared.views.HoldPart.{HoldPart}
-use Rattle.bump_steps.specs.declared.views.WorkerPart.{WorkerPart}
+use Rattle.bump_steps.specs.declared.views.HoldSheet.{HoldSheet}
+use Rattle.bump_steps.specs.declared.views.WorkerSheet.{WorkerSheet}
 use Rattle.bump_readers.specs.declared.views.WorkerView.{WorkerView}
 use Rattle.bump_steps.specs.declared.views.View.{View}
 use Rattle.bump_steps.specs.Views.{held, is_life_of, is_fetch_of, weight}
@@ -33,7 +33,7 @@ first_listed (Some x) = refl
 
 -- a worker's view is read back from its seat
 worker_back : (v : WorkerView) → worker_in (worker_me v).0 ≡ v
-worker_back v = ap (λ (o : Option HoldPart). record v { hold = o }) (first_listed v.hold)
+worker_back v = ap (λ (o : Option HoldSheet). record v { hold = o }) (first_listed v.hold)
 
 -- the view after is what the seat says
 pub worker_read_back : (m : Me Empty View) (v : WorkerView) → m ≡ worker_me v → worker_in m.0 ≡ v
@@ -44,24 +44,24 @@ pub refers : (v : WorkerView) (l : ItemId) → held_life v.hold ≡ Some l → 0
     (worker_me v).0
 refers v l holds = by v.hold holds
   where
-    by : (o : Option HoldPart) → held_life o ≡ Some l → 0 < weight l.chunk (held l.generation)
+    by : (o : Option HoldSheet) → held_life o ≡ Some l → 0 < weight l.chunk (held l.generation)
         (worker_me (record v { hold = o })).0
     by None e = absurd (cc e)
     by (Some h) e = let one : one_if (life l.chunk l.generation) h.life ≡ 1 = ap (is_life_of l.chunk l.generation) e
         ∙ one_life l in omega (arith, one)
 
 -- what the worker knows of the head found, and its view after a step
-pub record Touched (change : ItemId → Head → WorkerPart → WorkerPart) (v : WorkerView) (l : ItemId) (h : Head)
+pub record Touched (change : ItemId → Head → WorkerSheet → WorkerSheet) (v : WorkerView) (l : ItemId) (h : Head)
     (m : Me Empty View) : Type 0 where
-  pub view : m ≡ worker_me (record v { part = change l h v.part })
+  pub view : m ≡ worker_me (record v { sheet = change l h v.sheet })
   pub fits : Spells (word_of h) h
   pub generation : h.generation ≡ l.generation
   pub count : 0 < h.refs
-  pub hit : count_of l v.part.hits ≤ bit h.fetched
-  pub saw : 0 < fetches_of l v.part → h.fetched ≡ true
+  pub hit : count_of l v.sheet.hits ≤ bit h.fetched
+  pub saw : 0 < fetches_of l v.sheet → h.fetched ≡ true
 
 -- a step of a worker's seat with a hold
-pub touched : (operand : ℕ) (change : ItemId → Head → WorkerPart → WorkerPart) (m m₁ : Me Empty View)
+pub touched : (operand : ℕ) (change : ItemId → Head → WorkerSheet → WorkerSheet) (m m₁ : Me Empty View)
     (v w : WorkerView) (l : ItemId) (x r : ℕ) (h : Head) → m ≡ worker_me v → v ≡ w → held_life w.hold ≡ Some l
     → changed_by operand change l.chunk x m r m₁ → Spells r h → Touched change w l h m₁
 touched operand change m m₁ v w l x r h is same holds told spells =
@@ -74,14 +74,14 @@ touched operand change m m₁ v w l x r h is same holds told spells =
     let some = refers w l holds in
     let gen : h.generation ≡ l.generation = sym (knows.held l.generation some) in
     let stepped : ◌≡◌ {A = Me Empty View} (on_worker (change (life l.chunk g.generation) g) m.0, m.1)
-    (worker_me (record w { part = change (life l.chunk h.generation) h w.part })) =
+    (worker_me (record w { sheet = change (life l.chunk h.generation) h w.sheet })) =
     λ i. (on_worker (change (life l.chunk (e i).generation) (e i)) (now i).0, (now i).1) in record {
-      view = f.2.0 ∙ stepped ∙ ap (λ (k : ℕ). worker_me (record w { part = change (life l.chunk k) h w.part })) gen;
+      view = f.2.0 ∙ stepped ∙ ap (λ (k : ℕ). worker_me (record w { sheet = change (life l.chunk k) h w.sheet })) gen;
       fits = (refl, spells.1);
       generation = gen;
       count = omega (arith, some, knows.many l.generation);
-      hit = subst (λ (k : ℕ). count_of (life l.chunk k) w.part.hits ≤ bit h.fetched) gen (omega (arith, knows.hit));
-      saw = λ many. knows.saw (subst (λ (k : ℕ). 0 < how_many (is_fetch_of l.chunk k) w.part.steps + 0) (sym gen)
+      hit = subst (λ (k : ℕ). count_of (life l.chunk k) w.sheet.hits ≤ bit h.fetched) gen (omega (arith, knows.hit));
+      saw = λ many. knows.saw (subst (λ (k : ℕ). 0 < how_many (is_fetch_of l.chunk k) w.sheet.steps + 0) (sym gen)
           (omega (arith, many)));
     }
 
@@ -93,7 +93,7 @@ may_touch m v w l is same holds = subst (λ (x : Me Empty View). RefersTo l.chun
 
 -- and may mark it, if it fetched it
 pub may_mark : (m : Me Empty View) (v w : WorkerView) (l : ItemId) → m ≡ worker_me v → v ≡ w
-    → held_life w.hold ≡ Some l → 0 < fetches_of l w.part → MayMark l.chunk m.0
+    → held_life w.hold ≡ Some l → 0 < fetches_of l w.sheet → MayMark l.chunk m.0
 may_mark m v w l is same holds many = subst (λ (x : Me Empty View). MayMark l.chunk x.0)
     (sym (is ∙ ap worker_me same)) (l.generation, refers w l holds, omega (arith, many))
 
@@ -114,12 +114,12 @@ named_once l false hits below = omega (arith, below, count_push l l hits, one_li
 
 -- and is named once after the fetch
 pub once_after : (v : WorkerView) (l : ItemId) (h : Head) (m : Me Empty View) → Touched worker_after_fetch v l h m
-    → count_of l (worker_in m.0).part.hits ≤ 1
-once_after v l h m t = subst (λ (x : Me Empty View). count_of l (worker_in x.0).part.hits ≤ 1) (sym t.view)
-    (named_once l h.fetched v.part.hits t.hit)
+    → count_of l (worker_in m.0).sheet.hits ≤ 1
+once_after v l h m t = subst (λ (x : Me Empty View). count_of l (worker_in x.0).sheet.hits ≤ 1) (sym t.view)
+    (named_once l h.fetched v.sheet.hits t.hit)
 
 -- a fetch is one of the life's fetches
-has_fetch : (l : ItemId) (h : Head) (p : WorkerPart) → Spells (word_of h) h → h.generation ≡ l.generation
+has_fetch : (l : ItemId) (h : Head) (p : WorkerSheet) → Spells (word_of h) h → h.generation ≡ l.generation
     → 0 < fetches_of l (worker_after_fetch l h p)
 has_fetch l h p fits gen = omega (
   arith,
@@ -131,18 +131,18 @@ has_fetch l h p fits gen = omega (
 
 -- a worker that made a fetch has it in its steps
 pub noted_after : (v : WorkerView) (l : ItemId) (h : Head) (m : Me Empty View) → Touched worker_after_fetch v l h m
-    → 0 < fetches_of l (worker_in m.0).part
-noted_after v l h m t = subst (λ (x : Me Empty View). 0 < fetches_of l (worker_in x.0).part) (sym t.view)
-    (has_fetch l h v.part t.fits t.generation)
+    → 0 < fetches_of l (worker_in m.0).sheet
+noted_after v l h m t = subst (λ (x : Me Empty View). 0 < fetches_of l (worker_in x.0).sheet) (sym t.view)
+    (has_fetch l h v.sheet t.fits t.generation)
 
 -- a worker that was Idle tries where ACTIVE was clear in COLD
 pub tries_after : (v : WorkerView) (l : ItemId) (h : Head) (m : Me Empty View) → Touched worker_after_mark v l h m
-    → v.part.hand ≡ hand.Idle → (not h.active && is_cold h.segment) ≡ true → (worker_in m.0).part.hand ≡ hand.Trying l
-tries_after v l h m t idle attempts = ap (λ (x : Me Empty View). (worker_in x.0).part.hand) t.view
-    ∙ ap (λ (b : Bool). (if b then attempting l (noted kind.Mark l.chunk (word_of h) v.part) else noted kind.Mark
-    l.chunk (word_of h) v.part).hand) attempts ∙ ap (trying l) idle
+    → v.sheet.hand ≡ hand.Idle → (not h.active && is_cold h.segment) ≡ true → (worker_in m.0).sheet.hand ≡ hand.Trying l
+tries_after v l h m t idle attempts = ap (λ (x : Me Empty View). (worker_in x.0).sheet.hand) t.view
+    ∙ ap (λ (b : Bool). (if b then attempting l (noted kind.Mark l.chunk (word_of h) v.sheet) else noted kind.Mark
+    l.chunk (word_of h) v.sheet).hand) attempts ∙ ap (trying l) idle
 
 -- one that was to clear ACTIVE is Idle
 pub idle_after : (v : WorkerView) (l : ItemId) (h : Head) (m : Me Empty View) → Touched worker_after_unmark v l h m
-    → v.part.hand ≡ hand.Clearing l → (worker_in m.0).part.hand ≡ hand.Idle
-idle_after v l h m t clearing = ap (λ (x : Me Empty View). (worker_in x.0).part.hand) t.view ∙ ap done clearing
+    → v.sheet.hand ≡ hand.Clearing l → (worker_in m.0).sheet.hand ≡ hand.Idle
+idle_after v l h m t clearing = ap (λ (x : Me Empty View). (worker_in x.0).sheet.hand) t.view ∙ ap done clearing

@@ -3,9 +3,9 @@ use Rattle.std.specs.Prelude.{◌≡◌, ℕ, List, ◌∷◌, true}
 use Rattle.bump_rules.specs.declared.items.Head.{Head}
 use Rattle.bump_rules.specs.declared.items.ItemId.{ItemId}
 use Rattle.bump_word.specs.Words.{Fits, word_of}
-use Rattle.bump_steps.specs.declared.views.GlancePart.{GlancePart}
+use Rattle.bump_steps.specs.declared.views.GlanceSheet.{GlanceSheet}
 use Rattle.bump_steps.specs.declared.views.Kind.TheVariants as kind
-use Rattle.bump_steps.specs.declared.views.WorkerPart.{WorkerPart}
+use Rattle.bump_steps.specs.declared.views.WorkerSheet.{WorkerSheet}
 use Rattle.bump_steps.specs.Glances.{new_glance}
 use Rattle.bump_steps.specs.Marks.{noted}
 use Rattle.bump_steps.specs.Plays.{behind}
@@ -20,11 +20,11 @@ pub record IsLinkedLife (item : ItemId) (found : Head) : Type 0 where
   pub generation : found.generation ≡ item.generation
 
 -- the worker loaded the head of the chunk, and found this one
-abbrev pub looked_at : ℕ → Head → WorkerPart → WorkerPart
+abbrev pub looked_at : ℕ → Head → WorkerSheet → WorkerSheet
 looked_at chunk found worker = noted kind.Load chunk (word_of found) worker
 
 -- and glances at the life, whose words are these
-abbrev pub glancing_at : ItemId → Head → List ℕ → WorkerPart → WorkerPart
+abbrev pub glancing_at : ItemId → Head → List ℕ → WorkerSheet → WorkerSheet
 glancing_at item found row worker =
     record (looked_at item.chunk found worker) { glances = new_glance item row ∷ worker.glances }
 
@@ -36,10 +36,10 @@ pub record BeginsGlance (law : RowPredicate) (slots : ℕ) (item : ItemId) (foun
   pub row : List ℕ
   pub long : IsRow slots row
   pub lawful : law (words_in row)
-  pub glances : after ≡ record before { part = glancing_at item found row before.part }
+  pub glances : after ≡ record before { sheet = glancing_at item found row before.sheet }
 
 -- the worker's last glance is at this life
-pub record IsGlancing (item : ItemId) (worker : WorkerPart) : Type 0 where
-  pub glance : GlancePart
+pub record IsGlancing (item : ItemId) (worker : WorkerSheet) : Type 0 where
+  pub glance : GlanceSheet
   pub first : worker.glances ≡ glance ∷ behind worker.glances
   pub of : glance.life ≡ item

@@ -6,12 +6,12 @@ use Rattle.bump_rules.specs.declared.items.ItemId.{ItemId}
 use Rattle.bump_rules.specs.Lives.{life}
 use Rattle.bump_rules.specs.Rings.{IsAccounts}
 use Rattle.bump_steps.specs.declared.views.Empty.{Empty}
-use Rattle.bump_steps.specs.declared.views.WorkerPart.{WorkerPart}
-use Rattle.bump_steps.specs.declared.views.HoldPart.{HoldPart}
+use Rattle.bump_steps.specs.declared.views.WorkerSheet.{WorkerSheet}
+use Rattle.bump_steps.specs.declared.views.HoldSheet.{HoldSheet}
 use Rattle.bump_steps.specs.declared.views.Ride.{Ride}
 use Rattle.bump_steps.specs.declared.views.View.{View}
 use Rattle.bump_readers.specs.declared.views.WorkerView.{WorkerView}
-use Rattle.bump_steps.specs.Rule.{blank, worker_part}
+use Rattle.bump_steps.specs.Rule.{blank, worker_sheet}
 pub use Rattle.bump_steps.specs.Views.{first}
 use Rattle.bump_steps.specs.Places.{HasChunk}
 use Rattle.bump_readers.specs.Attempts.{attempts_in}
@@ -24,13 +24,13 @@ abbrev pub listed : {A : Type 0} → Option A → List A
 listed None = []
 listed (Some x) = x ∷ []
 
--- the part of a seat that has none
-abbrev pub no_worker : WorkerPart
-no_worker = worker_part 0
+-- the sheet of a seat that has none
+abbrev pub no_worker : WorkerSheet
+no_worker = worker_sheet 0
 
 -- ---- holds
 
-abbrev pub hold_me : Option HoldPart → Me Empty View
+abbrev pub hold_me : Option HoldSheet → Me Empty View
 hold_me hold = (record blank { holds = listed hold }, [])
 
 -- the seat of a hold of the life whose reference was given back where this word was found: it has the mark of that
@@ -39,26 +39,26 @@ abbrev pub spent_me : ItemId → ℕ → Me Empty View
 spent_me item word = (record blank { returned = record { life = item; word = word } ∷ [] }, [])
 
 -- the view that a hold keeps: none while it is hollow
-abbrev pub hold_views : Option HoldPart → List View
+abbrev pub hold_views : Option HoldSheet → List View
 hold_views None = []
 hold_views (Some hold) = record blank { holds = hold ∷ [] } ∷ []
 
-abbrev pub hold_in_views : List View → Option HoldPart
+abbrev pub hold_in_views : List View → Option HoldSheet
 hold_in_views [] = None
 hold_in_views (view ∷ vs) = first view.holds
 
--- the part, where it isn't with a worker or a class, is of the life
-abbrev pub IsHoldOf : ItemId → Option HoldPart → Type 0
+-- the sheet, where it isn't with a worker or a class, is of the life
+abbrev pub IsHoldOf : ItemId → Option HoldSheet → Type 0
 IsHoldOf item None = Unit {0}
 IsHoldOf item (Some hold) = hold.life ≡ item
 
 -- the words of the life that is held, if the hold is whole: its label, and then its further words
-abbrev pub row_in : Option HoldPart → List ℕ
+abbrev pub row_in : Option HoldSheet → List ℕ
 row_in None = []
 row_in (Some hold) = hold.row
 
 -- the head words that its looks found
-abbrev pub looks_in : Option HoldPart → List ℕ
+abbrev pub looks_in : Option HoldSheet → List ℕ
 looks_in None = []
 looks_in (Some hold) = hold.looks
 
@@ -74,13 +74,13 @@ ride_in view = head_or no_ride view.riders
 -- ---- workers
 
 abbrev pub worker_in : View → WorkerView
-worker_in view = record { part = head_or no_worker view.workers; hold = first view.holds }
+worker_in view = record { sheet = head_or no_worker view.workers; hold = first view.holds }
 
 abbrev pub worker_me : WorkerView → Me Empty View
-worker_me seat = (record blank { workers = seat.part ∷ []; holds = listed seat.hold }, [])
+worker_me seat = (record blank { workers = seat.sheet ∷ []; holds = listed seat.hold }, [])
 
 -- the life of a hold, if there is one
-abbrev pub held_life : Option HoldPart → Option ItemId
+abbrev pub held_life : Option HoldSheet → Option ItemId
 held_life None = None
 held_life (Some hold) = Some hold.life
 
@@ -88,8 +88,8 @@ abbrev pub IsLifeInRange : TableId → Option ItemId → Type 0
 IsLifeInRange table None = Unit {0}
 IsLifeInRange table (Some item) = HasChunk table item.chunk
 
--- What each worker's part keeps of its accounts.
-pub record IsWorkerPart (worker : WorkerPart) : Type 0 where
+-- What each worker's sheet keeps of its accounts.
+pub record IsWorkerSheet (worker : WorkerSheet) : Type 0 where
   -- accepted and dropped bumps, and the attempt under way, add up to those attempted
   pub accounts : IsAccounts worker.accounts worker.accounts.accepted worker.hand
   -- and attempted are as many as the worker's own steps that set ACTIVE where they found it clear in COLD

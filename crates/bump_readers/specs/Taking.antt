@@ -13,7 +13,7 @@ use Rattle.bump_steps.specs.Tries.{AskedFound, TakeFound, of_any, of_life, last_
 
 -- a whole hold of a life that has these words, and which looked at no head
 abbrev pub whole_hold : ItemId → List ℕ → HoldView
-whole_hold item row = record { life = item; part = Some (new_hold item row) }
+whole_hold item row = record { life = item; sheet = Some (new_hold item row) }
 
 -- the answer: a hold of the life, or the refusal
 abbrev pub take_answer : Option TakeRefusal → ItemId → List ℕ → Result HoldView TakeRefusal
@@ -30,7 +30,7 @@ pub record Took (limit : ℕ) (item : ItemId) (before after : WorkerView) (answe
   -- nothing is new to the worker but the steps, and the hold with this row, if it took one: where the call is refused
   -- none of them changed the word
   pub steps : after ≡ record before
-      { part = worker_after_asked limit (of_life item) item.chunk first more row before.part }
+      { sheet = worker_after_asked limit (of_life item) item.chunk first more row before.sheet }
   pub answer : answered ≡ take_answer (refusal_of limit item first more) item row
 
 -- ---- of whatever life is linked
@@ -50,7 +50,7 @@ pub record TookAny (limit chunk : ℕ) (before after : WorkerView)
   pub row : List ℕ
   -- nothing is new to the worker but the steps, and the hold with this row, if it took one: where the call is refused
   -- none of them changed the word
-  pub steps : after ≡ record before { part = worker_after_asked limit of_any chunk first more row before.part }
+  pub steps : after ≡ record before { sheet = worker_after_asked limit of_any chunk first more row before.sheet }
   pub answer : answered ≡ take_any_answer (asked_refusal limit of_any first more) (asked_life of_any chunk first more)
       row (last_found first more)
 

@@ -16,7 +16,7 @@ use std::marker::{Model, PhantomData};
 
 /// A worker's look at a life that it found linked, without a reference: nothing keeps the chunk, so a word that is
 /// loaded may be another life's. `ReaderHeads::end_glance` tells whether each was its own. What it found stands in the
-/// worker's part.
+/// worker's sheet.
 #[derive(Drop)]
 pub struct Glance<N: Name> {
     life: ItemId,
@@ -55,7 +55,7 @@ impl<N: Name, L: RowLaw> ReaderHeads<N, L> {
         ensures gone { IfErr result (λ found. found.linked ≡ false) }
         ensures fits { IfErr result Fits }
         ensures looked { IfErr result (λ found. worker.new ≡ record worker.old {
-          part = looked_at chunk found worker.old.part;
+          sheet = looked_at chunk found worker.old.sheet;
         }) }
     {
         let place = self.words.head_at(chunk);
@@ -78,8 +78,8 @@ impl<N: Name, L: RowLaw> ReaderHeads<N, L> {
     /// The chunk's label, by one load. The glance is the worker's last one.
     #[inline(always)]
     pub fn glance_label(&self, worker: &mut WorkerSeat<N>, glance: &Glance<N>) -> u64
-        requires glance { IsGlancing glance.now worker.old.part }
-        ensures loaded { worker.new ≡ record worker.old { part = worker_after_glance_load 0 result worker.old.part } }
+        requires glance { IsGlancing glance.now worker.old.sheet }
+        ensures loaded { worker.new ≡ record worker.old { sheet = worker_after_glance_load 0 result worker.old.sheet } }
     {
         self.words
             .glance_label(&mut worker.seat, glance.life.chunk, glance.place)
@@ -88,10 +88,10 @@ impl<N: Name, L: RowLaw> ReaderHeads<N, L> {
     /// One of the chunk's further words, by one load. The glance is the worker's last one.
     #[inline(always)]
     pub fn glance_word(&self, worker: &mut WorkerSeat<N>, glance: &Glance<N>, index: u32) -> u64
-        requires glance { IsGlancing glance.now worker.old.part }
+        requires glance { IsGlancing glance.now worker.old.sheet }
         requires index { index < N.table.slots }
         ensures loaded { worker.new ≡ record worker.old {
-          part = worker_after_glance_load (suc index) result worker.old.part;
+          sheet = worker_after_glance_load (suc index) result worker.old.sheet;
         } }
     {
         self.words
@@ -102,11 +102,11 @@ impl<N: Name, L: RowLaw> ReaderHeads<N, L> {
     /// the glance loaded is the life's. The glance is the worker's last one.
     #[inline(always)]
     pub fn end_glance(&self, worker: &mut WorkerSeat<N>, glance: &Glance<N>) -> Head
-        requires glance { IsGlancing glance.now worker.old.part }
+        requires glance { IsGlancing glance.now worker.old.sheet }
         ensures looked { worker.new ≡ record worker.old {
-          part = looked_at glance.now.chunk result worker.old.part;
+          sheet = looked_at glance.now.chunk result worker.old.sheet;
         } }
-        ensures faithful { (last : IsGlancing glance.now worker.old.part) → IsLinkedLife glance.now result
+        ensures faithful { (last : IsGlancing glance.now worker.old.sheet) → IsLinkedLife glance.now result
             → last.glance.agrees ≡ true }
         ensures fits { Fits result }
     {

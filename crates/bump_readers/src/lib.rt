@@ -21,8 +21,8 @@ pub use bump_rules::{
     LabelStep, LaneStage, Outcome, Segment,
 };
 pub use bump_steps::{
-    AnyRefusal, AnyRow, ClassPart, Empty, GlancePart, HoldPart, Kind, LanePart, OwnStep, Ride,
-    RideRefusal, RowLaw, Rule, Seat, TakeRefusal, View, WordStep, Words, WorkerPart,
+    AnyRefusal, AnyRow, ClassSheet, Empty, GlanceSheet, HoldSheet, Kind, LaneSheet, OwnStep, Ride,
+    RideRefusal, RowLaw, Rule, Seat, TakeRefusal, View, WordStep, Words, WorkerSheet,
 };
 pub use glances::Glance;
 pub use heads::ReaderHeads;

@@ -45,7 +45,7 @@ impl<N: Name> Rider<N> {
         self.life
     }
 
-    /// What it is made of, for a lane that it boards: a seat that has its part alone, and the life.
+    /// What it is made of, for a lane that it boards: a seat that has its sheet alone, and the life.
     pub fn into_parts(self) -> (Seat, ItemId)
         ensures life { result.1 ≡ self.life }
         ensures seat { result.0.me ≡ ride_me self }

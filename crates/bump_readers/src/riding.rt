@@ -4,7 +4,7 @@ ghost use Rattle.bump_rules.specs.declared.hands.Hand.TheVariants.{Idle, Trying,
 ghost use Rattle.bump_rules.specs.declared.items.Head.{Head as TheHead};
 ghost use Rattle.bump_word.specs.Words.{Fits};
 ghost use Rattle.bump_steps.specs.Places.{head_place};
-ghost use Rattle.bump_steps.specs.declared.views.HoldPart.{HoldPart as TheHoldPart};
+ghost use Rattle.bump_steps.specs.declared.views.HoldSheet.{HoldSheet as TheHoldSheet};
 ghost use Rattle.bump_steps.specs.Rides.{worker_after_release, returned};
 ghost use Rattle.bump_readers.specs.Riding.{Rode, ride_of};
 
@@ -40,13 +40,13 @@ impl<N: Name, L: RowLaw> ReaderHeads<N, L> {
         place: usize,
     ) -> Result<Rider<N>, RideRefusal>
         requires place { place ≡ head_place N.table.slots life.chunk }
-        requires held { (h : TheHoldPart) × (worker.old.hold ≡ Some h) × (h.life ≡ life) }
-        requires trying { worker.old.part.hand ≡ Trying life }
+        requires held { (h : TheHoldSheet) × (worker.old.hold ≡ Some h) × (h.life ≡ life) }
+        requires trying { worker.old.sheet.hand ≡ Trying life }
         ensures rode { (first : TheHead) × (more : List TheHead)
             × Rode self.now.refs_limit life worker.old worker.new result first more }
-        ensures rider { IfOk result (λ r. r ≡ ride_of worker.old worker.old.part.accounts.accepted life) }
-        ensures idle { OnOk result (worker.new.part.hand ≡ Idle) }
-        ensures dropped { OnErr result (worker.new.part.hand ≡ Clearing life) }
+        ensures rider { IfOk result (λ r. r ≡ ride_of worker.old worker.old.sheet.accounts.accepted life) }
+        ensures idle { OnOk result (worker.new.sheet.hand ≡ Idle) }
+        ensures dropped { OnErr result (worker.new.sheet.hand ≡ Clearing life) }
         ensures hold { worker.new.hold ≡ worker.old.hold }
     {
         if let Some(refusal) = self
@@ -55,9 +55,9 @@ impl<N: Name, L: RowLaw> ReaderHeads<N, L> {
         {
             return Err(refusal);
         }
-        let part = self.words.part_ride(&mut worker.seat);
+        let sheet = self.words.part_ride(&mut worker.seat);
         Ok(Rider {
-            seat: part,
+            seat: sheet,
             life,
             of: PhantomData,
         })
@@ -67,18 +67,18 @@ impl<N: Name, L: RowLaw> ReaderHeads<N, L> {
     /// the worker is idle, and has a whole hold of the rider's life joined to its seat. The reference is in its hand
     /// again, and the bump no longer counts as accepted, so that the next one gets its number. No word is changed.
     pub fn rider_back(&self, worker: &mut WorkerSeat<N>, rider: Rider<N>)
-        requires held { (h : TheHoldPart) × (worker.old.hold ≡ Some h) × (h.life ≡ rider.life) }
-        requires idle { worker.old.part.hand ≡ Idle }
-        requires own { rider.worker ≡ worker.old.part.worker }
-        requires last { rider.number + 1 ≡ worker.old.part.accounts.accepted }
-        ensures { worker.new ≡ record worker.old { part = returned rider worker.old.part } }
+        requires held { (h : TheHoldSheet) × (worker.old.hold ≡ Some h) × (h.life ≡ rider.life) }
+        requires idle { worker.old.sheet.hand ≡ Idle }
+        requires own { rider.worker ≡ worker.old.sheet.worker }
+        requires last { rider.number + 1 ≡ worker.old.sheet.accounts.accepted }
+        ensures { worker.new ≡ record worker.old { sheet = returned rider worker.old.sheet } }
     {
         let Rider {
-            seat: part,
+            seat: sheet,
             life: _,
             of: _,
         } = rider;
-        self.words.rider_back(&mut worker.seat, part);
+        self.words.rider_back(&mut worker.seat, sheet);
     }
 
     /// Gives the reference in the worker's hand back by one subtraction, since its ring had no room, as memcached's
@@ -87,9 +87,9 @@ impl<N: Name, L: RowLaw> ReaderHeads<N, L> {
     /// counts the bump as dropped for want of room, and is to clear ACTIVE by `unmark`.
     pub fn give_back_bump(&self, worker: &mut WorkerSeat<N>, life: ItemId, place: usize) -> Head
         requires place { place ≡ head_place N.table.slots life.chunk }
-        requires held { (h : TheHoldPart) × (worker.old.hold ≡ Some h) × (h.life ≡ life) }
-        requires in_hand { worker.old.part.hand ≡ InHand life }
-        ensures worker { worker.new ≡ record worker.old { part = worker_after_release life result worker.old.part } }
+        requires held { (h : TheHoldSheet) × (worker.old.hold ≡ Some h) × (h.life ≡ life) }
+        requires in_hand { worker.old.sheet.hand ≡ InHand life }
+        ensures worker { worker.new ≡ record worker.old { sheet = worker_after_release life result worker.old.sheet } }
         ensures generation { result.generation ≡ life.generation }
         ensures counted { 2 ≤ result.refs }
         ensures fits { Fits result }

@@ -20,7 +20,7 @@ impl<N: Name> Hold<N> {
     // Only a hold whose reference was given back may go: it is hollow, and the seat that it had has the mark of the
     // step that gave back a reference to its life, and nothing else.
     fn forget(self, spent: &Seat, found: Head)
-        requires hollow { self.part ≡ None }
+        requires hollow { self.sheet ≡ None }
         requires spent { spent.now.me ≡ spent_me self.life (word_of found) }
     {
         let _seat = spent;
@@ -56,17 +56,17 @@ impl<N: Name, L: RowLaw> ReaderHeads<N, L> {
         ensures took { (first : TheHead) × (more : List TheHead)
             × Took self.now.refs_limit life worker.old worker.new result first more }
         ensures alone { worker.new.hold ≡ None }
-        ensures hold { IfOk result (λ h. h ≡ whole_hold life (row_in h.part)) }
-        ensures row { IfOk result (λ h. IsRow N.table.slots (row_in h.part)) }
-        ensures law { IfOk result (λ h. L.law (words_in (row_in h.part))) }
+        ensures hold { IfOk result (λ h. h ≡ whole_hold life (row_in h.sheet)) }
+        ensures row { IfOk result (λ h. IsRow N.table.slots (row_in h.sheet)) }
+        ensures law { IfOk result (λ h. L.law (words_in (row_in h.sheet))) }
     {
         let place = self.words.head_at(life.chunk);
         if let Some(refusal) = self.words.take(&mut worker.seat, life, place, &self.limit) {
             return Err(refusal);
         }
-        let part = self.words.part_holds(&mut worker.seat);
+        let sheet = self.words.part_holds(&mut worker.seat);
         Ok(Hold {
-            badge: part.into_badge(),
+            badge: sheet.into_badge(),
             life,
             place,
             of: PhantomData,
@@ -98,9 +98,9 @@ impl<N: Name, L: RowLaw> ReaderHeads<N, L> {
         ensures alone { worker.new.hold ≡ None }
         ensures chunk { IfOk result (λ told. told.0.life.chunk ≡ chunk) }
         ensures found { IfOk result (λ told. IsTakenBy self.now.refs_limit told.0.life told.1) }
-        ensures hold { IfOk result (λ told. told.0 ≡ whole_hold told.0.life (row_in told.0.part)) }
-        ensures row { IfOk result (λ told. IsRow N.table.slots (row_in told.0.part)) }
-        ensures law { IfOk result (λ told. L.law (words_in (row_in told.0.part))) }
+        ensures hold { IfOk result (λ told. told.0 ≡ whole_hold told.0.life (row_in told.0.sheet)) }
+        ensures row { IfOk result (λ told. IsRow N.table.slots (row_in told.0.sheet)) }
+        ensures law { IfOk result (λ told. L.law (words_in (row_in told.0.sheet))) }
     {
         let at = self.words.head_at(chunk);
         let word = match self
@@ -110,10 +110,10 @@ impl<N: Name, L: RowLaw> ReaderHeads<N, L> {
             Ok(word) => word,
             Err(refusal) => return Err(refusal),
         };
-        let part = self.words.part_holds(&mut worker.seat);
+        let sheet = self.words.part_holds(&mut worker.seat);
         let found = head_of(word);
         let hold = Hold {
-            badge: part.into_badge(),
+            badge: sheet.into_badge(),
             life: ItemId {
                 chunk,
                 generation: found.generation,
@@ -129,7 +129,7 @@ impl<N: Name, L: RowLaw> ReaderHeads<N, L> {
     /// hold had: it has the mark of the step, which found that head, and nothing else. The hold is whole. Its chunk may
     /// become free from then on.
     pub fn give_back(&self, hold: Hold<N>) -> (Head, Seat)
-        requires whole { IsSome hold.part }
+        requires whole { IsSome hold.sheet }
         ensures generation { result.0.generation ≡ hold.life.generation }
         ensures counted { 0 < result.0.refs }
         ensures fits { Fits result.0 }
@@ -145,8 +145,8 @@ impl<N: Name, L: RowLaw> ReaderHeads<N, L> {
     // The reference is given back, so that the hold is hollow from then on. Its seat, which is answered too, has the
     // mark of the step, which found the head that is answered.
     fn release(&self, hold: &mut Hold<N>) -> (Head, Seat)
-        requires whole { IsSome hold.old.part }
-        ensures hollow { hold.new ≡ record hold.old { part = None } }
+        requires whole { IsSome hold.old.sheet }
+        ensures hollow { hold.new ≡ record hold.old { sheet = None } }
         ensures generation { result.0.generation ≡ hold.old.life.generation }
         ensures counted { 0 < result.0.refs }
         ensures fits { Fits result.0 }
@@ -161,8 +161,8 @@ impl<N: Name, L: RowLaw> ReaderHeads<N, L> {
     /// The chunk's label, by one load: a number that was stored before the hold's life began, as memcached's key and
     /// value of an item are. It is the first word of the hold's row. The hold is whole, and nothing changes.
     pub fn label_of(&self, hold: &mut Hold<N>) -> u64
-        requires whole { IsSome hold.old.part }
-        ensures is { result ≡ label_of_row (row_in hold.old.part) }
+        requires whole { IsSome hold.old.sheet }
+        ensures is { result ≡ label_of_row (row_in hold.old.sheet) }
         ensures same { hold.new ≡ hold.old }
     {
         let mut seat = hold.seat_out();
@@ -174,9 +174,9 @@ impl<N: Name, L: RowLaw> ReaderHeads<N, L> {
     /// One of the chunk's further words, by one load: a number that was stored before the hold's life began. It stands in
     /// the hold's row, behind the label. The hold is whole, and nothing changes.
     pub fn word_of(&self, hold: &mut Hold<N>, index: u32) -> u64
-        requires whole { IsSome hold.old.part }
+        requires whole { IsSome hold.old.sheet }
         requires index { index < N.table.slots }
-        ensures is { result ≡ word_of_row (row_in hold.old.part) index }
+        ensures is { result ≡ word_of_row (row_in hold.old.sheet) index }
         ensures same { hold.new ≡ hold.old }
     {
         let mut seat = hold.seat_out();
@@ -190,9 +190,9 @@ impl<N: Name, L: RowLaw> ReaderHeads<N, L> {
     /// Looks at the head of the item that the hold holds, by one load, and answers it: of the hold's life, and with a
     /// count of at least 1. The hold is whole, and its view keeps the word. Nothing else changes.
     pub fn load_head(&self, hold: &mut Hold<N>) -> Head
-        requires whole { IsSome hold.old.part }
+        requires whole { IsSome hold.old.sheet }
         ensures looked { hold.new ≡ record hold.old {
-          part = option_map (hold_after_load (word_of result)) hold.old.part;
+          sheet = option_map (hold_after_load (word_of result)) hold.old.sheet;
         } }
         ensures generation { result.generation ≡ hold.old.life.generation }
         ensures counted { 0 < result.refs }
@@ -209,7 +209,7 @@ impl<N: Name, L: RowLaw> ReaderHeads<N, L> {
 
     /// The head and the time of a chunk of the store, by two loads, between which other threads may change both. No
     /// seat is needed: the load of the head makes one, which comes with them. It has that load in its list, of this
-    /// chunk and with the word of this head, and no part. Of the time nothing is promised.
+    /// chunk and with the word of this head, and no sheet. Of the time nothing is promised.
     pub fn see(&self, chunk: u32) -> (Head, u64, Seat)
         requires chunk { chunk < all_chunks self.now }
         ensures seen { result.2.me ≡ seen_me chunk (word_of result.0) }

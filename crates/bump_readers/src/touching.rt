@@ -7,7 +7,7 @@ ghost use Rattle.bump_rules.specs.Rings.{most_attempts};
 ghost use Rattle.bump_rules.specs.Tables.{attempts_bump};
 ghost use Rattle.bump_word.specs.Words.{Fits};
 ghost use Rattle.bump_steps.specs.Places.{head_place};
-ghost use Rattle.bump_steps.specs.declared.views.HoldPart.{HoldPart as TheHoldPart};
+ghost use Rattle.bump_steps.specs.declared.views.HoldSheet.{HoldSheet as TheHoldSheet};
 ghost use Rattle.bump_readers.specs.Seats.{held_life};
 ghost use Rattle.bump_steps.specs.Marks.{worker_after_fetch, worker_after_mark, worker_after_unmark};
 ghost use Rattle.bump_steps.specs.Marks.{worker_after_store_time};
@@ -24,11 +24,11 @@ impl<N: Name, L: RowLaw> ReaderHeads<N, L> {
     /// Joins the hold to the worker's seat, for a touch: the worker must be Idle and have no other hold. From then on
     /// the worker makes the steps of the touch, and the hold is hollow until `hold_out`.
     pub fn hold_in(&self, worker: &mut WorkerSeat<N>, hold: &mut Hold<N>)
-        requires idle { worker.old.part.hand ≡ hand.Idle }
+        requires idle { worker.old.sheet.hand ≡ hand.Idle }
         requires alone { worker.old.hold ≡ None }
-        requires whole { IsSome hold.old.part }
-        ensures worker { worker.new ≡ record worker.old { hold = hold.old.part } }
-        ensures hollow { hold.new ≡ record hold.old { part = None } }
+        requires whole { IsSome hold.old.sheet }
+        ensures worker { worker.new ≡ record worker.old { hold = hold.old.sheet } }
+        ensures hollow { hold.new ≡ record hold.old { sheet = None } }
     {
         self.words.join(&mut worker.seat, hold.seat_out());
     }
@@ -36,11 +36,11 @@ impl<N: Name, L: RowLaw> ReaderHeads<N, L> {
     /// Splits the hold off again: it must be the one that was joined, and the worker must be Idle, since an attempted
     /// bump needs the hold until it is over.
     pub fn hold_out(&self, worker: &mut WorkerSeat<N>, hold: &mut Hold<N>)
-        requires idle { worker.old.part.hand ≡ hand.Idle }
-        requires hollow { hold.old.part ≡ None }
-        requires joined { (h : TheHoldPart) × (worker.old.hold ≡ Some h) × (h.life ≡ hold.old.life) }
+        requires idle { worker.old.sheet.hand ≡ hand.Idle }
+        requires hollow { hold.old.sheet ≡ None }
+        requires joined { (h : TheHoldSheet) × (worker.old.hold ≡ Some h) × (h.life ≡ hold.old.life) }
         ensures worker { worker.new ≡ record worker.old { hold = None } }
-        ensures whole { hold.new ≡ record hold.old { part = worker.old.hold } }
+        ensures whole { hold.new ≡ record hold.old { sheet = worker.old.hold } }
     {
         hold.seat_in(self.words.part_holds(&mut worker.seat));
     }
@@ -52,16 +52,16 @@ impl<N: Name, L: RowLaw> ReaderHeads<N, L> {
     /// which had not named it. No life is named twice, whichever worker hits it.
     pub fn mark_fetched(&self, worker: &mut WorkerSeat<N>, life: ItemId, place: usize) -> Head
         requires place { place ≡ head_place N.table.slots life.chunk }
-        requires idle { worker.old.part.hand ≡ hand.Idle }
+        requires idle { worker.old.sheet.hand ≡ hand.Idle }
         requires held { held_life worker.old.hold ≡ Some life }
-        ensures worker { worker.new ≡ record worker.old { part = worker_after_fetch life result worker.old.part } }
+        ensures worker { worker.new ≡ record worker.old { sheet = worker_after_fetch life result worker.old.sheet } }
         ensures fits { Fits result }
         ensures generation { result.generation ≡ life.generation }
         ensures count { 0 < result.refs }
-        ensures first { result.fetched ≡ false → count_of life worker.old.part.hits ≡ 0 }
-        ensures named { 0 < count_of life worker.old.part.hits → result.fetched ≡ true }
-        ensures once { count_of life worker.new.part.hits ≤ 1 }
-        ensures noted { 0 < fetches_of life worker.new.part }
+        ensures first { result.fetched ≡ false → count_of life worker.old.sheet.hits ≡ 0 }
+        ensures named { 0 < count_of life worker.old.sheet.hits → result.fetched ≡ true }
+        ensures once { count_of life worker.new.sheet.hits ≤ 1 }
+        ensures noted { 0 < fetches_of life worker.new.sheet }
     {
         head_of(self.words.mark_fetched(&mut worker.seat, life.chunk, place))
     }
@@ -74,13 +74,13 @@ impl<N: Name, L: RowLaw> ReaderHeads<N, L> {
     /// reference for it.
     pub fn mark_active(&self, worker: &mut WorkerSeat<N>, life: ItemId, place: usize) -> Head
         requires place { place ≡ head_place N.table.slots life.chunk }
-        requires idle { worker.old.part.hand ≡ hand.Idle }
+        requires idle { worker.old.sheet.hand ≡ hand.Idle }
         requires held { held_life worker.old.hold ≡ Some life }
-        requires fetched { 0 < fetches_of life worker.old.part }
-        requires attempts { worker.old.part.accounts.attempted < most_attempts }
-        ensures worker { worker.new ≡ record worker.old { part = worker_after_mark life result worker.old.part } }
+        requires fetched { 0 < fetches_of life worker.old.sheet }
+        requires attempts { worker.old.sheet.accounts.attempted < most_attempts }
+        ensures worker { worker.new ≡ record worker.old { sheet = worker_after_mark life result worker.old.sheet } }
         ensures fits { Fits result }
-        ensures tries { attempts_bump result ≡ true → worker.new.part.hand ≡ hand.Trying life }
+        ensures tries { attempts_bump result ≡ true → worker.new.sheet.hand ≡ hand.Trying life }
         ensures generation { result.generation ≡ life.generation }
         ensures count { 0 < result.refs }
         ensures fetched { result.fetched ≡ true }
@@ -93,14 +93,14 @@ impl<N: Name, L: RowLaw> ReaderHeads<N, L> {
     /// must have dropped a bump of the item; it is Idle from then on. So one more hit attempts the bump again.
     pub fn unmark(&self, worker: &mut WorkerSeat<N>, life: ItemId, place: usize) -> Head
         requires place { place ≡ head_place N.table.slots life.chunk }
-        requires clearing { worker.old.part.hand ≡ hand.Clearing life }
+        requires clearing { worker.old.sheet.hand ≡ hand.Clearing life }
         requires held { held_life worker.old.hold ≡ Some life }
-        ensures worker { worker.new ≡ record worker.old { part = worker_after_unmark life result worker.old.part } }
+        ensures worker { worker.new ≡ record worker.old { sheet = worker_after_unmark life result worker.old.sheet } }
         ensures fits { Fits result }
-        ensures idle { worker.new.part.hand ≡ hand.Idle }
+        ensures idle { worker.new.sheet.hand ≡ hand.Idle }
         ensures generation { result.generation ≡ life.generation }
         ensures count { 0 < result.refs }
-        ensures fetched { 0 < fetches_of life worker.old.part → result.fetched ≡ true }
+        ensures fetched { 0 < fetches_of life worker.old.sheet → result.fetched ≡ true }
     {
         head_of(self.words.unmark(&mut worker.seat, life.chunk, place))
     }
@@ -110,7 +110,7 @@ impl<N: Name, L: RowLaw> ReaderHeads<N, L> {
     pub fn set_time(&self, worker: &mut WorkerSeat<N>, life: ItemId, place: usize, now: u64)
         requires place { place ≡ head_place N.table.slots life.chunk }
         requires held { held_life worker.old.hold ≡ Some life }
-        ensures worker { worker.new ≡ record worker.old { part = worker_after_store_time life now worker.old.part } }
+        ensures worker { worker.new ≡ record worker.old { sheet = worker_after_store_time life now worker.old.sheet } }
     {
         self.words
             .set_time(&mut worker.seat, life.chunk, place, now);

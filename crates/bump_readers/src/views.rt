@@ -1,14 +1,14 @@
 //! What contracts see of workers' seats and holds: plain data. No value of it is ever made.
 use bump_rules::ItemId;
-use bump_steps::{HoldPart, WorkerPart};
+use bump_steps::{HoldSheet, WorkerSheet};
 
 /// What contracts see of a worker's seat.
 pub struct WorkerView {
-    /// Its part.
-    pub part: WorkerPart,
+    /// Its sheet.
+    pub sheet: WorkerSheet,
 
-    /// The part of the hold that is joined to it, from `hold_in` to `hold_out`.
-    pub hold: Option<HoldPart>,
+    /// The sheet of the hold that is joined to it, from `hold_in` to `hold_out`.
+    pub hold: Option<HoldSheet>,
 }
 
 /// What contracts see of a hold.
@@ -16,6 +16,6 @@ pub struct HoldView {
     /// The life to which it refers.
     pub life: ItemId,
 
-    /// Its part, unless it is hollow: joined to a worker's seat.
-    pub part: Option<HoldPart>,
+    /// Its sheet, unless it is hollow: joined to a worker's seat.
+    pub sheet: Option<HoldSheet>,
 }

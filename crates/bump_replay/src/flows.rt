@@ -86,7 +86,7 @@ fn ways_of(row: &Row) -> [Way; 7] {
         around,
         side_way(
             "M580 108H680",
-            row.bump.stats.evicted,
+            row.bump.stats.evicted(),
             (584, 136),
             Anchor::Start,
         ),

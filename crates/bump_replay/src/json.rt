@@ -251,9 +251,9 @@ fn row_told(alloc: Global, row: &Row, traced: Option<&HitCounts>) -> Result<Valu
     put_tallies(&mut members, row)?;
     members.put("hits_by_kind", kinds_told(alloc, row, traced)?)?;
     members.put("flow", flow_told(alloc, row)?)?;
-    members.put("evicted", stats.evicted)?;
-    members.put("evicted_unfetched", stats.evicted_unfetched)?;
-    members.put("evicted_active", stats.evicted_active)?;
+    members.put("evicted", stats.evicted())?;
+    members.put("evicted_unfetched", stats.evicted_unfetched())?;
+    members.put("evicted_active", stats.evicted_active())?;
     members.put("unplaced", row.bump.unplaced)?;
     members.put("held_by_bumps", row.bump.waiting)?;
     members.put("bumps", bumps_told(alloc, row)?)?;

@@ -49,11 +49,11 @@ fn put_flow<R: Print>(rt: &R, row: &Row) -> io::Result<()> {
 // What was evicted.
 fn put_evictions<R: Print>(rt: &R, row: &Row) -> io::Result<()> {
     let stats = row.bump.stats;
-    put_count(rt, "evicted", stats.evicted)?;
-    put_count(rt, "  never hit", stats.evicted_unfetched)?;
-    let hit = stats.evicted.saturating_sub(stats.evicted_unfetched);
+    put_count(rt, "evicted", stats.evicted())?;
+    put_count(rt, "  never hit", stats.evicted_unfetched())?;
+    let hit = stats.evicted().saturating_sub(stats.evicted_unfetched());
     put_count(rt, "  hit", hit)?;
-    put_count(rt, "  ACTIVE", stats.evicted_active)?;
+    put_count(rt, "  ACTIVE", stats.evicted_active())?;
     put_count(rt, "not placed", row.bump.unplaced)?;
     put_count(rt, "chunks held by bumps, most", row.bump.waiting)
 }

@@ -49,16 +49,6 @@ used_where_linked h Dying s e = tt
 used_where_linked h Unused s e = absurd (false≢true (sym s.0 ∙ e))
 used_where_linked h Retired s e = absurd (false≢true (sym s.0 ∙ e))
 
--- a linked chunk stands in the list that its segment bits name
-pub placed_where_linked : (h : Head) (at : Place) → Shows h at → h.linked ≡ true → at ≡ place_of h.segment
-placed_where_linked h Hot s e = ap place_of (sym s.1)
-placed_where_linked h Warm s e = ap place_of (sym s.1)
-placed_where_linked h Cold s e = ap place_of (sym s.1)
-placed_where_linked h Temp s e = ap place_of (sym s.1)
-placed_where_linked h Dying s e = absurd (false≢true (sym s ∙ e))
-placed_where_linked h Unused s e = absurd (false≢true (sym s.0 ∙ e))
-placed_where_linked h Retired s e = absurd (false≢true (sym s.0 ∙ e))
-
 -- an unlinked chunk that isn't free is DYING
 pub dying_where_unlinked : (h : Head) (at : Place) → Shows h at → IsUsed at → h.linked ≡ false → at ≡ Dying
 dying_where_unlinked h Hot s used off = absurd (false≢true (sym off ∙ s.0))

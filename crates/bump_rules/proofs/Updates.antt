@@ -72,11 +72,6 @@ module _ {A : Type 0} (f : A → ℕ) where
   pub total_push : (xs : List A) (y : A) → total f (xs ++ y ∷ []) ≡ total f xs + f y
   total_push xs y = omega (arith, total_append xs (y ∷ []))
 
-  -- where each term is 0 the sum is
-  pub total_none : ((x : A) → f x ≡ 0) → (xs : List A) → total f xs ≡ 0
-  total_none none [] = refl
-  total_none none (x ∷ xs) = omega (arith, none x, total_none none xs)
-
 -- a sum of two terms is the sum of both
 pub total_both : {A : Type 0} (f g : A → ℕ) (xs : List A) → total (λ x. f x + g x) xs ≡ total f xs + total g xs
 total_both f g [] = omega arith
@@ -95,8 +90,3 @@ total_below f g below (x ∷ xs) = omega (arith, below x, total_below f g below 
 -- how often a list with one more life at its end names a life
 pub count_push : (l m : ItemId) (xs : List ItemId) → count_of l (xs ++ m ∷ []) ≡ count_of l xs + one_if l m
 count_push l m xs = total_push (one_if l) xs m
-
--- how often the rest of a list names a life, by its first and the rest after it
-pub count_drop : (l d : ItemId) (xs : List ItemId) (i : ℕ) → i < length xs → count_of l (drop i xs)
-    ≡ one_if l (slice_index_or xs i d) + count_of l (drop (suc i) xs)
-count_drop l d xs i within = ap (count_of l) (drop-cons xs i d within)

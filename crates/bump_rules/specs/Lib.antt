@@ -4,6 +4,7 @@ pub mod ClassLists
 pub mod Commands
 pub mod Configs
 pub mod Entries
+pub mod Expiry
 pub mod Hands
 pub mod Heads
 pub mod History

@@ -1,6 +1,6 @@
 //! The tables: what a hit, an attempt, an applied bump, an end and a pull come to, by the words found.
 ghost use Rattle.std.specs.Prelude.{◌≡◌};
-ghost use Rattle.bump_rules.specs.Tables.{dropped_of, ended_of, hit_of, makes_second, may_move, most_exchanges};
+ghost use Rattle.bump_rules.specs.Tables.{dropped_of, ended_of, hit_of, may_move, most_exchanges};
 ghost use Rattle.bump_rules.specs.Tables.{outcome_of, pulled_of, pulled_to, refused_of, segment_of, touch_of};
 
 use crate::bumps::{Ended, Outcome};
@@ -13,13 +13,6 @@ use crate::places::{Limits, Place, Segment, Tail};
 pub const MOST_EXCHANGES: u32 = 8;
 
 impl Head {
-    /// Whether a hit whose first step found this head makes a second one.
-    pub fn makes_second(self) -> bool
-        ensures { result ≡ makes_second self }
-    {
-        self.fetched && !self.active
-    }
-
     /// The hit table: what a hit comes to, by the heads that its first step and its second one found. Where no second
     /// one is made, its head isn't looked at.
     pub fn hit(self, second: Head) -> Hit

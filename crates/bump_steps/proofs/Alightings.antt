@@ -17,8 +17,8 @@ use Rattle.bump_rules.proofs.Laws.{unreferred}
 use Rattle.bump_word.proofs.Steps.{one_less}
 use Rattle.bump_steps.specs.declared.views.Empty.{Empty}
 use Rattle.bump_steps.specs.declared.views.Kind.TheVariants as kind
-use Rattle.bump_steps.specs.declared.views.ClassPart.{ClassPart}
-use Rattle.bump_steps.specs.declared.views.LanePart.{LanePart}
+use Rattle.bump_steps.specs.declared.views.ClassSheet.{ClassSheet}
+use Rattle.bump_steps.specs.declared.views.LaneSheet.{LaneSheet}
 use Rattle.bump_steps.specs.declared.views.View.{View}
 use Rattle.bump_steps.specs.Views.{refers, bump_aboard, held, named, saw, owners, strays, mislabels, misreads, glanced, misglanced, weight, evidence, shown_by, claims, names_move, is_entry, outcome_number, Query, in_order, shows_time_only, IsBacked}
 use Rattle.bump_steps.specs.Rule.{RowPredicate, chunks, Kept}
@@ -58,7 +58,7 @@ moving_of q s b e = by s e
     by (lane.Moved d) e = ap (λ (x : Bump). cond ((x.number == q.number) && q.test x.life) 1 0) (one_bump d b e)
 
 -- the entry tells of the move that was in progress
-pub alight_refers : (test : ItemId → Bool) (n : ℕ) (l : LanePart) (b : Bump) (out : Outcome)
+pub alight_refers : (test : ItemId → Bool) (n : ℕ) (l : LaneSheet) (b : Bump) (out : Outcome)
     → bump_aboard l.stage ≡ Some b → is_past_move l.stage ≡ is_moved out
     → moves_told test n (l.applied ++ entries_of_alight out (bump_aboard l.stage)) lane.Empty ≡ moves_told test n
     l.applied l.stage
@@ -112,7 +112,7 @@ order_ends : (b : Bump) (a : AppliedBump) → a.number ≡ b.number → (es : Li
 order_ends b a e [] i = and_true (a.number == i) ∙ ap (λ (n : ℕ). n == i) e
 order_ends b a e (x ∷ xs) i = ap (λ (y : Bool). (x.number == i) && y) (order_ends b a e xs (i + 1))
 
-module _ (key : Config) (slots id : ℕ) (k : ClassPart) (l : LanePart) (b : Bump) (out : Outcome)
+module _ (key : Config) (slots id : ℕ) (k : ClassSheet) (l : LaneSheet) (b : Bump) (out : Outcome)
     (near : b.life.chunk < chunks key) (sl : List (ℕ × Empty)) (aboard : bump_aboard l.stage ≡ Some b)
     (past : is_past_move l.stage ≡ is_moved out) (names : k.applying ≡ application_of l.worker l.stage) where
   refers_is : (d g : ℕ) → refers d g (bump_aboard l.stage) ≡ one_if (life d g) b.life
@@ -127,12 +127,6 @@ module _ (key : Config) (slots id : ℕ) (k : ClassPart) (l : LanePart) (b : Bum
   )
 
   module _ (n : ℕ) where
-    abbrev before : View
-    before = applying k l
-
-    abbrev behind : View
-    behind = view_after_alight out b.life.chunk n (applying k l)
-
     alight_apart : (d : ℕ) → d ≢ b.life.chunk
         → Same d (applying k l) (view_after_alight out b.life.chunk n (applying k l))
     alight_apart d ne (held j) = omega (arith, refers_is d j, other_chunk d j b.life ne)
@@ -246,7 +240,7 @@ module _ (key : Config) (slots id : ℕ) (k : ClassPart) (l : LanePart) (b : Bum
 pub may_alight : {law : RowPredicate} (key : Config) (slots id c x : ℕ) (out : Outcome) (m : Sat) → c < chunks key → MayAlight c out m.0
     → Allows (Kept law key) slots id m (head_place slots c) (λ n. (n + (2 ^ 64 - 1)) % 2 ^ 64)
     (on_chunk (alight_tells out) (step slots (head_place slots c) x 0 none) m)
-may_alight {law = law} key slots id c x out m near may = let k : ClassPart = may.0 in let l : LanePart = may.1 in let b : Bump =
+may_alight {law = law} key slots id c x out m near may = let k : ClassSheet = may.0 in let l : LaneSheet = may.1 in let b : Bump =
     may.2 in let g : Alights c out m.0 k l b = may.3 in
     subst (λ (y : ℕ × View). Allows (Kept law key) slots id (y.1, m.1) (head_place slots y.0) (λ n. (n + (2 ^ 64 - 1)) % 2 ^ 64)
     (on_chunk (alight_tells out) (step slots (head_place slots y.0) x 0 none) (y.1, m.1))) (λ i. (g.chunk i, sym g.view i))

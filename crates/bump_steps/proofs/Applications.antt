@@ -24,8 +24,8 @@ use Rattle.bump_word.proofs.Steps.{clear_active, change_segment}
 use Rattle.bump_steps.specs.declared.views.Empty.{Empty}
 use Rattle.bump_steps.specs.declared.views.Kind.TheVariants as kind
 use Rattle.bump_steps.specs.declared.views.OwnStep.{OwnStep}
-use Rattle.bump_steps.specs.declared.views.ClassPart.{ClassPart}
-use Rattle.bump_steps.specs.declared.views.LanePart.{LanePart}
+use Rattle.bump_steps.specs.declared.views.ClassSheet.{ClassSheet}
+use Rattle.bump_steps.specs.declared.views.LaneSheet.{LaneSheet}
 use Rattle.bump_steps.specs.declared.views.Ride.{Ride}
 use Rattle.bump_steps.specs.declared.views.View.{View}
 use Rattle.bump_steps.specs.Views.{refers, bump_aboard, Measure, held, named, saw, owners, strays, mislabels, misreads, glanced, misglanced, owns, standing, last_word, weight, shown_by, claimed_in, settled_in, names_move, underway_in, names_outside, Query, in_order, untidy_in, shows_time_only, of_owner, foreign_in, foreign, active_clear, IsBacked}
@@ -305,7 +305,7 @@ module _ {law : RowPredicate} (key : Config) (slots id : ℕ) (m : Sat) (c : ℕ
         refl,
       ))
 
--- ---- moves: a class's part gets an entry, and the lanes that are joined keep their references
+-- ---- moves: a class's sheet gets an entry, and the lanes that are joined keep their references
 
 pub no_bits : (b : Bool) → ◌≡◌ {A = ℕ} (cond b 0 0) 0
 no_bits true = refl
@@ -329,10 +329,10 @@ even_bits false true true t = omega arith
 even_bits false true false t = omega arith
 even_bits false false n t = omega arith
 
-module _ (c : ℕ) (k : ClassPart) (own : owns c k ≡ true) (l : ItemId) (of : l.chunk ≡ c) (from to : Segment)
+module _ (c : ℕ) (k : ClassSheet) (own : owns c k ≡ true) (l : ItemId) (of : l.chunk ≡ c) (from to : Segment)
     (why : Cause) (named_as : Option Ride) (made : OwnStep) where
-  -- the class's part with one more move, and with this application named
-  abbrev pub class_moved : ClassPart
+  -- the class's sheet with one more move, and with this application named
+  abbrev pub class_moved : ClassSheet
   class_moved = record k {
     history = k.history ++ change.Moved l from to why ∷ [];
     applying = named_as;
@@ -352,7 +352,7 @@ module _ (c : ℕ) (k : ClassPart) (own : owns c k ≡ true) (l : ItemId) (of : 
   move_stands_here = standing_push c (Unused, k.fresh) k.history (change.Moved l from to why)
       ∙ ap (λ (o : Bool). cond o (place_of to, l.generation) (standing k c)) (eq-eqb l.chunk c of)
 
-  module _ (ls ms : List LanePart) (keep : (d j : ℕ) → total (λ x. refers d j (bump_aboard x.stage)) ms ≡ total
+  module _ (ls ms : List LaneSheet) (keep : (d j : ℕ) → total (λ x. refers d j (bump_aboard x.stage)) ms ≡ total
       (λ x. refers d j (bump_aboard x.stage)) ls) where
     abbrev pub stood : View
     stood = record blank { classes = k ∷ []; lanes = ls }
@@ -468,7 +468,7 @@ module _ (c : ℕ) (k : ClassPart) (own : owns c k ≡ true) (l : ItemId) (of : 
 
 -- ---- what is asked of a move
 
-module _ {law : RowPredicate} (key : Config) (slots id c : ℕ) (near : c < chunks key) (k : ClassPart) (from to : Segment)
+module _ {law : RowPredicate} (key : Config) (slots id c : ℕ) (near : c < chunks key) (k : ClassSheet) (from to : Segment)
     (st : StandsIn from c k) (sl : List (ℕ × Empty)) where
   -- a pull's
   pub moves_by_pull : (x : ℕ) → Allows (Kept law key) slots id (alone k, sl) (head_place slots c)
@@ -506,7 +506,7 @@ module _ {law : RowPredicate} (key : Config) (slots id c : ℕ) (near : c < chun
       n y t limits o a (refl, (o.head, o.spells, tells c key.refs_limit n y (alone k) t o a)))
 
   -- that of the bump aboard
-  pub moves_for_bump : (l : LanePart) (b : Bump) → k.applying ≡ None → b.life.chunk ≡ c → from ≡ Cold → to ≡ Warm
+  pub moves_for_bump : (l : LaneSheet) (b : Bump) → k.applying ≡ None → b.life.chunk ≡ c → from ≡ Cold → to ≡ Warm
       → (x : ℕ)
       → Allows (Kept law key) slots id (applying k (record l { stage = lane.Cleared b true }), sl) (head_place slots c)
       (λ n. bit_xor n (segment_change from to)) (on_chunk (move_tells from to) (step slots (head_place slots c) x 0 none)
@@ -517,7 +517,7 @@ module _ {law : RowPredicate} (key : Config) (slots id c : ℕ) (near : c < chun
       let why : Cause = cause.Bump l.worker b.number in let made : OwnStep = step_of kind.Move c n
       (Some (l.worker, b.number)) in
       let now_named : Option Ride = application_of l.worker (lane.Moved b) in
-      let ls : List LanePart = record l { stage = lane.Cleared b true } ∷ [] in let ms : List LanePart =
+      let ls : List LaneSheet = record l { stage = lane.Cleared b true } ∷ [] in let ms : List LaneSheet =
       record l { stage = lane.Moved b } ∷ [] in
       let v : View = applying k (record l { stage = lane.Cleared b true }) in
       let here = at_standing c key.refs_limit n y v t o a (standing k c) (stands_alone c v k refl st.0) in

@@ -9,7 +9,7 @@ use Rattle.bump_rules.specs.declared.bumps.Outcome.{Outcome}
 use Rattle.bump_rules.specs.declared.bumps.Outcome.TheVariants as outcome
 use Rattle.bump_steps.specs.declared.views.Ride.{Ride}
 use Rattle.bump_rules.specs.declared.bumps.AppliedBump.{AppliedBump}
-use Rattle.bump_steps.specs.declared.views.LanePart.{LanePart}
+use Rattle.bump_steps.specs.declared.views.LaneSheet.{LaneSheet}
 use Rattle.bump_steps.specs.declared.views.View.{View}
 use Rattle.bump_steps.specs.Views.{Measure, held, named, owners, saw, strays, mislabels, misreads, glanced, misglanced, weight, shown_by, in_order}
 use Rattle.bump_steps.specs.Rule.{RowPredicate, blank, Kept}
@@ -22,7 +22,7 @@ order_boards : (b : Bump) (es : List AppliedBump) (i : ℕ) → b.number ≡ i +
 order_boards b [] i e = eq-eqb b.number i (omega (arith, e))
 order_boards b (x ∷ xs) i e = ap (λ (y : Bool). (x.number == i) && y) (order_boards b xs (i + 1) (omega (arith, e)))
 
-module _ (l : LanePart) (r : Ride) where
+module _ (l : LaneSheet) (r : Ride) where
   abbrev pub waiting : View
   waiting = record blank { lanes = record l { stage = lane.Empty } ∷ [] }
 

@@ -44,7 +44,7 @@ use Rattle.bump_steps.specs.declared.views.Kind.TheVariants as kind
 use Rattle.bump_steps.specs.declared.views.OwnStep.{OwnStep}
 use Rattle.bump_steps.specs.declared.views.WordStep.{WordStep}
 use Rattle.bump_steps.specs.declared.views.WordStep.TheVariants.{Begun}
-use Rattle.bump_steps.specs.declared.views.ClassPart.{ClassPart}
+use Rattle.bump_steps.specs.declared.views.ClassSheet.{ClassSheet}
 use Rattle.bump_steps.specs.declared.views.View.{View}
 use Rattle.bump_steps.specs.Views.{Measure, held, named, saw, owners, strays, mislabels, misreads, glanced, misglanced, owns, standing, labels_of, last_word, weight, shown_by, shows_time_only, HasLabels, IsBacked}
 use Rattle.bump_steps.specs.Rule.{RowPredicate, Sound, chunks, Kept}
@@ -62,7 +62,7 @@ use Rattle.bump_steps.proofs.Told.{at_standing, tells, stands_alone}
 
 -- ---- An entry of a chunk of the class that names no bump, and labels that leave all words.
 
-module _ (c : ℕ) (k : ClassPart) (own : owns c k ≡ true) (e : Change) (ls : List LabelStep) (ws : List WordStep) (x : OwnStep)
+module _ (c : ℕ) (k : ClassSheet) (own : owns c k ≡ true) (e : Change) (ls : List LabelStep) (ws : List WordStep) (x : OwnStep)
     (of : (subject e).chunk ≡ c) (quiet : names_bump e ≡ false)
     (same_labels : (i b : ℕ) → label_word b 0 (labels_of i ls ws) ≡ last_word i k b) where
   -- the view after it
@@ -234,7 +234,7 @@ starts a n g spells = ap (λ (s : ℕ). if s == segment_number segment.Temp then
 
 -- ---- The steps.
 
-module _ (key : Config) (slots id c : ℕ) (near : c < chunks key) (sl : List (ℕ × Empty)) (k : ClassPart)
+module _ (key : Config) (slots id c : ℕ) (near : c < chunks key) (sl : List (ℕ × Empty)) (k : ClassSheet)
     (own : owns c k ≡ true) where
   -- the chunk stands at its place
   stands_at : (p : Place) → (standing k c).0 ≡ p → Stands c (alone k) (p, (standing k c).1)
@@ -378,7 +378,7 @@ module _ (key : Config) (slots id c : ℕ) (near : c < chunks key) (sl : List (�
 pub may_link : {law : RowPredicate} (key : Config) (slots id c g : ℕ) (m : Sat) → c < chunks key → (a : Start) → MayLink law c g m.0
     → (new : ℕ) → new ≡ word_of (linked_head a g) → Allows (Kept law key) slots id m (head_place slots c) (λ _. new)
     (λ _. on_chunk link_tells (step slots (head_place slots c) new 0 none) m new)
-may_link {law = law} key slots id c g m near a may new is = let k : ClassPart = may.0 in let o = may.1 in
+may_link {law = law} key slots id c g m near a may new is = let k : ClassSheet = may.0 in let o = may.1 in
     subst (λ (v : View). Allows (Kept law key) slots id (v, m.1) (head_place slots c) (λ _. new)
     (λ _. on_chunk link_tells (step slots (head_place slots c) new 0 none) (v, m.1) new)) (sym o.view)
     (links key slots id c near m.1 k o.own a new o.at (is ∙ ap (λ (j : ℕ). word_of (linked_head a j)) may.2) may.3)

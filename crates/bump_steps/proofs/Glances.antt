@@ -10,10 +10,10 @@ use Rattle.bump_rules.specs.Totals.{total, how_many}
 use Rattle.bump_rules.proofs.Laws.{relawful}
 use Rattle.bump_word.specs.Layout.{generation_first}
 use Rattle.bump_word.proofs.Words.{fields}
-use Rattle.bump_steps.specs.declared.views.GlancePart.{GlancePart}
+use Rattle.bump_steps.specs.declared.views.GlanceSheet.{GlanceSheet}
 use Rattle.bump_steps.specs.declared.views.Kind.TheVariants as kind
 use Rattle.bump_steps.specs.declared.views.View.{View}
-use Rattle.bump_steps.specs.declared.views.WorkerPart.{WorkerPart}
+use Rattle.bump_steps.specs.declared.views.WorkerSheet.{WorkerSheet}
 use Rattle.bump_steps.specs.Places.{head_place}
 use Rattle.bump_steps.specs.Plays.{Sat, on_chunk, on_row, on_label, on_word, behind, on_first}
 use Rattle.bump_steps.specs.References.{IsRow}
@@ -45,7 +45,7 @@ found_none n true false one clear = absurd (omega (arith, one, clear))
 found_none n false a one clear = absurd (omega (arith, one, clear))
 
 -- where nothing but a worker's glances counts otherwise, the chunk stays sound if what the rule says of glances does
-glance_sound : {law : RowPredicate} (limit n : ℕ) (x : ℕ → ℕ) (c : ℕ) (f : WorkerPart → WorkerPart) (v : View) (t u : Measure → ℕ)
+glance_sound : {law : RowPredicate} (limit n : ℕ) (x : ℕ → ℕ) (c : ℕ) (f : WorkerSheet → WorkerSheet) (v : View) (t u : Measure → ℕ)
     → Steady c f → ((y : Measure) → u y + weight c y v ≡ t y + weight c y (on_worker f v)) → (o : Sound law limit n x t)
     → ((g : ℕ) → o.head.generation < g → u (glanced g) ≡ 0)
     → (o.head.linked ≡ true → (i : ℕ) → u (misglanced i o.head.generation (x i)) ≡ 0) → Sound law limit n x u
@@ -89,9 +89,6 @@ module _ (key : Config) (slots id : ℕ) (m : Sat) (c : ℕ) (near : c < chunks 
 
     gen : k ≡ o.head.generation
     gen = (fields n o.head o.spells).generation
-
-    abbrev begins : WorkerPart → WorkerPart
-    begins = worker_after_glance c n row
 
     -- the new glance counts once for its life
     more : (b g : ℕ) → weight b (glanced g) (on_worker (worker_after_glance c n row) m.0) ≡ weight b (glanced g) m.0
@@ -166,26 +163,26 @@ module _ (key : Config) (slots id : ℕ) (m : Sat) (c : ℕ) (near : c < chunks 
 
   -- ---- loads of words
   module _ (has : HasGlance c m.0) where
-    abbrev p : GlancePart
+    abbrev p : GlanceSheet
     p = has.glance
 
     -- the first glance's term, and those of the others, before and after a load
-    first_term : (f : GlancePart → ℕ) → total (λ (w : WorkerPart). total f w.glances) m.0.workers
+    first_term : (f : GlanceSheet → ℕ) → total (λ (w : WorkerSheet). total f w.glances) m.0.workers
         ≡ f has.glance + total f (behind has.worker.glances)
-        + total (λ (w : WorkerPart). total f w.glances) (behind m.0.workers)
-    first_term f = ap (total (λ (w : WorkerPart). total f w.glances)) has.workers
-        ∙ ap (λ (l : List GlancePart). total f l + total (λ (w : WorkerPart). total f w.glances) (behind m.0.workers))
+        + total (λ (w : WorkerSheet). total f w.glances) (behind m.0.workers)
+    first_term f = ap (total (λ (w : WorkerSheet). total f w.glances)) has.workers
+        ∙ ap (λ (l : List GlanceSheet). total f l + total (λ (w : WorkerSheet). total f w.glances) (behind m.0.workers))
         has.glances
 
     module _ (i word : ℕ) where
-      after_term : (f : GlancePart → ℕ)
-          → total (λ (w : WorkerPart). total f w.glances) (on_first (worker_after_glance_load i word) m.0.workers)
+      after_term : (f : GlanceSheet → ℕ)
+          → total (λ (w : WorkerSheet). total f w.glances) (on_first (worker_after_glance_load i word) m.0.workers)
           ≡ f (glance_after_load i word has.glance) + total f (behind has.worker.glances)
-          + total (λ (w : WorkerPart). total f w.glances) (behind m.0.workers)
-      after_term f = ap (λ (l : List WorkerPart). total (λ (w : WorkerPart). total f w.glances)
+          + total (λ (w : WorkerSheet). total f w.glances) (behind m.0.workers)
+      after_term f = ap (λ (l : List WorkerSheet). total (λ (w : WorkerSheet). total f w.glances)
           (on_first (worker_after_glance_load i word) l)) has.workers
-          ∙ ap (λ (l : List GlancePart). total f (on_first (glance_after_load i word) l)
-          + total (λ (w : WorkerPart). total f w.glances) (behind m.0.workers)) has.glances
+          ∙ ap (λ (l : List GlanceSheet). total f (on_first (glance_after_load i word) l)
+          + total (λ (w : WorkerSheet). total f w.glances) (behind m.0.workers)) has.glances
 
       -- it stays a glance at its life
       as_many : (b g : ℕ) → weight b (glanced g) (view_after_glance_load i word m.0) ≡ weight b (glanced g) m.0

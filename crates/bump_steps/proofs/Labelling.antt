@@ -21,7 +21,7 @@ use Rattle.bump_steps.specs.declared.views.Empty.{Empty}
 use Rattle.bump_steps.specs.declared.views.Kind.TheVariants as kind
 use Rattle.bump_steps.specs.declared.views.WordStep.{WordStep}
 use Rattle.bump_steps.specs.declared.views.OwnStep.{OwnStep}
-use Rattle.bump_steps.specs.declared.views.ClassPart.{ClassPart}
+use Rattle.bump_steps.specs.declared.views.ClassSheet.{ClassSheet}
 use Rattle.bump_steps.specs.declared.views.View.{View}
 use Rattle.bump_steps.specs.Views.{held, named, saw, owners, strays, mislabels, misreads, glanced, misglanced, owns, standing, labels_of, last_word, weight, shown_by, shows_time_only, HasLabels, IsBacked}
 use Rattle.bump_steps.specs.Rule.{RowPredicate, chunks, Kept}
@@ -36,10 +36,10 @@ use Rattle.bump_steps.proofs.StepLemmas.{at_label, at_word, owned_push}
 use Rattle.bump_steps.proofs.Told.{at_standing, stands_alone}
 
 -- Word i of chunk c is stored: its label, which is word 0, or a further word.
-module _ (c i y : ℕ) (k : ClassPart) (own : owns c k ≡ true) (ls : List LabelStep) (ws : List WordStep) (x : OwnStep)
+module _ (c i y : ℕ) (k : ClassSheet) (own : owns c k ≡ true) (ls : List LabelStep) (ws : List WordStep) (x : OwnStep)
     (here : labels_of i ls ws ≡ labels_of i k.labels k.words ++ Stored c y ∷ [])
     (there : (j : ℕ) → j ≢ i → labels_of j ls ws ≡ labels_of j k.labels k.words) where
-  abbrev pub stored : ClassPart
+  abbrev pub stored : ClassSheet
   stored = record k { labels = ls; words = ws; steps = k.steps ++ x ∷ [] }
 
   -- this chunk's word i is the one stored, and each other word is what it was
@@ -166,7 +166,7 @@ may_put_label {law = law} key slots id c y m near may =
     (λ j ne. labels_put_label j k.labels k.words c y ne) key slots id m.1 (omega arith) near may.1.at
     (λ p. put_label_labels c y k p may.1.at)))
   where
-    k : ClassPart
+    k : ClassSheet
     k = may.0
 
 -- and a further word
@@ -182,5 +182,5 @@ may_put_word {law = law} key slots id c j y m near low may =
     (labels_put_same j k.labels k.words c y) (λ i ne. labels_put_word i j k.labels k.words c y ne) key slots id m.1
     (omega (arith, low)) near may.1.at (λ p. put_word_labels c j y k p may.1.at)))
   where
-    k : ClassPart
+    k : ClassSheet
     k = may.0

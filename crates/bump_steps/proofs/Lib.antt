@@ -1,5 +1,4 @@
 pub mod Places
-pub mod Agreeing
 pub mod Decoded
 pub mod Sums
 pub mod Once

@@ -1,4 +1,4 @@
--- Labels of lives: what a class's part has of them, it has after each step of its seat; and so have all parts.
+-- Labels of lives: what a class's sheet has of them, it has after each step of its seat; and so have all sheets.
 use Rattle.std.proofs.Common.{◌≡◌, ◌≢◌, ℕ, zero, suc, ◌+◌, ◌<◌, ◌&&◌, eqb, cond, Bool, true, false, List, [], ◌∷◌, ◌++◌, set, Option, Some, None, if◌then◌else◌, refl, sym, ap, ap₂, ◌∙◌, subst, arith, eq-eqb, ne_eqb, eqb-true}
 use Rattle.std.proofs.lemmas.Bool.{and_from}
 use mathlib.Core.Logic.{dite}
@@ -20,7 +20,7 @@ use Rattle.bump_rules.specs.Lives.{life, is_same}
 use Rattle.bump_rules.proofs.Replay.{standing_push}
 use Rattle.bump_steps.specs.declared.views.OwnStep.{OwnStep}
 use Rattle.bump_steps.specs.declared.views.WordStep.{WordStep}
-use Rattle.bump_steps.specs.declared.views.ClassPart.{ClassPart}
+use Rattle.bump_steps.specs.declared.views.ClassSheet.{ClassSheet}
 use Rattle.bump_steps.specs.declared.views.Ride.{Ride}
 use Rattle.bump_steps.specs.declared.views.View.{View}
 use Rattle.bump_steps.specs.Views.{owns, standing, labels_of, last_word, HasLabels, HaveLabels, AreLabelled}
@@ -28,21 +28,21 @@ use Rattle.bump_steps.specs.Plays.{behind, first_as_list, on_first}
 use Rattle.bump_steps.specs.Lives.{class_after_put_label, class_after_put_word, class_after_link}
 use Rattle.bump_steps.proofs.LabelLists.{word_stored, word_linked, life_stored, life_linked, life_linked_else, labels_begun, labels_put_label, labels_put_word, labels_put_same}
 
--- ---- lists of parts and of views
+-- ---- lists of sheets and of views
 
 -- a list's first, and what is behind it
-pub have_cut : (ks : List ClassPart) → HaveLabels ks → HaveLabels (behind ks) × HaveLabels (first_as_list ks)
+pub have_cut : (ks : List ClassSheet) → HaveLabels ks → HaveLabels (behind ks) × HaveLabels (first_as_list ks)
 have_cut [] have = (tt, tt)
 have_cut (k ∷ ks) have = (have.1, (have.0, tt))
 
 -- two lists together
-pub have_both : (ks js : List ClassPart) → HaveLabels ks → HaveLabels js → HaveLabels (ks ++ js)
+pub have_both : (ks js : List ClassSheet) → HaveLabels ks → HaveLabels js → HaveLabels (ks ++ js)
 have_both [] js have more = more
 have_both (k ∷ ks) js have more = (have.0, have_both ks js have.1 more)
 
--- the first part changes
-pub have_on_first : (f : ClassPart → ClassPart) → ((k : ClassPart) → HasLabels k → HasLabels (f k))
-    → (ks : List ClassPart) → HaveLabels ks → HaveLabels (on_first f ks)
+-- the first sheet changes
+pub have_on_first : (f : ClassSheet → ClassSheet) → ((k : ClassSheet) → HasLabels k → HasLabels (f k))
+    → (ks : List ClassSheet) → HaveLabels ks → HaveLabels (on_first f ks)
 have_on_first f keeps [] have = tt
 have_on_first f keeps (k ∷ ks) have = (keeps k have.0, have.1)
 
@@ -77,21 +77,21 @@ pub labelled_push : (views : List View) (w : View) → AreLabelled views → Hav
 labelled_push [] w all have = (have, tt)
 labelled_push (x ∷ xs) w all have = (all.0, labelled_push xs w all.1 have)
 
--- ---- one part
+-- ---- one sheet
 
 -- a step is noted, and nothing else
-pub noted_labels : (k : ClassPart) (steps : List OwnStep) → HasLabels k → HasLabels (record k { steps = steps })
+pub noted_labels : (k : ClassSheet) (steps : List OwnStep) → HasLabels k → HasLabels (record k { steps = steps })
 noted_labels k steps p = record { labelled = p.labelled; unbegun = p.unbegun }
 
 -- an application is named, or no more
-pub named_labels : (k : ClassPart) (named : Option Ride) → HasLabels k → HasLabels (record k { applying = named })
+pub named_labels : (k : ClassSheet) (named : Option Ride) → HasLabels k → HasLabels (record k { applying = named })
 named_labels k named p = record { labelled = p.labelled; unbegun = p.unbegun }
 
 -- an entry that begins no life, in the life that its chunk has, and that leaves no free chunk where chunks are used
-module _ (k : ClassPart) (e : Change) (steps : List OwnStep) (p : HasLabels k)
+module _ (k : ClassSheet) (e : Change) (steps : List OwnStep) (p : HasLabels k)
     (same_life : (subject e).generation ≡ (standing k (subject e).chunk).1)
     (used : IsUsed (target e) → IsUsed (standing k (subject e).chunk).0) where
-  abbrev pub entered : ClassPart
+  abbrev pub entered : ClassSheet
   entered = record k { history = k.history ++ e ∷ []; steps = steps }
 
   -- where it leaves a chunk
@@ -124,7 +124,7 @@ module _ (k : ClassPart) (e : Change) (steps : List OwnStep) (p : HasLabels k)
   }
 
 -- a label or a further word that is stored for a free chunk, as word i
-module _ (c i y : ℕ) (k : ClassPart) (ls : List LabelStep) (ws : List WordStep) (steps : List OwnStep) (p : HasLabels k)
+module _ (c i y : ℕ) (k : ClassSheet) (ls : List LabelStep) (ws : List WordStep) (steps : List OwnStep) (p : HasLabels k)
     (here : labels_of i ls ws ≡ labels_of i k.labels k.words ++ Stored c y ∷ [])
     (there : (j : ℕ) → j ≢ i → labels_of j ls ws ≡ labels_of j k.labels k.words)
     (unused : (standing k c).0 ≡ Unused) where
@@ -153,12 +153,12 @@ module _ (c i y : ℕ) (k : ClassPart) (ls : List LabelStep) (ws : List WordStep
         (λ ne. ap (λ (l : List LabelStep). label_of_life (life d g) 0 l) (there j ne) ∙ p.unbegun j d g later);
   }
 
-pub put_label_labels : (c y : ℕ) (k : ClassPart) → HasLabels k → (standing k c).0 ≡ Unused
+pub put_label_labels : (c y : ℕ) (k : ClassSheet) → HasLabels k → (standing k c).0 ≡ Unused
     → HasLabels (class_after_put_label c y k)
 put_label_labels c y k p unused = put_labels c 0 y k (class_after_put_label c y k).labels k.words
     (class_after_put_label c y k).steps p refl (λ j ne. labels_put_label j k.labels k.words c y ne) unused
 
-pub put_word_labels : (c j y : ℕ) (k : ClassPart) → HasLabels k → (standing k c).0 ≡ Unused
+pub put_word_labels : (c j y : ℕ) (k : ClassSheet) → HasLabels k → (standing k c).0 ≡ Unused
     → HasLabels (class_after_put_word c j y k)
 put_word_labels c j y k p unused = put_labels c (suc j) y k k.labels (class_after_put_word c j y k).words
     (class_after_put_word c j y k).steps p (labels_put_same j k.labels k.words c y)
@@ -169,11 +169,11 @@ other_of_chunk : (d c g j : ℕ) → d ≢ c → is_same (life d g) (life c j) �
 other_of_chunk d c g j ne = ap (λ (b : Bool). b && eqb g j) (ne_eqb d c ne)
 
 -- the next life of a chunk begins
-module _ (a : Start) (c g n : ℕ) (k : ClassPart) (p : HasLabels k) (next : g ≡ (standing k c).1 + 1) where
+module _ (a : Start) (c g n : ℕ) (k : ClassSheet) (p : HasLabels k) (next : g ≡ (standing k c).1 + 1) where
   abbrev pub new_life : ItemId
   new_life = life c g
 
-  abbrev pub opened : ClassPart
+  abbrev pub opened : ClassSheet
   opened = class_after_link a c g n k
 
   -- its entry

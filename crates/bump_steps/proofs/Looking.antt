@@ -13,7 +13,7 @@ use Rattle.bump_rules.specs.Totals.{how_many}
 use Rattle.bump_word.specs.Layout.{generation_first}
 use Rattle.bump_steps.specs.declared.views.Kind.{Kind}
 use Rattle.bump_steps.specs.declared.views.Kind.TheVariants as kind
-use Rattle.bump_steps.specs.declared.views.ClassPart.{ClassPart}
+use Rattle.bump_steps.specs.declared.views.ClassSheet.{ClassSheet}
 use Rattle.bump_steps.specs.declared.views.View.{View}
 use Rattle.bump_steps.specs.Views.{Measure, held, named, saw, owners, strays, mislabels, misreads, glanced, misglanced, owns, standing, last_word, shown_by, shows_time_only, of_owner, names_move, foreign_in, IsBacked}
 use Rattle.bump_steps.specs.Rule.{RowPredicate, Sound, chunks, Kept}
@@ -26,7 +26,7 @@ use Rattle.bump_steps.proofs.StepLemmas.{at_chunk, at_time, on_first_total, on_f
 use Rattle.bump_steps.proofs.Told.{tells}
 
 -- the class noted a step of this kind, for no bump
-abbrev pub noted_by : Kind → ℕ → ℕ → ClassPart → ClassPart
+abbrev pub noted_by : Kind → ℕ → ℕ → ClassSheet → ClassSheet
 noted_by kind c n k = record k { steps = k.steps ++ step_of kind c n None ∷ [] }
 
 module _ (kind : Kind) (c n : ℕ) (v : View) where

@@ -25,7 +25,7 @@ use Rattle.bump_word.proofs.Words.{fields}
 use Rattle.bump_word.proofs.Steps.{set_fetched, set_active, clear_active}
 use Rattle.bump_steps.specs.declared.views.Kind.{Kind}
 use Rattle.bump_steps.specs.declared.views.Kind.TheVariants as kind
-use Rattle.bump_steps.specs.declared.views.WorkerPart.{WorkerPart}
+use Rattle.bump_steps.specs.declared.views.WorkerSheet.{WorkerSheet}
 use Rattle.bump_steps.specs.declared.views.View.{View}
 use Rattle.bump_steps.specs.Views.{Measure, held, named, saw, owners, strays, mislabels, misreads, glanced, misglanced, glances_at, misglances_at, in_hand, is_fetch, is_fetch_of, weight, shown_by, IsBacked}
 use Rattle.bump_steps.specs.Rule.{RowPredicate, Sound, chunks, Kept}
@@ -43,7 +43,7 @@ on_first_gain f h k gains [] some = absurd (omega (arith, some))
 on_first_gain f h k gains (x ∷ xs) some = omega (arith, gains x)
 
 -- what a worker knows shows no entry, and settles no move
-pub worker_backed : (f : WorkerPart → WorkerPart) → ((p : WorkerPart) → (f p).worker ≡ p.worker) → (v : View)
+pub worker_backed : (f : WorkerSheet → WorkerSheet) → ((p : WorkerSheet) → (f p).worker ≡ p.worker) → (v : View)
     → IsBacked v (on_worker f v)
 worker_backed f same v = record {
   backs = λ wk e. (by wk e e.outcome, λ more. absurd (omega arith));
@@ -62,20 +62,20 @@ worker_backed f same v = record {
     by wk e outcome.Gone = omega arith
     by wk e outcome.TimeOnly = omega arith
 
--- a change of a worker's part that counts the same for the chunk, leaving its glances aside
-pub record Steady (b : ℕ) (f : WorkerPart → WorkerPart) : Type 0 where
-  pub hand : (j : ℕ) (p : WorkerPart) → in_hand b j (f p).hand ≡ in_hand b j p.hand
-  pub hits : (j : ℕ) (p : WorkerPart) → count_of (life b j) (f p).hits ≡ count_of (life b j) p.hits
-  pub steps : (j : ℕ) (p : WorkerPart) → how_many (is_fetch_of b j) (f p).steps ≡ how_many (is_fetch_of b j) p.steps
+-- a change of a worker's sheet that counts the same for the chunk, leaving its glances aside
+pub record Steady (b : ℕ) (f : WorkerSheet → WorkerSheet) : Type 0 where
+  pub hand : (j : ℕ) (p : WorkerSheet) → in_hand b j (f p).hand ≡ in_hand b j p.hand
+  pub hits : (j : ℕ) (p : WorkerSheet) → count_of (life b j) (f p).hits ≡ count_of (life b j) p.hits
+  pub steps : (j : ℕ) (p : WorkerSheet) → how_many (is_fetch_of b j) (f p).steps ≡ how_many (is_fetch_of b j) p.steps
 
 -- and of its glances
-pub record Quiet (b : ℕ) (f : WorkerPart → WorkerPart) : Type 0 where
+pub record Quiet (b : ℕ) (f : WorkerSheet → WorkerSheet) : Type 0 where
   pub steady : Steady b f
-  pub glances : (j : ℕ) (p : WorkerPart) → glances_at b j (f p) ≡ glances_at b j p
-  pub glimpses : (i j x : ℕ) (p : WorkerPart) → misglances_at i b j x (f p) ≡ misglances_at i b j x p
+  pub glances : (j : ℕ) (p : WorkerSheet) → glances_at b j (f p) ≡ glances_at b j p
+  pub glimpses : (i j x : ℕ) (p : WorkerSheet) → misglances_at i b j x (f p) ≡ misglances_at i b j x p
 
 -- leaves what the view counts
-pub quiet_same : (b : ℕ) (f : WorkerPart → WorkerPart) (v : View) → Quiet b f → Same b v (on_worker f v)
+pub quiet_same : (b : ℕ) (f : WorkerSheet → WorkerSheet) (v : View) → Quiet b f → Same b v (on_worker f v)
 quiet_same b f v q (held j) = omega (arith, on_first_total (λ w. in_hand b j w.hand) f (q.steady.hand j) v.workers)
 quiet_same b f v q (named j) = on_first_total (λ w. count_of (life b j) w.hits) f (q.steady.hits j) v.workers
 quiet_same b f v q (saw j) = on_first_total (λ w. how_many (is_fetch_of b j) w.steps) f (q.steady.steps j) v.workers
@@ -87,7 +87,7 @@ quiet_same b f v q (glanced j) = on_first_total (glances_at b j) f (q.glances j)
 quiet_same b f v q (misglanced i j x) = on_first_total (misglances_at i b j x) f (q.glimpses i j x) v.workers
 
 -- a step that isn't a fetch is none of the fetches
-pub other_steps : (k : Kind) → is_fetch k ≡ false → (b j c n : ℕ) (p : WorkerPart) → how_many (is_fetch_of b j)
+pub other_steps : (k : Kind) → is_fetch k ≡ false → (b j c n : ℕ) (p : WorkerSheet) → how_many (is_fetch_of b j)
     (noted k c n p).steps ≡ how_many (is_fetch_of b j) p.steps
 other_steps k other b j c n p =
     omega (
@@ -135,7 +135,7 @@ unmark_quiet b l h = record {
 }
 
 -- whether or not a bump is attempted
-pub either_way : {A : Type 0} (f : WorkerPart → A) (b : Bool) (l : ItemId) (p : WorkerPart) (a : A) → f p ≡ a
+pub either_way : {A : Type 0} (f : WorkerSheet → A) (b : Bool) (l : ItemId) (p : WorkerSheet) (a : A) → f p ≡ a
     → f (attempting l p) ≡ a → f (if b then attempting l p else p) ≡ a
 either_way f true l p a stays attempts = attempts
 either_way f false l p a stays attempts = stays
@@ -176,7 +176,7 @@ is_its_fetch c n g e j = ap {B = ℕ} (λ (a : Bool). cond ((c == c) && a) 1 0) 
         (λ ne. ne_eqb x y ne ∙ sym (ne_eqb y x (λ e. ne (sym e))))
 
 module _ {law : RowPredicate} (key : Config) (slots id : ℕ) (m : Sat) (c : ℕ) (near : c < chunks key) where
-  -- the seat has a worker's part, and its step finds this word
+  -- the seat has a worker's sheet, and its step finds this word
   module _ (has : 0 < length m.0.workers) (n : ℕ) (x : ℕ → ℕ) (t : Measure → ℕ) (o : Sound law key.refs_limit n x t) where
     abbrev pub found : Head
     found = o.head
@@ -299,7 +299,7 @@ module _ {law : RowPredicate} (key : Config) (slots id : ℕ) (m : Sat) (c : ℕ
             (λ ne. omega (arith, names g, o.hit g (omega (arith, some, saws g, other_life of g ne))));
       }
 
-  -- a fetch is allowed where the seat has a worker's part
+  -- a fetch is allowed where the seat has a worker's sheet
   pub may_fetch : 0 < length m.0.workers → Allows (Kept law key) slots id m (head_place slots c)
       (λ n. bit_or n (2 ^ fetched_first)) (on_chunk fetch_tells (step slots (head_place slots c) (2 ^ fetched_first) 0 none) m)
   may_fetch has = at_chunk fetch_tells key slots id m c (2 ^ fetched_first) (λ n. bit_or n (2 ^ fetched_first)) near

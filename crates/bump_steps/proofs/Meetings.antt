@@ -6,8 +6,8 @@ use Rattle.atomic_table.specs.Table.{Allows, step}
 use Rattle.bump_rules.specs.declared.configs.Config.{Config}
 use Rattle.bump_rules.specs.Lawful.{bit, IsUsed}
 use Rattle.bump_rules.specs.Totals.{total}
-use Rattle.bump_steps.specs.declared.views.HoldPart.{HoldPart}
-use Rattle.bump_steps.specs.declared.views.ClassPart.{ClassPart}
+use Rattle.bump_steps.specs.declared.views.HoldSheet.{HoldSheet}
+use Rattle.bump_steps.specs.declared.views.ClassSheet.{ClassSheet}
 use Rattle.bump_steps.specs.declared.views.View.{View}
 use Rattle.bump_rules.specs.Lives.{life, one_if}
 use Rattle.bump_steps.specs.Views.{Measure, held, mislabels, owns, standing, last_word, weight, moves}
@@ -55,7 +55,7 @@ met_labels c limit n x v t o a k h ks hs mine of = record {
       arith,
       a.mine (mislabels i (x i)),
       o.labelled i,
-      ap (total (λ (k : ClassPart). bit (owns c k && not (eqb (last_word i k c) (x i))))) ks,
+      ap (total (λ (k : ClassSheet). bit (owns c k && not (eqb (last_word i k c) (x i))))) ks,
     )
 
     last : (i : ℕ) → last_word i k h.life.chunk ≡ x i
@@ -66,10 +66,10 @@ met_labels c limit n x v t o a k h ks hs mine of = record {
     one = ap (λ (d : ℕ). one_if (life d h.life.generation) h.life) (sym of) ∙ one_life h.life
 
     held_here : 0 < weight c (held h.life.generation) v
-    held_here = omega (arith, ap (total (λ (p : HoldPart). one_if (life c h.life.generation) p.life)) hs, one)
+    held_here = omega (arith, ap (total (λ (p : HoldSheet). one_if (life c h.life.generation) p.life)) hs, one)
 
     first : v.holds ≡ h ∷ behind v.holds
-    first = hs ∙ ap (λ (l : List HoldPart). h ∷ behind l) (sym hs)
+    first = hs ∙ ap (λ (l : List HoldSheet). h ∷ behind l) (sym hs)
 
 pub may_load_to_meet : {law : RowPredicate} (key : Config) (slots id : ℕ) (m : Sat) (c : ℕ) → c < chunks key → Allows (Kept law key) slots id m
     (head_place slots c + (2 + 0)) (λ x. x)

@@ -23,7 +23,7 @@ use Rattle.bump_steps.proofs.Sums.{cut}
 abbrev pub Shared : {A : Type 0} → List A → List A → List A → Type 0
 Shared {A} xs left right = (f : A → ℕ) → total f left + total f right ≡ total f xs
 
--- two views have the parts of a third one between them
+-- two views have the sheets of a third one between them
 pub record Parted (v left right : View) : Type 0 where
   pub workers : Shared v.workers left.workers right.workers
   pub holds : Shared v.holds left.holds right.holds
@@ -65,9 +65,9 @@ module _ (v left right : View) (p : Parted v left right) where
       )
 
   -- the rule doesn't notice that a view is cut in two
-  pub parts : {law : RowPredicate} (key : Config) (id : ℕ) → (HaveLabels v.classes → HaveLabels left.classes × HaveLabels right.classes)
+  pub sheets : {law : RowPredicate} (key : Config) (id : ℕ) → (HaveLabels v.classes → HaveLabels left.classes × HaveLabels right.classes)
       → Splits (Kept law key) id v left right
-  parts key id labels = splits key id v left right parted_counts
+  sheets key id labels = splits key id v left right parted_counts
       (λ n a. (p.lanes (claimed_in n a), parted_evidence n a a.outcome))
       (λ q. (
         p.classes (λ k. how_many (is_move_for q.test q.worker q.number) k.history),
@@ -90,7 +90,7 @@ split_first : {A : Type 0} (xs : List A) → Shared xs (behind xs) (first_as_lis
 split_first xs f = cut f xs
 
 pub lanes_split : {law : RowPredicate} (key : Config) (id : ℕ) (v : View) → Splits (Kept law key) id v (without_lanes v) (lanes_only v)
-lanes_split key id v = parts v (without_lanes v) (lanes_only v)
+lanes_split key id v = sheets v (without_lanes v) (lanes_only v)
     (record {
       workers = here v.workers;
       holds = here v.holds;
@@ -100,7 +100,7 @@ lanes_split key id v = parts v (without_lanes v) (lanes_only v)
     }) key id (λ have. (have, tt))
 
 pub holds_split : {law : RowPredicate} (key : Config) (id : ℕ) (v : View) → Splits (Kept law key) id v (without_holds v) (holds_only v)
-holds_split key id v = parts v (without_holds v) (holds_only v)
+holds_split key id v = sheets v (without_holds v) (holds_only v)
     (record {
       workers = here v.workers;
       holds = there v.holds;
@@ -110,7 +110,7 @@ holds_split key id v = parts v (without_holds v) (holds_only v)
     }) key id (λ have. (have, tt))
 
 pub class_split : {law : RowPredicate} (key : Config) (id : ℕ) (v : View) → Splits (Kept law key) id v (without_class v) (class_only v)
-class_split key id v = parts v (without_class v) (class_only v)
+class_split key id v = sheets v (without_class v) (class_only v)
     (record {
       workers = here v.workers;
       holds = here v.holds;
@@ -120,7 +120,7 @@ class_split key id v = parts v (without_class v) (class_only v)
     }) key id (have_cut v.classes)
 
 pub worker_split : {law : RowPredicate} (key : Config) (id : ℕ) (v : View) → Splits (Kept law key) id v (without_worker v) (worker_only v)
-worker_split key id v = parts v (without_worker v) (worker_only v)
+worker_split key id v = sheets v (without_worker v) (worker_only v)
     (record {
       workers = split_first v.workers;
       holds = here v.holds;
@@ -130,7 +130,7 @@ worker_split key id v = parts v (without_worker v) (worker_only v)
     }) key id (λ have. (have, tt))
 
 pub lane_split : {law : RowPredicate} (key : Config) (id : ℕ) (v : View) → Splits (Kept law key) id v (without_lane v) (lane_only v)
-lane_split key id v = parts v (without_lane v) (lane_only v)
+lane_split key id v = sheets v (without_lane v) (lane_only v)
     (record {
       workers = here v.workers;
       holds = here v.holds;

@@ -8,7 +8,7 @@ use Rattle.bump_rules.specs.declared.bumps.Bump.{Bump}
 use Rattle.bump_rules.specs.declared.lanes.LaneStage.{LaneStage}
 use Rattle.bump_rules.specs.declared.lanes.LaneStage.TheVariants as lane
 use Rattle.bump_rules.specs.declared.bumps.AppliedBump.{AppliedBump}
-use Rattle.bump_steps.specs.declared.views.LanePart.{LanePart}
+use Rattle.bump_steps.specs.declared.views.LaneSheet.{LaneSheet}
 use Rattle.bump_steps.specs.declared.views.View.{View}
 use Rattle.bump_rules.specs.Entries.{is_moved, is_told_moved, moving}
 use Rattle.bump_rules.specs.Totals.{how_many}
@@ -80,7 +80,7 @@ moving_le n (lane.Moved b) = by (b.number == n)
     by true = omega arith
     by false = omega arith
 
-settled_le : (w n : ℕ) (l : LanePart) → untidy_in l ≡ 0 → settled_in (every w n) l ≤ cond (l.worker == w) 1 0
+settled_le : (w n : ℕ) (l : LaneSheet) → untidy_in l ≡ 0 → settled_in (every w n) l ≤ cond (l.worker == w) 1 0
 settled_le w n l e = by (l.worker == w)
   where
     tidy : (b : Bool) → ◌≡◌ {A = ℕ} (cond b 0 1) 0 → b ≡ true
@@ -111,7 +111,7 @@ settled_once w n views z = total_where (settled (every w n)) (lane_count_of w) u
     views z
 
 -- lanes of other workers tell of none of this worker's moves
-settled_none : (q : Query) (ls : List LanePart) → total (λ l. cond (l.worker == q.worker) 1 0) ls ≡ 0
+settled_none : (q : Query) (ls : List LaneSheet) → total (λ l. cond (l.worker == q.worker) 1 0) ls ≡ 0
     → total (settled_in q) ls ≡ 0
 settled_none q ls none = none_where_none (λ l. cond (l.worker == q.worker) 1 0) (settled_in q)
     (λ l e. by (l.worker == q.worker) e (how_many (is_told_moved q.test q.number) l.applied + moving q.test q.number

@@ -10,7 +10,7 @@ use Rattle.bump_rules.specs.History.{subject}
 use Rattle.bump_rules.specs.Lawful.{bit}
 use Rattle.bump_rules.specs.Tables.{is_warm, is_cold}
 use Rattle.bump_rules.specs.Totals.{total, how_many}
-use Rattle.bump_steps.specs.declared.views.ClassPart.{ClassPart}
+use Rattle.bump_steps.specs.declared.views.ClassSheet.{ClassSheet}
 use Rattle.bump_steps.specs.declared.views.Ride.{Ride}
 use Rattle.bump_steps.specs.declared.views.View.{View}
 use Rattle.bump_steps.specs.Views.{owners, owns, weight, Query, moves, names_move, names_outside, in_progress, foreign_in, foreign}
@@ -25,7 +25,7 @@ not_both false own none = omega (arith, own)
 
 module _ (q : Query) where
   -- an entry of an own chunk is no move of an item of another one
-  other_entry : (k : ClassPart) → ((l : ItemId) → q.test l ≡ true → bit (owns l.chunk k) ≡ 0) → (e : Change)
+  other_entry : (k : ClassSheet) → ((l : ItemId) → q.test l ≡ true → bit (owns l.chunk k) ≡ 0) → (e : Change)
       → bit (not (owns (subject e).chunk k)) ≡ 0 → bit (is_move_for q.test q.worker q.number e) ≡ 0
   other_entry k none (change.Linked l) own = refl
   other_entry k none (change.LinkedTemp l) own = refl
@@ -40,7 +40,7 @@ module _ (q : Query) where
   other_entry k none (change.Retired l) own = refl
 
   -- classes that have none of the items' chunks have none of their moves
-  other_classes : (ks : List ClassPart)
+  other_classes : (ks : List ClassSheet)
       → ((l : ItemId) → q.test l ≡ true → total (λ k. bit (owns l.chunk k)) ks ≡ 0) → total foreign_in ks ≡ 0
       → total (λ k. how_many (is_move_for q.test q.worker q.number) k.history) ks ≡ 0
   other_classes [] none own = refl
@@ -71,59 +71,6 @@ module _ (q : Query) where
     arith,
     total-set (moves q) views i v blank me,
     other_views (set views i blank)
-        (λ l passes. omega (
-          arith,
-          total-set (weight l.chunk owners) views i v blank me,
-          one l.chunk,
-          mine l passes,
-        ))
-        (omega (arith, total-set foreign views i v blank me, own)),
-  )
-
-  -- nor do such classes name one as their application in progress
-  other_naming : (k : ClassPart) → ((l : ItemId) → q.test l ≡ true → bit (owns l.chunk k) ≡ 0) → (o : Option Ride)
-      → names_outside k.first (k.first + k.count) o ≡ 0 → names_move q o ≡ 0
-  other_naming k none None own = refl
-  other_naming k none (Some r) own = by (r.worker == q.worker) (r.number == q.number) (q.test r.life) refl
-    where
-      inside : (b : Bool) → ◌≡◌ {A = ℕ} (cond b 0 1) 0 → bit b ≡ 0 → ⊥
-      inside true here none = omega (arith, none)
-      inside false here none = omega (arith, here)
-
-      by : (w n t : Bool) → q.test r.life ≡ t → ◌≡◌ {A = ℕ} (cond w (cond (n && t) 1 0) 0) 0
-      by true true true passes = absurd (inside (owns r.life.chunk k) own (none r.life passes))
-      by true true false passes = refl
-      by true false t passes = refl
-      by false n t passes = refl
-
-  naming_classes : (ks : List ClassPart)
-      → ((l : ItemId) → q.test l ≡ true → total (λ k. bit (owns l.chunk k)) ks ≡ 0) → total foreign_in ks ≡ 0
-      → total (λ k. names_move q k.applying) ks ≡ 0
-  naming_classes [] none own = refl
-  naming_classes (k ∷ ks) none own = omega (
-    arith,
-    other_naming k (λ l passes. omega (arith, none l passes)) k.applying (omega (arith, own)),
-    naming_classes ks (λ l passes. omega (arith, none l passes)) (omega (arith, own)),
-  )
-
-  naming_views : (views : List View)
-      → ((l : ItemId) → q.test l ≡ true → total (weight l.chunk owners) views ≡ 0) → total foreign views ≡ 0
-      → total (in_progress q) views ≡ 0
-  naming_views [] none own = refl
-  naming_views (v ∷ vs) none own = omega (
-    arith,
-    naming_classes v.classes (λ l passes. omega (arith, none l passes)) (omega (arith, own)),
-    naming_views vs (λ l passes. omega (arith, none l passes)) (omega (arith, own)),
-  )
-
-  -- the view that has the items' chunks names all their applications in progress
-  pub named_here : (views : List View) (i : ℕ) (v : View) → get_elem? views i ≡ some v
-      → ((c : ℕ) → total (weight c owners) views ≤ 1) → total foreign views ≡ 0 → IsOwn q.test v
-      → total (in_progress q) views ≡ in_progress q v
-  named_here views i v me one own mine = omega (
-    arith,
-    total-set (in_progress q) views i v blank me,
-    naming_views (set views i blank)
         (λ l passes. omega (
           arith,
           total-set (weight l.chunk owners) views i v blank me,

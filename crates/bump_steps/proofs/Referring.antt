@@ -25,11 +25,11 @@ use Rattle.bump_word.specs.Words.{Spells}
 use Rattle.bump_word.proofs.Steps.{one_more_next, one_less}
 use Rattle.bump_word.proofs.Words.{fields, one_head}
 use Rattle.bump_steps.specs.declared.views.GivenBack.{GivenBack}
-use Rattle.bump_steps.specs.declared.views.HoldPart.{HoldPart}
+use Rattle.bump_steps.specs.declared.views.HoldSheet.{HoldSheet}
 use Rattle.bump_steps.specs.declared.views.Kind.{Kind}
 use Rattle.bump_steps.specs.declared.views.Kind.TheVariants as kind
 use Rattle.bump_steps.specs.declared.views.View.{View}
-use Rattle.bump_steps.specs.declared.views.WorkerPart.{WorkerPart}
+use Rattle.bump_steps.specs.declared.views.WorkerSheet.{WorkerSheet}
 use Rattle.bump_steps.specs.Places.{head_place}
 use Rattle.bump_steps.specs.Plays.{Sat, Found, on_chunk, on_row, on_label, on_word, behind, on_first, step_of}
 use Rattle.bump_steps.specs.Marks.{noted, on_worker}
@@ -95,8 +95,8 @@ refs_sound limit n p x c r v w t u moved o spells lawful b = record {
   );
 }
 
--- workers' and holds' parts show nothing of entries and of moves, and so do marks of what was given back
-quiet : (v : View) (ws : List WorkerPart) (hs : List HoldPart) (gs : List GivenBack)
+-- workers' and holds' sheets show nothing of entries and of moves, and so do marks of what was given back
+quiet : (v : View) (ws : List WorkerSheet) (hs : List HoldSheet) (gs : List GivenBack)
     → ((n : ℕ) → total (λ w. cond (w.worker == n) 1 0) ws ≡ workers_of n v)
     → IsBacked v (record v { workers = ws; holds = hs; returned = gs })
 quiet v ws hs gs same = record {
@@ -123,7 +123,7 @@ same_workers k c n v w = on_first_total (λ p. cond (p.worker == w) 1 0) (noted 
 
 module _ (step_kind : Kind) (plain : is_fetch step_kind ≡ false) (c n : ℕ) where
   -- a step that sets no mark is no fetch
-  no_fetch : (b g : ℕ) (w : WorkerPart) → how_many (is_fetch_of b g) (noted step_kind c n w).steps ≡ how_many
+  no_fetch : (b g : ℕ) (w : WorkerSheet) → how_many (is_fetch_of b g) (noted step_kind c n w).steps ≡ how_many
       (is_fetch_of b g) w.steps
   no_fetch b g w = omega (
     arith,
@@ -132,7 +132,7 @@ module _ (step_kind : Kind) (plain : is_fetch step_kind ≡ false) (c n : ℕ) w
   )
 
   -- so a view counts the same with it
-  noted_same : (v : View) (hs : List HoldPart) (b : ℕ) (y : Measure)
+  noted_same : (v : View) (hs : List HoldSheet) (b : ℕ) (y : Measure)
       → weight b y (record v { workers = on_first (noted step_kind c n) v.workers; holds = hs }) ≡ weight b y
       (record v { holds = hs })
   noted_same v hs b (held g) =
@@ -150,7 +150,7 @@ module _ (step_kind : Kind) (plain : is_fetch step_kind ≡ false) (c n : ℕ) w
       v.workers
 
 -- and so does one whose worker noted a hold that it took
-took_same : (c n : ℕ) (row : List ℕ) (v : View) (hs : List HoldPart) (b : ℕ) (y : Measure)
+took_same : (c n : ℕ) (row : List ℕ) (v : View) (hs : List HoldSheet) (b : ℕ) (y : Measure)
     → weight b y (record v { workers = on_first (worker_after_take c n row) v.workers; holds = hs }) ≡ weight b y
     (record v { holds = hs })
 took_same c n row v hs b (held g) =
@@ -206,7 +206,7 @@ same_row i b j l row = ap (λ (z : Bool). one_if (life b j) l * cond z 0 1) (eq-
     ∙ mul-zero (one_if (life b j) l)
 
 -- of the first hold, of this chunk, it is known that
-module _ {law : RowPredicate} (c limit n : ℕ) (x : ℕ → ℕ) (v : View) (t : Measure → ℕ) (o : Sound law limit n x t) (a : Amid c v t) (h : HoldPart)
+module _ {law : RowPredicate} (c limit n : ℕ) (x : ℕ → ℕ) (v : View) (t : Measure → ℕ) (o : Sound law limit n x t) (a : Amid c v t) (h : HoldSheet)
     (is : v.holds ≡ h ∷ behind v.holds) (of : h.life.chunk ≡ c) where
   one_first : one_if (life c h.life.generation) h.life ≡ 1
   one_first = ap (λ (d : ℕ). one_if (life d h.life.generation) h.life) (sym of) ∙ one_life h.life
@@ -217,7 +217,7 @@ module _ {law : RowPredicate} (c limit n : ℕ) (x : ℕ → ℕ) (v : View) (t 
       (omega (
         arith,
         a.mine (held h.life.generation),
-        ap (total (λ (p : HoldPart). one_if (life c h.life.generation) p.life)) is,
+        ap (total (λ (p : HoldSheet). one_if (life c h.life.generation) p.life)) is,
         one_first,
       ))).0
 
@@ -287,7 +287,7 @@ module _ (key : Config) (slots id : ℕ) (m : Sat) (c : ℕ) (near : c < chunks 
       let less : o.head.refs < key.refs_limit = omega (arith, ap (λ (z : Head). z.refs) now, can.2) in
       let here : one_if (life c o.head.generation) (life c k) ≡ 1 = ap (λ (j : ℕ). one_if (life c j) (life c k))
       (sym gen) ∙ one_life (life c k) in
-      let hs : List HoldPart = new_hold (life c k) row ∷ m.0.holds in
+      let hs : List HoldSheet = new_hold (life c k) row ∷ m.0.holds in
       let same : (b : ℕ) (y : Measure) → weight b y (view_after_take c n row m.0) ≡ weight b y
       (record m.0 { holds = hs }) = took_same c n row m.0 hs in (
         view_after_take c n row m.0,
@@ -320,7 +320,7 @@ module _ (key : Config) (slots id : ℕ) (m : Sat) (c : ℕ) (near : c < chunks 
       )
     where
       -- a new hold counts for its own chunk alone
-      apart : (w : View) (k : ℕ) (hs : List HoldPart)
+      apart : (w : View) (k : ℕ) (hs : List HoldSheet)
           → ((b : ℕ) (y : Measure) → weight b y w ≡ weight b y
           (record m.0 { holds = new_hold (life c k) row ∷ m.0.holds })) → (b : ℕ) → b ≢ c → Same b m.0 w
       apart w k hs same b ne (held j) = omega (arith, same b (held j), other_chunk b j (life c k) ne)
@@ -353,9 +353,9 @@ module _ (key : Config) (slots id : ℕ) (m : Sat) (c : ℕ) (near : c < chunks 
         (o.head, o.spells, tells c key.refs_limit n x m.0 t o a),
       )))
 
-  module _ (h : HoldPart) (is : m.0.holds ≡ h ∷ behind m.0.holds) (of : h.life.chunk ≡ c) where
+  module _ (h : HoldSheet) (is : m.0.holds ≡ h ∷ behind m.0.holds) (of : h.life.chunk ≡ c) where
     -- the first hold's term, and those of the others
-    first_term : (f : HoldPart → ℕ) → total f m.0.holds ≡ f h + total f (behind m.0.holds)
+    first_term : (f : HoldSheet → ℕ) → total f m.0.holds ≡ f h + total f (behind m.0.holds)
     first_term f = ap (total f) is
 
     one_here : one_if (life c h.life.generation) h.life ≡ 1
@@ -453,7 +453,7 @@ module _ (key : Config) (slots id : ℕ) (m : Sat) (c : ℕ) (near : c < chunks 
   may_load_word j low = at_word word_load_tells key slots id m c j 0 (λ x. x) (λ x. x) low
       (may_read (suc j) (omega (arith, low)))
 
--- the view that has no part counts nothing
+-- the view that has no sheet counts nothing
 nothing : (b c n : ℕ) (y : Measure) → weight b y (seen_me c n).0 ≡ 0
 nothing b c n (held g) = refl
 nothing b c n (named g) = refl

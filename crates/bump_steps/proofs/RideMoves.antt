@@ -10,8 +10,8 @@ use Rattle.bump_rules.specs.declared.hands.Hand.TheVariants as hand
 use Rattle.bump_rules.specs.Totals.{total, how_many}
 use Rattle.bump_rules.specs.Lives.{life, one_if, count_of}
 use Rattle.bump_steps.specs.declared.views.Ride.{Ride}
-use Rattle.bump_steps.specs.declared.views.WorkerPart.{WorkerPart}
-use Rattle.bump_steps.specs.declared.views.HoldPart.{HoldPart}
+use Rattle.bump_steps.specs.declared.views.WorkerSheet.{WorkerSheet}
+use Rattle.bump_steps.specs.declared.views.HoldSheet.{HoldSheet}
 use Rattle.bump_steps.specs.declared.views.View.{View}
 use Rattle.bump_steps.specs.Views.{Measure, held, named, saw, owners, strays, mislabels, misreads, glanced, misglanced, glances_at, misglances_at, weight, in_hand, is_fetch_of, shown_by}
 use Rattle.bump_steps.specs.Rule.{RowPredicate, Kept, blank}
@@ -21,20 +21,20 @@ use Rattle.bump_steps.proofs.Frame.{AddsUp, splits, joins}
 use Rattle.bump_steps.proofs.StepLemmas.{on_first_total}
 
 -- what leaves the hand travels
-hand_parts : (c g : ℕ) (w : WorkerPart) (s : Hand) → in_hand c g (sent_hand s) + total (λ r. one_if (life c g) r.life)
+hand_sheets : (c g : ℕ) (w : WorkerSheet) (s : Hand) → in_hand c g (sent_hand s) + total (λ r. one_if (life c g) r.life)
     (rides_by w s) ≡ in_hand c g s
-hand_parts c g w hand.Idle = refl
-hand_parts c g w (hand.Trying l) = refl
-hand_parts c g w (hand.InHand l) = omega arith
-hand_parts c g w (hand.Clearing l) = refl
+hand_sheets c g w hand.Idle = refl
+hand_sheets c g w (hand.Trying l) = refl
+hand_sheets c g w (hand.InHand l) = omega arith
+hand_sheets c g w (hand.Clearing l) = refl
 
-workers_part : (c g : ℕ) (ws : List WorkerPart) → total (λ w. in_hand c g w.hand) (on_first sent ws) + total
+workers_sheet : (c g : ℕ) (ws : List WorkerSheet) → total (λ w. in_hand c g w.hand) (on_first sent ws) + total
     (λ r. one_if (life c g) r.life) (rides_in ws) ≡ total (λ w. in_hand c g w.hand) ws
-workers_part c g [] = refl
-workers_part c g (w ∷ ws) = omega (arith, hand_parts c g w w.hand)
+workers_sheet c g [] = refl
+workers_sheet c g (w ∷ ws) = omega (arith, hand_sheets c g w w.hand)
 
 parted : (v : View) (c : ℕ) (x : Measure) → AddsUp (weight c x) v (without_ride v) (ride_only v)
-parted v c (held g) = omega (arith, workers_part c g v.workers)
+parted v c (held g) = omega (arith, workers_sheet c g v.workers)
 parted v c (named g) = omega (arith, on_first_total (λ w. count_of (life c g) w.hits) sent (λ w. refl) v.workers)
 parted v c (saw g) = omega (
   arith,
@@ -64,7 +64,7 @@ ride_splits key id v = splits key id v (without_ride v) (ride_only v) (parted v)
           v.workers,
     )) (λ n. omega arith) (omega arith)
 
-module _ (p : WorkerPart) (h : HoldPart) (r : Ride) where
+module _ (p : WorkerSheet) (h : HoldSheet) (r : Ride) where
   abbrev pub idle : View
   idle = touching (record p { hand = hand.Idle }) h
 

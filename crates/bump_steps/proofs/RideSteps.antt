@@ -26,8 +26,8 @@ use Rattle.bump_steps.specs.declared.views.Empty.{Empty}
 use Rattle.bump_steps.specs.declared.views.Kind.{Kind}
 use Rattle.bump_steps.specs.declared.views.Kind.TheVariants as kind
 use Rattle.bump_steps.specs.declared.views.OwnStep.{OwnStep}
-use Rattle.bump_steps.specs.declared.views.WorkerPart.{WorkerPart}
-use Rattle.bump_steps.specs.declared.views.HoldPart.{HoldPart}
+use Rattle.bump_steps.specs.declared.views.WorkerSheet.{WorkerSheet}
+use Rattle.bump_steps.specs.declared.views.HoldSheet.{HoldSheet}
 use Rattle.bump_steps.specs.declared.views.View.{View}
 use Rattle.bump_steps.specs.Views.{Measure, held, named, saw, owners, strays, mislabels, misreads, glanced, misglanced, weight, in_hand, is_fetch, is_fetch_of, shown_by, IsBacked}
 use Rattle.bump_steps.specs.Rule.{RowPredicate, Sound, chunks, Kept, HasFittingLimit}
@@ -43,18 +43,12 @@ none_in_hand : (o : Option Dropped) (l : ItemId) (b k : ℕ) → in_hand b k (ju
 none_in_hand None l b k = refl
 none_in_hand (Some r) l b k = refl
 
-module _ (p : WorkerPart) (q : HoldPart) (l : ItemId) where
+module _ (p : WorkerSheet) (q : HoldSheet) (l : ItemId) where
   -- the worker so far, with these accounts and steps, and its hold
   abbrev pub with_hold : Hand → Accounts → List OwnStep → View
   with_hold s a steps = touching (record p { hand = s; accounts = a; steps = steps }) (record q { life = l })
 
   module _ (s z : Hand) (a : Accounts) (x : OwnStep) (plain : is_fetch x.kind ≡ false) where
-    abbrev before : View
-    before = with_hold s p.accounts p.steps
-
-    abbrev behind : View
-    behind = with_hold z a (p.steps ++ x ∷ [])
-
     -- such a step adds no fetch
     same_saw : (b k : ℕ) → how_many (is_fetch_of b k) (p.steps ++ x ∷ []) ≡ how_many (is_fetch_of b k) p.steps
     same_saw b k = omega (
@@ -123,7 +117,7 @@ module _ (p : WorkerPart) (q : HoldPart) (l : ItemId) where
       );
     }
 
-module _ (key : Config) (slots id : ℕ) (p : WorkerPart) (q : HoldPart) (l : ItemId) (near : l.chunk < chunks key)
+module _ (key : Config) (slots id : ℕ) (p : WorkerSheet) (q : HoldSheet) (l : ItemId) (near : l.chunk < chunks key)
     (sl : List (ℕ × Empty)) where
   -- the seat of a worker with this in its hand, and its hold
   abbrev pub seat_with : Hand → Sat
@@ -233,12 +227,12 @@ module _ (key : Config) (slots id : ℕ) (p : WorkerPart) (q : HoldPart) (l : It
 
 -- the seat that is so far, as these lemmas have it
 abbrev seen_as : (s : Hand) (l : ItemId) (m : Sat) → IsOn s l m.0 → Sat
-seen_as s l m on = (with_hold on.part on.hold l s on.part.accounts on.part.steps, m.1)
+seen_as s l m on = (with_hold on.sheet on.hold l s on.sheet.accounts on.sheet.steps, m.1)
 
 seat_is : (s : Hand) (l : ItemId) (m : Sat) (on : IsOn s l m.0) → m ≡ seen_as s l m on
 seat_is s l m on = λ i. (
   (on.view
-      ∙ (λ j. touching (record on.part { hand = on.hand j }) (record on.hold { life = on.life j }))) i,
+      ∙ (λ j. touching (record on.sheet { hand = on.hand j }) (record on.hold { life = on.life j }))) i,
   m.1,
 )
 
@@ -248,7 +242,7 @@ pub may_load_to_ride : {law : RowPredicate} (key : Config) (slots id : ℕ) (m :
 may_load_to_ride {law = law} key slots id m l limit failed near is on =
     subst (λ (z : ℕ × Sat). Allows (Kept law key) slots id z.1 (head_place slots l.chunk) (λ n. n)
     (load_to_ride_tells z.0 failed l z.1)) (λ i. (sym is i, sym (seat_is (hand.Trying l) l m on) i))
-    (loads_to_ride key slots id on.part on.hold l near m.1 failed)
+    (loads_to_ride key slots id on.sheet on.hold l near m.1 failed)
 
 pub may_reserve : {law : RowPredicate} (key : Config) (slots id : ℕ) (m : Sat) (l : ItemId) (limit failed old : ℕ) → l.chunk < chunks key
     → limit ≡ key.refs_limit → IsOn (hand.Trying l) l m.0 → HasRoomForReference limit old → Allows (Kept law key) slots id m
@@ -256,11 +250,11 @@ pub may_reserve : {law : RowPredicate} (key : Config) (slots id : ℕ) (m : Sat)
 may_reserve {law = law} key slots id m l limit failed old near is on room =
     subst (λ (z : ℕ × Sat). Allows (Kept law key) slots id z.1 (head_place slots l.chunk) (λ n. either (n == old) (old + 1) n)
     (try_to_ride_tells z.0 failed l old z.1)) (λ i. (sym is i, sym (seat_is (hand.Trying l) l m on) i))
-    (reserves key slots id on.part on.hold l near m.1 failed old (subst (λ (k : ℕ). HasRoomForReference k old) is room))
+    (reserves key slots id on.sheet on.hold l near m.1 failed old (subst (λ (k : ℕ). HasRoomForReference k old) is room))
 
 pub may_release_bump : {law : RowPredicate} (key : Config) (slots id : ℕ) (m : Sat) (l : ItemId) → l.chunk < chunks key
     → IsOn (hand.InHand l) l m.0 → Allows (Kept law key) slots id m (head_place slots l.chunk) (λ n. (n + (2 ^ 64 - 1)) % 2 ^ 64)
     (release_tells l m)
 may_release_bump {law = law} key slots id m l near on =
     subst (λ (z : Sat). Allows (Kept law key) slots id z (head_place slots l.chunk) (λ n. (n + (2 ^ 64 - 1)) % 2 ^ 64)
-    (release_tells l z)) (sym (seat_is (hand.InHand l) l m on)) (releases key slots id on.part on.hold l near m.1)
+    (release_tells l z)) (sym (seat_is (hand.InHand l) l m on)) (releases key slots id on.sheet on.hold l near m.1)

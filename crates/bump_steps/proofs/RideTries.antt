@@ -12,7 +12,7 @@ use Rattle.bump_word.proofs.Words.{one_head}
 use Rattle.bump_steps.specs.declared.views.Kind.TheVariants as kind
 use Rattle.bump_steps.specs.declared.views.OwnStep.{OwnStep}
 use Rattle.bump_steps.specs.declared.views.View.{View}
-use Rattle.bump_steps.specs.declared.views.WorkerPart.{WorkerPart}
+use Rattle.bump_steps.specs.declared.views.WorkerSheet.{WorkerSheet}
 use Rattle.bump_steps.specs.Marks.{on_worker}
 use Rattle.bump_steps.specs.Plays.{Sat, step_of}
 use Rattle.bump_rules.specs.Accounts.{counted_drop}
@@ -20,9 +20,9 @@ use Rattle.bump_steps.specs.Rides.{IsOfHeld, judged, judged_hand, worker_after_l
 use Rattle.bump_steps.specs.Tries.{last_found, RideFound, load_and_failures, with_more, drop_of, reserved_or_dropped, worker_after_attempt}
 use Rattle.bump_steps.proofs.Tries.{Trying, tries_start, has_head, last_is_one, refused_is, view_is, goes_on, found_so, first_again}
 
--- two changes of a worker's part, one after the other
-again : (f g : WorkerPart → WorkerPart) (v : View) → on_worker g (on_worker f v) ≡ on_worker (λ w. g (f w)) v
-again f g v = ap (λ (ws : List WorkerPart). record v { workers = ws }) (first_again f g v.workers)
+-- two changes of a worker's sheet, one after the other
+again : (f g : WorkerSheet → WorkerSheet) (v : View) → on_worker g (on_worker f v) ≡ on_worker (λ w. g (f w)) v
+again f g v = ap (λ (ws : List WorkerSheet). record v { workers = ws }) (first_again f g v.workers)
 
 -- ---- the rule of an attempt
 
@@ -100,7 +100,7 @@ module _ (limit : ℕ) (l : ItemId) (before : Sat) where
       pub still_on : failed < 8 → (h : Head) → Spells word h → h.refs < limit → IsOn (hand.Trying l) l before.0
           → IsOn (hand.Trying l) l now.0
       still_on few h spelled room on = record {
-        part = judged None l (with_more (load_and_failures l.chunk first more) on.part);
+        sheet = judged None l (with_more (load_and_failures l.chunk first more) on.sheet);
         hold = on.hold;
         view = ap (λ (m : Sat). m.0) (tries_on few h spelled room)
             ∙ ap (on_worker (λ w. judged None l (with_more (load_and_failures l.chunk first more) w))) on.view;

@@ -6,7 +6,7 @@ use Rattle.bump_rules.specs.declared.configs.Config.{Config}
 use Rattle.bump_rules.specs.Lawful.{bit}
 use Rattle.bump_rules.specs.Totals.{total}
 use Rattle.bump_steps.specs.declared.views.Kind.TheVariants as kind
-use Rattle.bump_steps.specs.declared.views.ClassPart.{ClassPart}
+use Rattle.bump_steps.specs.declared.views.ClassSheet.{ClassSheet}
 use Rattle.bump_steps.specs.declared.views.View.{View}
 use Rattle.bump_steps.specs.Views.{Measure, mislabels, owns, last_word}
 use Rattle.bump_steps.specs.Rule.{RowPredicate, Sound, chunks, Kept}
@@ -31,7 +31,7 @@ stored_last c i limit n x v t o a k ks mine =
       arith,
       a.mine (mislabels i (x i)),
       o.labelled i,
-      ap (total (λ (k : ClassPart). bit (owns c k && not (eqb (last_word i k c) (x i))))) ks,
+      ap (total (λ (k : ClassSheet). bit (owns c k && not (eqb (last_word i k c) (x i))))) ks,
     )))
 
 module _ {law : RowPredicate} (key : Config) (slots id : ℕ) (m : Sat) (c : ℕ) (near : c < chunks key) where

@@ -19,9 +19,9 @@ use Rattle.bump_rules.specs.Totals.{total}
 use Rattle.bump_rules.specs.Configs.{chunks_of, most_chunks}
 use Rattle.bump_rules.specs.declared.configs.ClassConfig.{ClassConfig}
 use Rattle.bump_rules.specs.declared.configs.Config.{Config}
-use Rattle.bump_steps.specs.declared.views.ClassPart.{ClassPart}
-use Rattle.bump_steps.specs.declared.views.WorkerPart.{WorkerPart}
-use Rattle.bump_steps.specs.declared.views.LanePart.{LanePart}
+use Rattle.bump_steps.specs.declared.views.ClassSheet.{ClassSheet}
+use Rattle.bump_steps.specs.declared.views.WorkerSheet.{WorkerSheet}
+use Rattle.bump_steps.specs.declared.views.LaneSheet.{LaneSheet}
 use Rattle.bump_rules.specs.Totals.{how_many}
 use Rattle.bump_rules.specs.Lives.{life, count_of}
 use Rattle.bump_rules.specs.History.{is_standing}
@@ -29,10 +29,10 @@ use Rattle.bump_rules.specs.Entries.{is_move_for}
 use Rattle.bump_rules.proofs.Standings.{standing_same}
 use Rattle.bump_word.specs.Layout.{generation_width}
 use Rattle.bump_steps.specs.Views.{owns, standing, labels_of, last_word, held, named, saw, glanced, glances_at, weight, refers, in_hand, is_fetch_of, bump_aboard, claimed_in, settled_in, names_move, underway_in, foreign_in, HaveLabels, untidy_in}
-use Rattle.bump_steps.specs.Rule.{RowPredicate, chunks, Kept, class_parts, worker_part, worker_parts, lane_part, lane_parts, opened, AreFresh, HasFittingLimit}
+use Rattle.bump_steps.specs.Rule.{RowPredicate, chunks, Kept, class_sheets, worker_sheet, worker_sheets, lane_sheet, lane_sheets, opened, AreFresh, HasFittingLimit}
 
--- the part of a class to which nothing happened
-abbrev new_class : ℕ → ℕ → ℕ → ClassConfig → ClassPart
+-- the sheet of a class to which nothing happened
+abbrev new_class : ℕ → ℕ → ℕ → ClassConfig → ClassSheet
 new_class fresh i first n = record {
   class = i;
   first = first;
@@ -50,13 +50,13 @@ pub nothing_yet : (i : ℕ) → labels_of i [] [] ≡ []
 nothing_yet zero = refl
 nothing_yet (suc j) = refl
 
-owns_yes : (c : ℕ) (k : ClassPart) → k.first ≤ c → c < k.first + k.count → bit (owns c k) ≡ 1
+owns_yes : (c : ℕ) (k : ClassSheet) → k.first ≤ c → c < k.first + k.count → bit (owns c k) ≡ 1
 owns_yes c k low high = ap₂ (λ a b. bit (a && b)) (le-leb k.first c low) (lt-ltb c (k.first + k.count) high)
 
-owns_before : (c : ℕ) (k : ClassPart) → c < k.first → bit (owns c k) ≡ 0
+owns_before : (c : ℕ) (k : ClassSheet) → c < k.first → bit (owns c k) ≡ 0
 owns_before c k h = ap (λ a. bit (a && ltb c (k.first + k.count))) (lt-leb k.first c h)
 
-owns_behind : (c : ℕ) (k : ClassPart) → k.first + k.count ≤ c → bit (owns c k) ≡ 0
+owns_behind : (c : ℕ) (k : ClassSheet) → k.first + k.count ≤ c → bit (owns c k) ≡ 0
 owns_behind c k h = ap (λ a. bit (leb k.first c && a)) (le-ltb c (k.first + k.count) h) ∙ none (leb k.first c)
   where
     none : (a : Bool) → bit (a && false) ≡ 0
@@ -64,7 +64,7 @@ owns_behind c k h = ap (λ a. bit (leb k.first c && a)) (le-ltb c (k.first + k.c
     none false = refl
 
 pub no_owner : (fresh i first c : ℕ) (ns : List ClassConfig) → c < first → total (λ k. bit (owns c k))
-    (class_parts fresh i first ns) ≡ 0
+    (class_sheets fresh i first ns) ≡ 0
 no_owner fresh i first c [] h = refl
 no_owner fresh i first c (n ∷ ns) h =
     omega (
@@ -74,9 +74,9 @@ no_owner fresh i first c (n ∷ ns) h =
     )
 
 pub one_owner : (fresh i first c : ℕ) (ns : List ClassConfig) → first ≤ c → c < first + chunks_of ns
-    → total (λ k. bit (owns c k)) (class_parts fresh i first ns) ≡ 1
+    → total (λ k. bit (owns c k)) (class_sheets fresh i first ns) ≡ 1
 one_owner fresh i first c [] low high = absurd (omega arith)
-one_owner fresh i first c (n ∷ ns) low high = let k : ClassPart = new_class fresh i first n in
+one_owner fresh i first c (n ∷ ns) low high = let k : ClassSheet = new_class fresh i first n in
     dite (dec_le (first + n.chunks) c)
     (λ later. omega (
       arith,
@@ -93,7 +93,7 @@ one_owner fresh i first c (n ∷ ns) low high = let k : ClassPart = new_class fr
 
 -- nor has one that is behind them all
 no_owner_behind : (fresh i first c : ℕ) (ns : List ClassConfig) → first + chunks_of ns ≤ c
-    → total (λ k. bit (owns c k)) (class_parts fresh i first ns) ≡ 0
+    → total (λ k. bit (owns c k)) (class_sheets fresh i first ns) ≡ 0
 no_owner_behind fresh i first c [] h = refl
 no_owner_behind fresh i first c (n ∷ ns) h =
     omega (
@@ -103,13 +103,13 @@ no_owner_behind fresh i first c (n ∷ ns) h =
     )
 
 -- so no chunk has two classes
-few_owners : (fresh c : ℕ) (ns : List ClassConfig) → total (λ k. bit (owns c k)) (class_parts fresh 0 0 ns) ≤ 1
+few_owners : (fresh c : ℕ) (ns : List ClassConfig) → total (λ k. bit (owns c k)) (class_sheets fresh 0 0 ns) ≤ 1
 few_owners fresh c ns = dite (dec_le (chunks_of ns) c)
     (λ behind. omega (arith, no_owner_behind fresh 0 0 c ns (omega (arith, behind))))
     (λ among. omega (arith, one_owner fresh 0 0 c ns (omega arith) (omega arith)))
 
 pub no_stray_yet : (fresh i first c : ℕ) (ns : List ClassConfig)
-    → total (λ k. bit (owns c k && not (is_standing (standing k c) (Unused, fresh)))) (class_parts fresh i first ns)
+    → total (λ k. bit (owns c k && not (is_standing (standing k c) (Unused, fresh)))) (class_sheets fresh i first ns)
     ≡ 0
 no_stray_yet fresh i first c [] = refl
 no_stray_yet fresh i first c (n ∷ ns) =
@@ -124,7 +124,7 @@ no_stray_yet fresh i first c (n ∷ ns) =
     none false = refl
 
 pub no_mislabel_yet : (i fresh j first c : ℕ) (ns : List ClassConfig)
-    → total (λ k. bit (owns c k && not (eqb (last_word i k c) 0))) (class_parts fresh j first ns) ≡ 0
+    → total (λ k. bit (owns c k && not (eqb (last_word i k c) 0))) (class_sheets fresh j first ns) ≡ 0
 no_mislabel_yet i fresh j first c [] = refl
 no_mislabel_yet i fresh j first c (n ∷ ns) =
     omega (
@@ -138,15 +138,15 @@ no_mislabel_yet i fresh j first c (n ∷ ns) =
     none false = refl
 
 -- workers and lanes count for nothing at the start
-no_workers : (f : WorkerPart → ℕ) → ((w : ℕ) → f (worker_part w) ≡ 0) → (w n : ℕ) → total f (worker_parts w n) ≡ 0
+no_workers : (f : WorkerSheet → ℕ) → ((w : ℕ) → f (worker_sheet w) ≡ 0) → (w n : ℕ) → total f (worker_sheets w n) ≡ 0
 no_workers f e w zero = refl
 no_workers f e w (suc n) = omega (arith, e w, no_workers f e (w + 1) n)
 
-no_lanes : (f : LanePart → ℕ) → ((w : ℕ) → f (lane_part w) ≡ 0) → (w n : ℕ) → total f (lane_parts w n) ≡ 0
+no_lanes : (f : LaneSheet → ℕ) → ((w : ℕ) → f (lane_sheet w) ≡ 0) → (w n : ℕ) → total f (lane_sheets w n) ≡ 0
 no_lanes f e w zero = refl
 no_lanes f e w (suc n) = omega (arith, e w, no_lanes f e (w + 1) n)
 
-no_classes : (f : ClassPart → ℕ)
+no_classes : (f : ClassSheet → ℕ)
     → ((g i at n : ℕ) → f (record {
       class = i;
       first = at;
@@ -158,7 +158,7 @@ no_classes : (f : ClassPart → ℕ)
       applying = None;
       steps =
           [];
-    }) ≡ 0) → (g i at : ℕ) (ks : List ClassConfig) → total f (class_parts g i at ks) ≡ 0
+    }) ≡ 0) → (g i at : ℕ) (ks : List ClassConfig) → total f (class_sheets g i at ks) ≡ 0
 no_classes f e g i at [] = refl
 no_classes f e g i at (k ∷ ks) = omega (arith, e g i at k.chunks, no_classes f e g (i + 1) (at + k.chunks) ks)
 
@@ -183,7 +183,7 @@ no_glance : (c g : ℕ) (key : Config) → weight c (glanced g) (opened key) + 0
 no_glance c g key = omega (arith, no_workers (glances_at c g) (λ w. refl) 0 key.workers)
 
 -- no chunk of a new class is in use, and no life has begun
-fresh_labels : (g i at : ℕ) (ks : List ClassConfig) → HaveLabels (class_parts g i at ks)
+fresh_labels : (g i at : ℕ) (ks : List ClassConfig) → HaveLabels (class_sheets g i at ks)
 fresh_labels g i at [] = tt
 fresh_labels g i at (k ∷ ks) = (
   record {
@@ -194,7 +194,7 @@ fresh_labels g i at (k ∷ ks) = (
 )
 
 -- of the lanes of workers from w on one is of each worker
-none_of : (n w m : ℕ) → n < w → total (λ l. cond (eqb l.worker n) 1 0) (lane_parts w m) ≡ 0
+none_of : (n w m : ℕ) → n < w → total (λ l. cond (eqb l.worker n) 1 0) (lane_sheets w m) ≡ 0
 none_of n w zero h = refl
 none_of n w (suc m) h = omega (
   arith,
@@ -202,14 +202,14 @@ none_of n w (suc m) h = omega (
   none_of n (w + 1) m (omega arith),
 )
 
-one_of : (n w m : ℕ) → total (λ l. cond (eqb l.worker n) 1 0) (lane_parts w m) ≤ 1
+one_of : (n w m : ℕ) → total (λ l. cond (eqb l.worker n) 1 0) (lane_sheets w m) ≤ 1
 one_of n w zero = omega arith
 one_of n w (suc m) = dite (ℕ_discrete w n)
     (λ e. omega (arith, ap {B = ℕ} (λ (b : Bool). cond b 1 0) (eq-eqb w n e), none_of n (w + 1) m (omega arith)))
     (λ ne. omega (arith, ap {B = ℕ} (λ (b : Bool). cond b 1 0) (ne_eqb w n ne), one_of n (w + 1) m))
 
 -- and none is of a number behind them
-none_above : (n w m : ℕ) → w + m ≤ n → total (λ l. cond (eqb l.worker n) 1 0) (lane_parts w m) ≡ 0
+none_above : (n w m : ℕ) → w + m ≤ n → total (λ l. cond (eqb l.worker n) 1 0) (lane_sheets w m) ≡ 0
 none_above n w zero h = refl
 none_above n w (suc m) h = omega (
   arith,
@@ -218,7 +218,7 @@ none_above n w (suc m) h = omega (
 )
 
 -- and the same of workers
-no_worker_of : (n w m : ℕ) → n < w → total (λ p. cond (eqb p.worker n) 1 0) (worker_parts w m) ≡ 0
+no_worker_of : (n w m : ℕ) → n < w → total (λ p. cond (eqb p.worker n) 1 0) (worker_sheets w m) ≡ 0
 no_worker_of n w zero h = refl
 no_worker_of n w (suc m) h =
     omega (
@@ -227,7 +227,7 @@ no_worker_of n w (suc m) h =
       no_worker_of n (w + 1) m (omega arith),
     )
 
-one_worker_of : (n w m : ℕ) → total (λ p. cond (eqb p.worker n) 1 0) (worker_parts w m) ≤ 1
+one_worker_of : (n w m : ℕ) → total (λ p. cond (eqb p.worker n) 1 0) (worker_sheets w m) ≤ 1
 one_worker_of n w zero = omega arith
 one_worker_of n w (suc m) = dite (ℕ_discrete w n)
     (λ e. omega (arith, ap {B = ℕ} (λ (b : Bool). cond b 1 0) (eq-eqb w n e), no_worker_of n (w + 1) m (omega arith)))
@@ -259,7 +259,7 @@ starts key words slots at_first limits generations = record {
     obeys = λ lit. absurd (false≢true lit);
     agreed = omega (arith, no_stray_yet (key.first_generation - 1) 0 0 c key.classes);
     labelled = λ i. subst (λ (x : ℕ). total (λ k. bit (owns c k && not (eqb (last_word i k c) x)))
-        (class_parts (key.first_generation - 1) 0 0 key.classes) + 0 ≡ 0) (sym ((fresh.1 c near).1 i))
+        (class_sheets (key.first_generation - 1) 0 0 key.classes) + 0 ≡ 0) (sym ((fresh.1 c near).1 i))
         (omega (arith, no_mislabel_yet i (key.first_generation - 1) 0 0 c key.classes));
     read = λ i. refl;
     ahead = λ g far. no_glance c g key;

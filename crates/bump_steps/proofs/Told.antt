@@ -1,7 +1,7 @@
 -- What a seat's view tells of the head that it finds.
 use Rattle.std.proofs.Common.{◌≡◌, ℕ, ◌+◌, ◌<◌, ◌&&◌, cond, not, Bool, true, false, List, [], ◌∷◌, refl, sym, ap, ap₂, ◌∙◌, subst, arith}
 use mathlib.Core.Bool.{false≢true}
-use Rattle.bump_steps.specs.declared.views.ClassPart.{ClassPart}
+use Rattle.bump_steps.specs.declared.views.ClassSheet.{ClassSheet}
 use Rattle.bump_steps.specs.declared.views.View.{View}
 use Rattle.bump_rules.specs.Totals.{total}
 use Rattle.bump_rules.specs.History.{Standing, is_standing}
@@ -20,13 +20,13 @@ stands true true a b e o n = same_standing a b e
 stands true false a b e o n = absurd (omega arith)
 stands false same a b e o n = absurd (false≢true o)
 
-abbrev owned_by : ℕ → List ClassPart → ℕ
+abbrev owned_by : ℕ → List ClassSheet → ℕ
 owned_by c ks = total (λ k. cond (owns c k) 1 0) ks
 
-abbrev strayed : ℕ → Standing → List ClassPart → ℕ
+abbrev strayed : ℕ → Standing → List ClassSheet → ℕ
 strayed c s ks = total (λ k. cond (owns c k && not (is_standing (standing k c) s)) 1 0) ks
 
-one_standing : (c : ℕ) (a b : Standing) (ks : List ClassPart) → 0 < owned_by c ks → strayed c a ks ≡ 0
+one_standing : (c : ℕ) (a b : Standing) (ks : List ClassSheet) → 0 < owned_by c ks → strayed c a ks ≡ 0
     → strayed c b ks ≡ 0 → a ≡ b
 one_standing c a b [] o x y = absurd (omega arith)
 one_standing c a b (k ∷ ks) o x y = by (owns c k) refl (one_standing c a b ks)
@@ -78,8 +78,8 @@ tells c limit n x v t o a = record {
   told = a.told;
 }
 
--- the seat of one class part knows how it stands
-pub stands_alone : (c : ℕ) (v : View) (k : ClassPart) → v.classes ≡ k ∷ [] → owns c k ≡ true
+-- the seat of one class's sheet knows how it stands
+pub stands_alone : (c : ℕ) (v : View) (k : ClassSheet) → v.classes ≡ k ∷ [] → owns c k ≡ true
     → Stands c v (standing k c)
 stands_alone c v k e own = (
   ap (λ ks. owned_by c ks) e ∙ ap (λ b. cond b 1 0 + 0) own,

@@ -14,7 +14,7 @@ use Rattle.bump_steps.specs.declared.refusals.TakeRefusal.TheVariants.{Busy}
 use Rattle.bump_steps.specs.declared.views.Kind.TheVariants as kind
 use Rattle.bump_steps.specs.declared.views.OwnStep.{OwnStep}
 use Rattle.bump_steps.specs.declared.views.View.{View}
-use Rattle.bump_steps.specs.declared.views.WorkerPart.{WorkerPart}
+use Rattle.bump_steps.specs.declared.views.WorkerSheet.{WorkerSheet}
 use Rattle.bump_steps.specs.Marks.{on_worker}
 use Rattle.bump_steps.specs.Rule.{RowPredicate}
 use Rattle.bump_steps.specs.Plays.{Sat, HasWorker, on_first, step_of}
@@ -66,23 +66,23 @@ first_again f g (x ∷ xs) = refl
 -- steps that are made one after the other
 pub more_again : (s t : List OwnStep) (v : View) → on_worker (with_more t) (on_worker (with_more s) v) ≡ on_worker
     (with_more (s ++ t)) v
-more_again s t v = ap (λ (ws : List WorkerPart). record v { workers = ws })
+more_again s t v = ap (λ (ws : List WorkerSheet). record v { workers = ws })
     (first_again (with_more s) (with_more t) v.workers
-    ∙ ap (λ (f : WorkerPart → WorkerPart). on_first f v.workers)
+    ∙ ap (λ (f : WorkerSheet → WorkerSheet). on_first f v.workers)
     (λ i w. record w { steps = append_assoc w.steps s t i }))
 
 -- behind these steps the worker took this hold, or was refused
-abbrev asked_part : List OwnStep → ℕ → Head → Option TakeRefusal → ItemId → List ℕ → WorkerPart → WorkerPart
-asked_part steps c k o l row w =
+abbrev asked_sheet : List OwnStep → ℕ → Head → Option TakeRefusal → ItemId → List ℕ → WorkerSheet → WorkerSheet
+asked_sheet steps c k o l row w =
     record w { steps = w.steps ++ (steps ++ takes c o k); taken = held_by o l row w.taken }
 
 -- a hold is taken behind these steps
 take_again : (s : List OwnStep) (c : ℕ) (k : Head) (row : List ℕ) (v : View)
     → on_worker (worker_after_take c (word_of k) row) (on_worker (with_more s) v)
-    ≡ on_worker (asked_part s c k None (life c (word_of k / 2 ^ generation_first)) row) v
-take_again s c k row v = ap (λ (ws : List WorkerPart). record v { workers = ws })
+    ≡ on_worker (asked_sheet s c k None (life c (word_of k / 2 ^ generation_first)) row) v
+take_again s c k row v = ap (λ (ws : List WorkerSheet). record v { workers = ws })
     (first_again (with_more s) (worker_after_take c (word_of k) row) v.workers
-    ∙ ap (λ (f : WorkerPart → WorkerPart). on_first f v.workers)
+    ∙ ap (λ (f : WorkerSheet → WorkerSheet). on_first f v.workers)
     (λ i w. record w {
       steps = append_assoc w.steps s (step_of kind.Take c (word_of k) None ∷ []) i;
       taken = new_hold (life c (word_of k / 2 ^ generation_first)) row ∷ w.taken;
@@ -220,7 +220,7 @@ module _ (law : RowPredicate) (limit slots : ℕ) (asked : Head → ℕ) (c : �
   module _ (now : Sat) (word failed : ℕ) (first : Head) (more : List Head)
       (y : TryingToTake limit asked c before now word failed first more)
     where
-      -- the seat still has its worker's part
+      -- the seat still has its worker's sheet
       pub still_working : HasWorker before.0 → HasWorker now.0
       still_working some = subst (λ (m : Sat). HasWorker m.0) (sym y.view)
           (some_first (with_more (load_and_failures c first more)) before.0.workers some)
@@ -272,7 +272,7 @@ module _ (law : RowPredicate) (limit slots : ℕ) (asked : Head → ℕ) (c : �
             ∙ ap (λ (o : Option TakeRefusal). (
               record before.0 {
                 workers = on_first
-                    (asked_part (load_and_failures c first more) c (last_found first more) o
+                    (asked_sheet (load_and_failures c first more) c (last_found first more) o
                     (asked_life asked c first more) (row_of_zeros (slots + 1)))
                     before.0.workers;
                 holds = held_by o (asked_life asked c first more) (row_of_zeros (slots + 1)) before.0.holds;
@@ -324,7 +324,7 @@ module _ (law : RowPredicate) (limit slots : ℕ) (asked : Head → ℕ) (c : �
                 ∙ ap (λ (g : ℕ). (
                   record before.0 {
                     workers = on_first
-                        (asked_part (load_and_failures c first more) c k None (life c g) took.0)
+                        (asked_sheet (load_and_failures c first more) c k None (life c g) took.0)
                         before.0.workers;
                     holds = new_hold (life c (asked k)) took.0 ∷ before.0.holds;
                   },
@@ -333,7 +333,7 @@ module _ (law : RowPredicate) (limit slots : ℕ) (asked : Head → ℕ) (c : �
                 ∙ ap (λ (o : Option TakeRefusal). (
                   record before.0 {
                     workers = on_first
-                        (asked_part (load_and_failures c first more) c k o (life c (asked k)) took.0)
+                        (asked_sheet (load_and_failures c first more) c k o (life c (asked k)) took.0)
                         before.0.workers;
                     holds = held_by o (life c (asked k)) took.0 before.0.holds;
                   },

@@ -1,26 +1,26 @@
 -- A glance: a worker's look at a life without a reference. Its first load finds the life linked, and its last one tells
 -- whether it still is: then each word that was loaded between is the life's. It writes nothing, and stands in the
--- worker's part.
+-- worker's sheet.
 use Rattle.std.specs.Prelude.{◌≡◌, ℕ, suc, ◌/◌, ◌^◌, ◌&&◌, ◌==◌, true, false, List, ◌∷◌, slice_index}
 use Rattle.bump_rules.specs.declared.items.Head.{Head}
 use Rattle.bump_rules.specs.declared.items.ItemId.{ItemId}
 use Rattle.bump_rules.specs.Lives.{life}
 use Rattle.bump_word.specs.Layout.{generation_first}
-use Rattle.bump_steps.specs.declared.views.GlancePart.{GlancePart}
+use Rattle.bump_steps.specs.declared.views.GlanceSheet.{GlanceSheet}
 use Rattle.bump_steps.specs.declared.views.Kind.TheVariants as kind
 use Rattle.bump_steps.specs.declared.views.View.{View}
-use Rattle.bump_steps.specs.declared.views.WorkerPart.{WorkerPart}
+use Rattle.bump_steps.specs.declared.views.WorkerSheet.{WorkerSheet}
 use Rattle.bump_steps.specs.Marks.{noted, on_worker}
 use Rattle.bump_steps.specs.Plays.{Tells, Found, behind, on_first}
 use Rattle.bump_steps.specs.References.{IsRow, words_in, view_after_load}
 use Rattle.bump_steps.specs.Rule.{RowPredicate}
 
 -- a glance at the life, whose words are these, and which loaded none
-abbrev pub new_glance : ItemId → List ℕ → GlancePart
+abbrev pub new_glance : ItemId → List ℕ → GlanceSheet
 new_glance item row = record { life = item; row = row; agrees = true }
 
 -- the worker loaded the head of the chunk, whose life is linked, and notes the load and a glance at the life
-abbrev pub worker_after_glance : ℕ → ℕ → List ℕ → WorkerPart → WorkerPart
+abbrev pub worker_after_glance : ℕ → ℕ → List ℕ → WorkerSheet → WorkerSheet
 worker_after_glance chunk word row worker = record (noted kind.Load chunk word worker)
     { glances = new_glance (life chunk (word / 2 ^ generation_first)) row ∷ worker.glances }
 
@@ -34,18 +34,18 @@ glance_tells law slots chunk operand before word after = Found word (λ h. (h.li
 
 -- the first glance of the view's first worker is at a life of this chunk
 pub record HasGlance (chunk : ℕ) (view : View) : Type 0 where
-  pub worker : WorkerPart
+  pub worker : WorkerSheet
   pub workers : view.workers ≡ worker ∷ behind view.workers
-  pub glance : GlancePart
+  pub glance : GlanceSheet
   pub glances : worker.glances ≡ glance ∷ behind worker.glances
   pub of : glance.life.chunk ≡ chunk
 
 -- the glance loaded this word, where its row has word i
-abbrev pub glance_after_load : ℕ → ℕ → GlancePart → GlancePart
+abbrev pub glance_after_load : ℕ → ℕ → GlanceSheet → GlanceSheet
 glance_after_load i word glance = record glance { agrees = glance.agrees && (slice_index glance.row i == word) }
 
 -- so did the worker's first glance
-abbrev pub worker_after_glance_load : ℕ → ℕ → WorkerPart → WorkerPart
+abbrev pub worker_after_glance_load : ℕ → ℕ → WorkerSheet → WorkerSheet
 worker_after_glance_load i word worker = record worker { glances = on_first (glance_after_load i word) worker.glances }
 
 abbrev pub view_after_glance_load : ℕ → ℕ → View → View

@@ -10,17 +10,17 @@ use Rattle.bump_word.specs.Layout.{fetched_first, active_first}
 use Rattle.bump_word.specs.Words.{word_of}
 use Rattle.bump_steps.specs.declared.views.Kind.{Kind}
 use Rattle.bump_steps.specs.declared.views.Kind.TheVariants as kind
-use Rattle.bump_steps.specs.declared.views.WorkerPart.{WorkerPart}
+use Rattle.bump_steps.specs.declared.views.WorkerSheet.{WorkerSheet}
 use Rattle.bump_steps.specs.declared.views.View.{View}
 use Rattle.bump_steps.specs.Views.{held, saw, weight}
 use Rattle.bump_steps.specs.Plays.{Tells, Found, Told, on_first, step_of}
 
--- the worker's part changes
-abbrev pub on_worker : (WorkerPart → WorkerPart) → View → View
+-- the worker's sheet changes
+abbrev pub on_worker : (WorkerSheet → WorkerSheet) → View → View
 on_worker change view = record view { workers = on_first change view.workers }
 
 -- the worker made a step on a chunk, for no bump: the word that it found, or the value that it stored
-abbrev pub noted : Kind → ℕ → ℕ → WorkerPart → WorkerPart
+abbrev pub noted : Kind → ℕ → ℕ → WorkerSheet → WorkerSheet
 noted kind chunk word worker = record worker { steps = worker.steps ++ step_of kind chunk word None ∷ [] }
 
 -- the life joins the first hits where FETCHED was found clear
@@ -29,7 +29,7 @@ hits_after true item hits = hits
 hits_after false item hits = hits ++ item ∷ []
 
 -- the worker set FETCHED of the life, and found this head
-abbrev pub worker_after_fetch : ItemId → Head → WorkerPart → WorkerPart
+abbrev pub worker_after_fetch : ItemId → Head → WorkerSheet → WorkerSheet
 worker_after_fetch item head worker = record (noted kind.Fetch item.chunk (word_of head) worker)
     { hits = hits_after head.fetched item worker.hits }
 
@@ -39,7 +39,7 @@ trying item hand.Idle = hand.Trying item
 trying item so_far = so_far
 
 -- a bump of the life is attempted
-abbrev pub attempting : ItemId → WorkerPart → WorkerPart
+abbrev pub attempting : ItemId → WorkerSheet → WorkerSheet
 attempting item worker =
     record worker {
       hand = trying item worker.hand;
@@ -48,7 +48,7 @@ attempting item worker =
     }
 
 -- the worker set ACTIVE of the life, and found this head: a bump is attempted where ACTIVE was clear in COLD
-abbrev pub worker_after_mark : ItemId → Head → WorkerPart → WorkerPart
+abbrev pub worker_after_mark : ItemId → Head → WorkerSheet → WorkerSheet
 worker_after_mark item head worker = let q = noted kind.Mark item.chunk (word_of head) worker in
     if attempts_bump head then attempting item q else q
 
@@ -58,16 +58,16 @@ done (hand.Clearing item) = hand.Idle
 done so_far = so_far
 
 -- the worker cleared ACTIVE of the life, and found this head
-abbrev pub worker_after_unmark : ItemId → Head → WorkerPart → WorkerPart
+abbrev pub worker_after_unmark : ItemId → Head → WorkerSheet → WorkerSheet
 worker_after_unmark item head worker = record (noted kind.Unmark item.chunk (word_of head) worker)
     { hand = done worker.hand }
 
 -- the worker stored the life's time
-abbrev pub worker_after_store_time : ItemId → ℕ → WorkerPart → WorkerPart
+abbrev pub worker_after_store_time : ItemId → ℕ → WorkerSheet → WorkerSheet
 worker_after_store_time item now worker = noted kind.StoreTime item.chunk now worker
 
--- What the steps tell: their operand, and the change of the part, by the head that the word found spells.
-abbrev pub changed_by : ℕ → (ItemId → Head → WorkerPart → WorkerPart) → Tells
+-- What the steps tell: their operand, and the change of the sheet, by the head that the word found spells.
+abbrev pub changed_by : ℕ → (ItemId → Head → WorkerSheet → WorkerSheet) → Tells
 changed_by operand change chunk given before word after = (given ≡ operand)
     × Found word (λ h. (after ≡ (on_worker (change (life chunk h.generation) h) before.0, before.1))
     × Told chunk before.0 h)

@@ -1,8 +1,8 @@
 -- A hold meets its class, and a lane meets a class.
 use Rattle.std.specs.Prelude.{◌≡◌, ℕ, true, [], ◌∷◌, slice_index, ◌≤◌, ◌++◌, None}
 use Rattle.bump_rules.specs.Lawful.{IsUsed}
-use Rattle.bump_steps.specs.declared.views.ClassPart.{ClassPart}
-use Rattle.bump_steps.specs.declared.views.HoldPart.{HoldPart}
+use Rattle.bump_steps.specs.declared.views.ClassSheet.{ClassSheet}
+use Rattle.bump_steps.specs.declared.views.HoldSheet.{HoldSheet}
 use Rattle.bump_steps.specs.declared.views.Kind.TheVariants as kind
 use Rattle.bump_steps.specs.declared.views.View.{View}
 use Rattle.bump_steps.specs.Views.{owns, standing, last_label, last_word, Query, moves}
@@ -12,7 +12,7 @@ use Rattle.bump_steps.specs.declared.views.Empty.{Empty}
 use Rattle.bump_steps.specs.Plays.{Sat, Tells, TellsOfMoves, step_of}
 
 -- what a class and a hold of one of its chunks know, where x is the label word of the chunk
-pub record Met (class : ClassPart) (hold : HoldPart) (word : ℕ) : Type 0 where
+pub record Met (class : ClassSheet) (hold : HoldSheet) (word : ℕ) : Type 0 where
   -- it is what the class stored last for the chunk
   pub label : last_label class hold.life.chunk ≡ word
   -- and so is each word of the hold's row, of which it is the first
@@ -23,14 +23,14 @@ pub record Met (class : ClassPart) (hold : HoldPart) (word : ℕ) : Type 0 where
 
 -- a class's seat to which a hold is joined finds this label word of chunk c
 abbrev pub Meets : ℕ → View → ℕ → Type 0
-Meets chunk view label = (k : ClassPart) (h : HoldPart) → view.classes ≡ k ∷ [] → view.holds ≡ h ∷ []
+Meets chunk view label = (k : ClassSheet) (h : HoldSheet) → view.classes ≡ k ∷ [] → view.holds ≡ h ∷ []
     → owns chunk k ≡ true → h.life.chunk ≡ chunk → Met k h label
 
 abbrev pub load_to_meet_tells : Tells
 load_to_meet_tells chunk operand before word after = (after ≡ before) × Meets chunk before.0 word
 
 -- the class loaded a spare word, and nothing else
-abbrev pub class_after_meet : ClassPart → ClassPart
+abbrev pub class_after_meet : ClassSheet → ClassSheet
 class_after_meet class = record class { steps = class.steps ++ step_of kind.Meet 0 0 None ∷ [] }
 
 -- such a load of a class's seat to which a lane is joined: what both have of moves for bumps agrees

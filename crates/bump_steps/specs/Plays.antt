@@ -87,7 +87,7 @@ pub record TellsOfMoves (view : View) : Type 0 where
   pub own : foreign view ≡ 0
   pub told : (q : Query) → IsOwn q.test view → 0 < lane_count_of q.worker view → moves q view ≡ settled q view
 
--- Each step is noted in the list of a part: a seat that has none makes no such step. The seat has the part of a worker,
+-- Each step is noted in the list of a sheet: a seat that has none makes no such step. The seat has the sheet of a worker,
 -- or of a class.
 abbrev pub HasWorker : View → Type 0
 HasWorker view = 0 < length view.workers

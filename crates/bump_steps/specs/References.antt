@@ -9,10 +9,10 @@ use Rattle.bump_rules.specs.Tables.{get_of, IsHeld}
 use Rattle.bump_word.specs.Layout.{generation_first}
 use Rattle.bump_word.specs.Words.{Spells}
 use Rattle.bump_steps.specs.declared.views.GivenBack.{GivenBack}
-use Rattle.bump_steps.specs.declared.views.HoldPart.{HoldPart}
+use Rattle.bump_steps.specs.declared.views.HoldSheet.{HoldSheet}
 use Rattle.bump_steps.specs.declared.views.Kind.TheVariants as kind
 use Rattle.bump_steps.specs.declared.views.View.{View}
-use Rattle.bump_steps.specs.declared.views.WorkerPart.{WorkerPart}
+use Rattle.bump_steps.specs.declared.views.WorkerSheet.{WorkerSheet}
 use Rattle.bump_steps.specs.Plays.{Sat, Tells, Found, Told, behind, on_first, step_of}
 use Rattle.bump_steps.specs.Marks.{noted, on_worker}
 use Rattle.bump_steps.specs.Rule.{RowPredicate, blank}
@@ -30,11 +30,11 @@ load_to_take_tells chunk operand before word after = (after ≡ (view_after_load
     × Found word (Told chunk before.0)
 
 -- a hold of the life, whose words are these, and which looked at no head
-abbrev pub new_hold : ItemId → List ℕ → HoldPart
+abbrev pub new_hold : ItemId → List ℕ → HoldSheet
 new_hold item row = record { life = item; row = row; looks = [] }
 
 -- the worker notes the exchange and the hold that it took
-abbrev pub worker_after_take : ℕ → ℕ → List ℕ → WorkerPart → WorkerPart
+abbrev pub worker_after_take : ℕ → ℕ → List ℕ → WorkerSheet → WorkerSheet
 worker_after_take chunk word row worker = record (noted kind.Take chunk word worker)
     { taken = new_hold (life chunk (word / 2 ^ generation_first)) row ∷ worker.taken }
 
@@ -62,7 +62,7 @@ word_of_row words index = slice_index words (suc index)
 abbrev pub words_in : List ℕ → ℕ → ℕ
 words_in words index = slice_index words index
 
--- an exchange that finds the word that it expects puts the life's row into the hold's part, of which the law holds, and one that finds another
+-- an exchange that finds the word that it expects puts the life's row into the hold's sheet, of which the law holds, and one that finds another
 -- word failed
 abbrev pub take_tells : RowPredicate → ℕ → Tells
 take_tells law slots chunk operand before word after =
@@ -76,10 +76,10 @@ MayTake limit item word = (h : Head) × Spells word h × (get_of limit item.gene
 
 -- the view's first hold is of this chunk
 abbrev pub HasHold : ℕ → View → Type 0
-HasHold chunk view = (h : HoldPart) × (view.holds ≡ h ∷ behind view.holds) × (h.life.chunk ≡ chunk)
+HasHold chunk view = (h : HoldSheet) × (view.holds ≡ h ∷ behind view.holds) × (h.life.chunk ≡ chunk)
 
 -- the mark of the first hold: its reference was given back where n was found
-abbrev pub marks_of_release : ℕ → List HoldPart → List GivenBack
+abbrev pub marks_of_release : ℕ → List HoldSheet → List GivenBack
 marks_of_release word [] = []
 marks_of_release word (hold ∷ hs) = record { life = hold.life; word = word } ∷ []
 
@@ -93,7 +93,7 @@ release_of_hold_tells chunk operand before word after = (after ≡ (view_after_r
     × Found word (Told chunk before.0)
 
 -- the hold looked at its chunk's head word, and found n
-abbrev pub hold_after_load : ℕ → HoldPart → HoldPart
+abbrev pub hold_after_load : ℕ → HoldSheet → HoldSheet
 hold_after_load word hold = record hold { looks = hold.looks ++ word ∷ [] }
 
 abbrev pub view_after_load_of_hold : ℕ → View → View
@@ -105,7 +105,7 @@ load_of_hold_tells chunk operand before word after = (after ≡ (view_after_load
 
 -- the word is number i of the row of the first hold, of this chunk
 abbrev pub IsOfRow : ℕ → ℕ → View → ℕ → Type 0
-IsOfRow i chunk view word = (h : HoldPart) → view.holds ≡ h ∷ behind view.holds → h.life.chunk ≡ chunk
+IsOfRow i chunk view word = (h : HoldSheet) → view.holds ≡ h ∷ behind view.holds → h.life.chunk ≡ chunk
     → word ≡ slice_index h.row i
 
 -- a hold read its label, or further word j, by which it learns nothing new

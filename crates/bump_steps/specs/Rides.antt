@@ -14,8 +14,8 @@ use Rattle.bump_word.specs.Words.{Spells, word_of}
 use Rattle.bump_steps.specs.declared.views.Kind.{Kind}
 use Rattle.bump_steps.specs.declared.views.Kind.TheVariants as kind
 use Rattle.bump_steps.specs.declared.views.Ride.{Ride}
-use Rattle.bump_steps.specs.declared.views.WorkerPart.{WorkerPart}
-use Rattle.bump_steps.specs.declared.views.HoldPart.{HoldPart}
+use Rattle.bump_steps.specs.declared.views.WorkerSheet.{WorkerSheet}
+use Rattle.bump_steps.specs.declared.views.HoldSheet.{HoldSheet}
 use Rattle.bump_steps.specs.declared.views.View.{View}
 use Rattle.bump_steps.specs.declared.refusals.RideRefusal.{RideRefusal}
 use Rattle.bump_steps.specs.declared.refusals.RideRefusal.TheVariants as refused
@@ -24,7 +24,7 @@ use Rattle.bump_steps.specs.Plays.{Sat, on_first}
 use Rattle.bump_steps.specs.Marks.{noted, on_worker}
 
 -- a worker, and the hold that is joined to its seat
-abbrev pub touching : WorkerPart → HoldPart → View
+abbrev pub touching : WorkerSheet → HoldSheet → View
 touching worker hold = record blank { workers = worker ∷ []; holds = hold ∷ [] }
 
 -- the head of a life that the worker holds
@@ -42,22 +42,22 @@ judged_hand None item = hand.Trying item
 judged_hand (Some why) item = hand.Clearing item
 
 -- the bump of the life is dropped, or the worker goes on to try
-abbrev pub judged : Option Dropped → ItemId → WorkerPart → WorkerPart
+abbrev pub judged : Option Dropped → ItemId → WorkerSheet → WorkerSheet
 judged why item worker = record worker { hand = judged_hand why item; accounts = counted_drop why worker.accounts }
 
 -- a step of this kind that looks for room found this head, and so many exchanges have failed: by the rule of an attempt
 -- it ends here, or goes on
-abbrev pub worker_after_load_to_ride : Kind → ℕ → ℕ → ItemId → Head → WorkerPart → WorkerPart
+abbrev pub worker_after_load_to_ride : Kind → ℕ → ℕ → ItemId → Head → WorkerSheet → WorkerSheet
 worker_after_load_to_ride kind limit failed item head worker = judged (refused_of limit failed head) item
     (noted kind item.chunk (word_of head) worker)
 
 -- the worker has the reference in its hand, which an exchange took that found this head
-abbrev pub worker_after_reserve : ItemId → Head → WorkerPart → WorkerPart
+abbrev pub worker_after_reserve : ItemId → Head → WorkerSheet → WorkerSheet
 worker_after_reserve item head worker = record (noted kind.Reserve item.chunk (word_of head) worker)
     { hand = hand.InHand item }
 
 -- it gave the reference back, for want of room
-abbrev pub worker_after_release : ItemId → Head → WorkerPart → WorkerPart
+abbrev pub worker_after_release : ItemId → Head → WorkerSheet → WorkerSheet
 worker_after_release item head worker = judged (Some dropped.Full) item
     (noted kind.GiveBackBump item.chunk (word_of head) worker)
 
@@ -94,10 +94,10 @@ release_tells item before word after = (h : Head) × Spells word h × (h.generat
 
 -- the seat is that of a worker which is so far with a bump of this life, and has a hold of it
 pub record IsOn (so_far : Hand) (item : ItemId) (seat : View) : Type 0 where
-  pub part : WorkerPart
-  pub hold : HoldPart
-  pub view : seat ≡ touching part hold
-  pub hand : part.hand ≡ so_far
+  pub sheet : WorkerSheet
+  pub hold : HoldSheet
+  pub view : seat ≡ touching sheet hold
+  pub hand : sheet.hand ≡ so_far
   pub life : hold.life ≡ item
 
 -- the word that an exchange expects is that of a head with room for a reference
@@ -114,7 +114,7 @@ sent_hand (hand.Trying item) = hand.Trying item
 sent_hand (hand.Clearing item) = hand.Clearing item
 
 -- the bump was sent off, and counts as accepted
-abbrev pub sent : WorkerPart → WorkerPart
+abbrev pub sent : WorkerSheet → WorkerSheet
 sent worker = record worker {
   hand = sent_hand worker.hand;
   accounts =
@@ -122,14 +122,14 @@ sent worker = record worker {
 }
 
 -- it travels with the number of those accepted before it
-abbrev pub rides_by : WorkerPart → Hand → List Ride
+abbrev pub rides_by : WorkerSheet → Hand → List Ride
 rides_by worker (hand.InHand item) = record { worker = worker.worker; number = worker.accounts.accepted; life = item }
     ∷ []
 rides_by worker hand.Idle = []
 rides_by worker (hand.Trying item) = []
 rides_by worker (hand.Clearing item) = []
 
-abbrev pub rides_in : List WorkerPart → List Ride
+abbrev pub rides_in : List WorkerSheet → List Ride
 rides_in [] = []
 rides_in (worker ∷ ws) = rides_by worker worker.hand
 
@@ -140,14 +140,14 @@ abbrev pub ride_only : View → View
 ride_only view = record blank { riders = rides_in view.workers }
 
 -- a bump that found no room comes back, and no longer counts as accepted
-abbrev pub returned : Ride → WorkerPart → WorkerPart
+abbrev pub returned : Ride → WorkerSheet → WorkerSheet
 returned ride worker = record worker {
   hand = hand.InHand ride.life;
   accounts =
       record worker.accounts { accepted = worker.accounts.accepted - 1 };
 }
 
-abbrev pub return_workers : List Ride → List WorkerPart → List WorkerPart
+abbrev pub return_workers : List Ride → List WorkerSheet → List WorkerSheet
 return_workers [] ws = ws
 return_workers (ride ∷ rs) ws = on_first (returned ride) ws
 

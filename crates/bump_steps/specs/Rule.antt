@@ -15,9 +15,9 @@ use Rattle.bump_rules.specs.Configs.{chunks_of}
 use Rattle.bump_word.specs.Layout.{refs_width, generation_first}
 use Rattle.bump_word.specs.Words.{Spells}
 use Rattle.bump_steps.specs.declared.views.Empty.{Empty}
-use Rattle.bump_steps.specs.declared.views.ClassPart.{ClassPart}
-use Rattle.bump_steps.specs.declared.views.LanePart.{LanePart}
-use Rattle.bump_steps.specs.declared.views.WorkerPart.{WorkerPart}
+use Rattle.bump_steps.specs.declared.views.ClassSheet.{ClassSheet}
+use Rattle.bump_steps.specs.declared.views.LaneSheet.{LaneSheet}
+use Rattle.bump_steps.specs.declared.views.WorkerSheet.{WorkerSheet}
 use Rattle.bump_steps.specs.declared.views.View.{View}
 use Rattle.bump_steps.specs.Places.{head_place, words_at}
 use Rattle.bump_steps.specs.Views.{Measure, held, named, saw, owners, strays, mislabels, misreads, glanced, misglanced, weight, tally}
@@ -82,19 +82,19 @@ pub record Kept (law : RowPredicate) (key : Config) (state : State Empty View) :
   pub own_chunks : total foreign state.views ≡ 0
   -- and has the label of each life
   pub own_labels : AreLabelled state.views
-  -- a worker has one part and one lane, and each lane's bumps are numbered in order
+  -- a worker has one sheet and one lane, and each lane's bumps are numbered in order
   pub one_worker : (n : ℕ) → total (workers_of n) state.views ≤ 1
   pub one_lane : (n : ℕ) → total (lane_count_of n) state.views ≤ 1
   -- and a number that is no worker's has no lane
   pub few_lanes : (n : ℕ) → key.workers ≤ n → total (lane_count_of n) state.views ≡ 0
   pub orderly : total untidy state.views ≡ 0
 
--- The views at the start: one seat has every part.
+-- The views at the start: one seat has every sheet.
 
 -- the classes from this number and this chunk on
-abbrev pub class_parts : ℕ → ℕ → ℕ → List ClassConfig → List ClassPart
-class_parts fresh class first [] = []
-class_parts fresh class first (config ∷ ks) = record {
+abbrev pub class_sheets : ℕ → ℕ → ℕ → List ClassConfig → List ClassSheet
+class_sheets fresh class first [] = []
+class_sheets fresh class first (config ∷ ks) = record {
   class = class;
   first = first;
   count = config.chunks;
@@ -105,10 +105,10 @@ class_parts fresh class first (config ∷ ks) = record {
   words = [];
   applying = None;
   steps = [];
-} ∷ class_parts fresh (class + 1) (first + config.chunks) ks
+} ∷ class_sheets fresh (class + 1) (first + config.chunks) ks
 
-abbrev pub worker_part : ℕ → WorkerPart
-worker_part worker = record {
+abbrev pub worker_sheet : ℕ → WorkerSheet
+worker_sheet worker = record {
   worker = worker;
   hand = hand.Idle;
   accounts = no_accounts;
@@ -119,17 +119,17 @@ worker_part worker = record {
 }
 
 -- n workers from w on
-abbrev pub worker_parts : ℕ → ℕ → List WorkerPart
-worker_parts worker zero = []
-worker_parts worker (suc count) = worker_part worker ∷ worker_parts (worker + 1) count
+abbrev pub worker_sheets : ℕ → ℕ → List WorkerSheet
+worker_sheets worker zero = []
+worker_sheets worker (suc count) = worker_sheet worker ∷ worker_sheets (worker + 1) count
 
-abbrev pub lane_part : ℕ → LanePart
-lane_part worker = record { worker = worker; stage = lane.Empty; applied = []; steps = [] }
+abbrev pub lane_sheet : ℕ → LaneSheet
+lane_sheet worker = record { worker = worker; stage = lane.Empty; applied = []; steps = [] }
 
 -- the lanes of n workers from w on
-abbrev pub lane_parts : ℕ → ℕ → List LanePart
-lane_parts worker zero = []
-lane_parts worker (suc count) = lane_part worker ∷ lane_parts (worker + 1) count
+abbrev pub lane_sheets : ℕ → ℕ → List LaneSheet
+lane_sheets worker zero = []
+lane_sheets worker (suc count) = lane_sheet worker ∷ lane_sheets (worker + 1) count
 
 -- the view that has nothing: what a seat that was joined leaves behind
 abbrev pub blank : View
@@ -137,10 +137,10 @@ blank = record { workers = []; holds = []; riders = []; classes = []; lanes = []
 
 abbrev pub opened : Config → View
 opened key = record blank {
-  workers = worker_parts 0 key.workers;
-  classes = class_parts (key.first_generation - 1) 0 0
+  workers = worker_sheets 0 key.workers;
+  classes = class_sheets (key.first_generation - 1) 0 0
       key.classes;
-  lanes = lane_parts 0 key.workers;
+  lanes = lane_sheets 0 key.workers;
 }
 
 -- words of chunks that had no life

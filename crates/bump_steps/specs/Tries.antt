@@ -12,11 +12,11 @@ use Rattle.bump_steps.specs.declared.refusals.AnyRefusal.{AnyRefusal}
 use Rattle.bump_steps.specs.declared.refusals.AnyRefusal.TheVariants as any
 use Rattle.bump_steps.specs.declared.refusals.TakeRefusal.{TakeRefusal}
 use Rattle.bump_steps.specs.declared.refusals.TakeRefusal.TheVariants.{Stale, RefsFull, Busy}
-use Rattle.bump_steps.specs.declared.views.HoldPart.{HoldPart}
+use Rattle.bump_steps.specs.declared.views.HoldSheet.{HoldSheet}
 use Rattle.bump_steps.specs.declared.views.Kind.TheVariants as kind
 use Rattle.bump_steps.specs.declared.views.OwnStep.{OwnStep}
 use Rattle.bump_steps.specs.declared.views.View.{View}
-use Rattle.bump_steps.specs.declared.views.WorkerPart.{WorkerPart}
+use Rattle.bump_steps.specs.declared.views.WorkerSheet.{WorkerSheet}
 use Rattle.bump_steps.specs.Plays.{on_first, step_of}
 use Rattle.bump_steps.specs.References.{new_hold}
 use Rattle.bump_steps.specs.Rides.{IsOfHeld, judged, worker_after_reserve}
@@ -76,7 +76,7 @@ abbrev pub load_and_failures : ℕ → Head → List Head → List OwnStep
 load_and_failures chunk first more = step_of kind.Load chunk (word_of first) None ∷ failures chunk more
 
 -- the worker made these steps
-abbrev pub with_more : List OwnStep → WorkerPart → WorkerPart
+abbrev pub with_more : List OwnStep → WorkerSheet → WorkerSheet
 with_more steps worker = record worker { steps = worker.steps ++ steps }
 
 -- ---- for a hold
@@ -110,12 +110,9 @@ abbrev pub asked_steps : ℕ → (Head → ℕ) → ℕ → Head → List Head �
 asked_steps limit asked chunk first more = load_and_failures chunk first more ++ takes chunk
     (asked_refusal limit asked first more) (last_found first more)
 
-abbrev pub steps_of : ℕ → ItemId → Head → List Head → List OwnStep
-steps_of limit item = asked_steps limit (of_life item) item.chunk
-
 -- the new hold, if there is one, is the first, and has this row: among a seat's holds, and among those that a worker
 -- took
-abbrev pub held_by : Option TakeRefusal → ItemId → List ℕ → List HoldPart → List HoldPart
+abbrev pub held_by : Option TakeRefusal → ItemId → List ℕ → List HoldSheet → List HoldSheet
 held_by None item row holds = new_hold item row ∷ holds
 held_by (Some refusal) item row holds = holds
 
@@ -124,7 +121,7 @@ abbrev pub asked_life : (Head → ℕ) → ℕ → Head → List Head → ItemId
 asked_life asked chunk first more = life chunk (asked (last_found first more))
 
 -- the worker after the call: it made these steps, and it took this hold, if it took one
-abbrev pub worker_after_asked : ℕ → (Head → ℕ) → ℕ → Head → List Head → List ℕ → WorkerPart → WorkerPart
+abbrev pub worker_after_asked : ℕ → (Head → ℕ) → ℕ → Head → List Head → List ℕ → WorkerSheet → WorkerSheet
 worker_after_asked limit asked chunk first more row worker = record worker {
   steps = worker.steps ++ asked_steps limit asked chunk first more;
   taken = held_by (asked_refusal limit asked first more) (asked_life asked chunk first more) row worker.taken;
@@ -158,11 +155,11 @@ abbrev pub drop_of : ℕ → Head → List Head → Option Dropped
 drop_of limit first more = refused_of limit (length more) (last_found first more)
 
 -- the reference is in the worker's hand, which an exchange took that found this head, or the bump is dropped
-abbrev pub reserved_or_dropped : Option Dropped → ItemId → Head → WorkerPart → WorkerPart
+abbrev pub reserved_or_dropped : Option Dropped → ItemId → Head → WorkerSheet → WorkerSheet
 reserved_or_dropped None item head worker = worker_after_reserve item head worker
 reserved_or_dropped (Some why) item head worker = judged (Some why) item worker
 
 -- the worker after the attempt
-abbrev pub worker_after_attempt : ℕ → ItemId → Head → List Head → WorkerPart → WorkerPart
+abbrev pub worker_after_attempt : ℕ → ItemId → Head → List Head → WorkerSheet → WorkerSheet
 worker_after_attempt limit item first more worker = reserved_or_dropped (drop_of limit first more) item
     (last_found first more) (with_more (load_and_failures item.chunk first more) worker)

@@ -28,25 +28,25 @@ use Rattle.bump_steps.specs.declared.views.OwnStep.{OwnStep}
 use Rattle.bump_steps.specs.declared.views.WordStep.{WordStep}
 use Rattle.bump_steps.specs.declared.views.WordStep.TheVariants.{Put, Begun}
 use Rattle.bump_steps.specs.declared.views.Ride.{Ride}
-use Rattle.bump_steps.specs.declared.views.WorkerPart.{WorkerPart}
-use Rattle.bump_steps.specs.declared.views.HoldPart.{HoldPart}
-use Rattle.bump_steps.specs.declared.views.GlancePart.{GlancePart}
-use Rattle.bump_steps.specs.declared.views.ClassPart.{ClassPart}
-use Rattle.bump_steps.specs.declared.views.LanePart.{LanePart}
+use Rattle.bump_steps.specs.declared.views.WorkerSheet.{WorkerSheet}
+use Rattle.bump_steps.specs.declared.views.HoldSheet.{HoldSheet}
+use Rattle.bump_steps.specs.declared.views.GlanceSheet.{GlanceSheet}
+use Rattle.bump_steps.specs.declared.views.ClassSheet.{ClassSheet}
+use Rattle.bump_steps.specs.declared.views.LaneSheet.{LaneSheet}
 use Rattle.bump_steps.specs.declared.views.View.{View}
 
--- Parts.
+-- Sheets.
 
 -- the chunk is of the class
-abbrev pub owns : ℕ → ClassPart → Bool
+abbrev pub owns : ℕ → ClassSheet → Bool
 owns chunk class = is_between class.first (class.first + class.count) chunk
 
 -- where the class's history leaves the chunk
-abbrev pub standing : ClassPart → ℕ → Standing
+abbrev pub standing : ClassSheet → ℕ → Standing
 standing class chunk = standing_in class.fresh class.history chunk
 
 -- the label that the class stored last for the chunk, 0 before the first
-abbrev pub last_label : ClassPart → ℕ → ℕ
+abbrev pub last_label : ClassSheet → ℕ → ℕ
 last_label class chunk = label_word chunk 0 class.labels
 
 -- what was done about further word j of chunks, as it would be about their labels
@@ -61,11 +61,11 @@ labels_of zero labels words = labels
 labels_of (suc j) labels words = of_word j words
 
 -- word i that the class stored last for the chunk, 0 before the first
-abbrev pub last_word : ℕ → ClassPart → ℕ → ℕ
+abbrev pub last_word : ℕ → ClassSheet → ℕ → ℕ
 last_word i class chunk = label_word chunk 0 (labels_of i class.labels class.words)
 
 -- all of them by number: the label, and then the further words
-abbrev pub last_words : ClassPart → ℕ → ℕ → ℕ
+abbrev pub last_words : ClassSheet → ℕ → ℕ → ℕ
 last_words class chunk index = last_word index class chunk
 
 -- the first of a list, if it has one
@@ -123,24 +123,24 @@ pub data Measure : Type 0 where
   misglanced : ℕ → ℕ → ℕ → Measure
 
 -- 1 where the hold is of this life, and word i of its row isn't this one
-abbrev pub misread : ℕ → ℕ → ℕ → ℕ → HoldPart → ℕ
+abbrev pub misread : ℕ → ℕ → ℕ → ℕ → HoldSheet → ℕ
 misread i chunk generation word hold =
     one_if (life chunk generation) hold.life * cond (slice_index hold.row i == word) 0 1
 
 -- 1 where the glance is at this life, and word i of its row isn't this one, or it loaded a word that its row hasn't
-abbrev pub misglance : ℕ → ℕ → ℕ → ℕ → GlancePart → ℕ
+abbrev pub misglance : ℕ → ℕ → ℕ → ℕ → GlanceSheet → ℕ
 misglance i chunk generation word glance =
     one_if (life chunk generation) glance.life * cond ((slice_index glance.row i == word) && glance.agrees) 0 1
 
 -- what the glances of a worker count so
-abbrev pub glances_at : ℕ → ℕ → WorkerPart → ℕ
+abbrev pub glances_at : ℕ → ℕ → WorkerSheet → ℕ
 glances_at chunk generation worker = total (λ g. one_if (life chunk generation) g.life) worker.glances
 
-abbrev pub misglances_at : ℕ → ℕ → ℕ → ℕ → WorkerPart → ℕ
+abbrev pub misglances_at : ℕ → ℕ → ℕ → ℕ → WorkerSheet → ℕ
 misglances_at i chunk generation word worker = total (misglance i chunk generation word) worker.glances
 
--- what parts count of chunk c
-abbrev pub counts : ℕ → Measure → List WorkerPart → List HoldPart → List Ride → List ClassPart → List LanePart → ℕ
+-- what sheets count of chunk c
+abbrev pub counts : ℕ → Measure → List WorkerSheet → List HoldSheet → List Ride → List ClassSheet → List LaneSheet → ℕ
 counts chunk (held generation) ws hs rs ks ls = total (λ h. one_if (life chunk generation) h.life) hs + total
     (λ r. one_if (life chunk generation) r.life) rs + total (λ w. in_hand chunk generation w.hand) ws + total
     (λ l. refers chunk generation (bump_aboard l.stage)) ls
@@ -176,7 +176,7 @@ is_entry entry other = (other.number == entry.number)
     && (is_same other.life entry.life && (outcome_number other.outcome == outcome_number entry.outcome))
 
 -- how often a lane of worker w has this entry
-abbrev pub claimed_in : ℕ → AppliedBump → LanePart → ℕ
+abbrev pub claimed_in : ℕ → AppliedBump → LaneSheet → ℕ
 claimed_in worker entry this_lane = cond (this_lane.worker == worker) (how_many (is_entry entry) this_lane.applied) 0
 
 abbrev pub claims : ℕ → AppliedBump → View → ℕ
@@ -207,7 +207,7 @@ shows_time_only worker number chunk step = nothing_to_move step.kind step.word
     && (is_for worker number step.bump && (step.chunk == chunk))
 
 -- what a class that has the chunk counts; another class counts nothing
-abbrev pub of_owner : ℕ → (ClassPart → ℕ) → ClassPart → ℕ
+abbrev pub of_owner : ℕ → (ClassSheet → ℕ) → ClassSheet → ℕ
 of_owner chunk counted class = cond (owns chunk class) (counted class) 0
 
 -- How much a view has that shows an entry of worker w's lane to be true, by its outcome: the history and the steps of
@@ -238,7 +238,7 @@ abbrev pub moves : Query → View → ℕ
 moves query view = total (λ k. how_many (is_move_for query.test query.worker query.number) k.history) view.classes
 
 -- how often lanes tell of the move for such a bump, by an entry or by how far they are
-abbrev pub settled_in : Query → LanePart → ℕ
+abbrev pub settled_in : Query → LaneSheet → ℕ
 settled_in query this_lane = cond (this_lane.worker == query.worker)
     (moves_told query.test query.number this_lane.applied this_lane.stage) 0
 
@@ -254,16 +254,8 @@ names_move query (Some ride) =
 abbrev pub in_progress : Query → View → ℕ
 in_progress query view = total (λ k. names_move query k.applying) view.classes
 
--- how often lanes tell of the move for such a bump by an entry
-abbrev pub told_in : Query → LanePart → ℕ
-told_in query this_lane = cond (this_lane.worker == query.worker)
-    (how_many (is_told_moved query.test query.number) this_lane.applied) 0
-
-abbrev pub told_by : Query → View → ℕ
-told_by query view = total (told_in query) view.lanes
-
 -- 1 where a lane has made the move for such a bump, and hasn't told it yet
-abbrev pub underway_in : Query → LanePart → ℕ
+abbrev pub underway_in : Query → LaneSheet → ℕ
 underway_in query this_lane = cond (this_lane.worker == query.worker) (moving query.test query.number this_lane.stage) 0
 
 abbrev pub underway : Query → View → ℕ
@@ -278,33 +270,33 @@ names_outside first end (Some ride) = cond (is_between first end ride.life.chunk
 
 -- how many entries of the class's history are of a chunk that isn't the class's, and whether the application that it
 -- names is
-abbrev pub foreign_in : ClassPart → ℕ
+abbrev pub foreign_in : ClassSheet → ℕ
 foreign_in class = how_many (λ e. not (owns (subject e).chunk class)) class.history
     + names_outside class.first (class.first + class.count) class.applying
 
 abbrev pub foreign : View → ℕ
 foreign view = total foreign_in view.classes
 
--- What a class's part has of labels: each of its chunks that isn't free has its life's words, the last ones that were
+-- What a class's sheet has of labels: each of its chunks that isn't free has its life's words, the last ones that were
 -- stored for the chunk, and no life to come has begun.
-pub record HasLabels (class : ClassPart) : Type 0 where
+pub record HasLabels (class : ClassSheet) : Type 0 where
   pub labelled : (i c : ℕ) → owns c class ≡ true → IsUsed (standing class c).0
       → label_of_life (life c (standing class c).1) 0 (labels_of i class.labels class.words) ≡ Some (last_word i class c)
   pub unbegun : (i c g : ℕ) → (standing class c).1 < g
       → label_of_life (life c g) 0 (labels_of i class.labels class.words) ≡ None
 
-abbrev pub HaveLabels : List ClassPart → Type 0
+abbrev pub HaveLabels : List ClassSheet → Type 0
 HaveLabels [] = Unit {0}
 HaveLabels (class ∷ ks) = HasLabels class × HaveLabels ks
 
--- so have all parts of these views
+-- so have all sheets of these views
 abbrev pub AreLabelled : List View → Type 0
 AreLabelled [] = Unit {0}
 AreLabelled (view ∷ vs) = HaveLabels view.classes × AreLabelled vs
 
 -- Workers and lanes.
 
--- how many parts of worker w the view has
+-- how many sheets of worker w the view has
 abbrev pub workers_of : ℕ → View → ℕ
 workers_of worker view = total (λ p. cond (p.worker == worker) 1 0) view.workers
 
@@ -323,7 +315,7 @@ in_order index [] aboard = is_next index aboard
 in_order index (entry ∷ more) aboard = (entry.number == index) && in_order (index + 1) more aboard
 
 -- 1 where a lane isn't in order
-abbrev pub untidy_in : LanePart → ℕ
+abbrev pub untidy_in : LaneSheet → ℕ
 untidy_in this_lane = cond (in_order 0 this_lane.applied (bump_aboard this_lane.stage)) 0 1
 
 abbrev pub untidy : View → ℕ

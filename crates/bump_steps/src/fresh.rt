@@ -33,7 +33,7 @@ fn fresh_words(alloc: Global, chunks: u32, first: u32, further: u32) -> Result<V
 }
 
 impl<L: RowLaw> Words<L> {
-    /// A table for the chunks of the configuration, of which none had a life yet, and the one seat that has every part.
+    /// A table for the chunks of the configuration, of which none had a life yet, and the one seat that has every sheet.
     /// A chunk has so many further words beside its label.
     pub fn fresh(
         alloc: Global,

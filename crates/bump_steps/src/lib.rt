@@ -26,7 +26,7 @@ pub use laws::{AnyRow, RowLaw};
 pub use refusals::{AnyRefusal, RideRefusal, TakeRefusal};
 pub use rule::Rule;
 pub use views::{
-    ClassPart, Empty, GivenBack, GlancePart, HoldPart, Kind, LanePart, OwnStep, Ride, View,
-    WordStep, WorkerPart,
+    ClassSheet, Empty, GivenBack, GlanceSheet, HoldSheet, Kind, LaneSheet, OwnStep, Ride, View,
+    WordStep, WorkerSheet,
 };
 pub use words::{Seat, Words};

@@ -118,7 +118,7 @@ pub struct Ride {
 }
 
 /// What a worker's seat knows.
-pub struct WorkerPart {
+pub struct WorkerSheet {
     /// The worker's number, from 0.
     pub worker: u32,
 
@@ -136,14 +136,14 @@ pub struct WorkerPart {
 
     /// The holds that its exchanges took, as they were then, the last one first. Each has the words that stood in its
     /// chunk when the exchange took it.
-    pub taken: LinkedList<HoldPart>,
+    pub taken: LinkedList<HoldSheet>,
 
     /// Its glances, the last one first: each has the words that stood in its chunk when it began.
-    pub glances: LinkedList<GlancePart>,
+    pub glances: LinkedList<GlanceSheet>,
 }
 
 /// What a hold knows.
-pub struct HoldPart {
+pub struct HoldSheet {
     /// The life to which it refers.
     pub life: ItemId,
 
@@ -156,7 +156,7 @@ pub struct HoldPart {
 
 /// What a glance knows: a look at a life without a reference. While the life is linked its words are those of the row,
 /// and each word that the glance loaded was the one of the row.
-pub struct GlancePart {
+pub struct GlanceSheet {
     /// The life that its first load found linked.
     pub life: ItemId,
 
@@ -178,7 +178,7 @@ pub struct GivenBack {
 }
 
 /// What a class's seat knows.
-pub struct ClassPart {
+pub struct ClassSheet {
     /// The class's number, from 0.
     pub class: u32,
 
@@ -209,7 +209,7 @@ pub struct ClassPart {
 }
 
 /// What a lane's seat knows.
-pub struct LanePart {
+pub struct LaneSheet {
     /// The worker whose ring it drains.
     pub worker: u32,
 
@@ -223,27 +223,27 @@ pub struct LanePart {
     pub steps: LinkedList<OwnStep>,
 }
 
-/// What a seat of the table knows: the parts of which it is made.
+/// What a seat of the table knows: the sheets of which it is made.
 pub struct View {
-    /// Workers' parts.
-    pub workers: LinkedList<WorkerPart>,
+    /// Workers' sheets.
+    pub workers: LinkedList<WorkerSheet>,
 
-    /// Holds' parts.
-    pub holds: LinkedList<HoldPart>,
+    /// Holds' sheets.
+    pub holds: LinkedList<HoldSheet>,
 
     /// References that travel.
     pub riders: LinkedList<Ride>,
 
-    /// Classes' parts.
-    pub classes: LinkedList<ClassPart>,
+    /// Classes' sheets.
+    pub classes: LinkedList<ClassSheet>,
 
-    /// Lanes' parts.
-    pub lanes: LinkedList<LanePart>,
+    /// Lanes' sheets.
+    pub lanes: LinkedList<LaneSheet>,
 
     /// References of holds that it gave back, in order. No sum counts them.
     pub returned: LinkedList<GivenBack>,
 
-    /// The loads of heads that made it, in order: one of a seat that a load made, which has no part. No sum counts them.
+    /// The loads of heads that made it, in order: one of a seat that a load made, which has no sheet. No sum counts them.
     pub seen: LinkedList<OwnStep>,
 }
 

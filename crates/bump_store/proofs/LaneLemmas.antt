@@ -14,7 +14,7 @@ use Rattle.bump_steps.specs.declared.views.Ride.{Ride}
 use Rattle.bump_class.specs.Applications.{applied_answer}
 use Rattle.bump_class.specs.Books.{BookView}
 use Rattle.bump_class.specs.Lanes.{LaneView, IsRawLane, carries, entries, lives}
-use Rattle.bump_parts.proofs.ClosingLemmas.{numbered_long}
+use Rattle.bump_unlocked.proofs.ClosingLemmas.{numbered_long}
 use Rattle.bump_store.specs.Lanes.{AppliesAboard, outcome_told, applied_bump_of}
 
 -- a lane at rest that carries nothing has nothing aboard
@@ -26,13 +26,13 @@ none_aboard (lane.Cleared bump found) rest none = absurd (cc rest)
 none_aboard (lane.Moved bump) rest none = absurd (cc rest)
 
 -- then it applied as many bumps as it took
-pub all_applied : (this_lane : LaneView) → IsRawLane this_lane.part this_lane.received → carries this_lane ≡ None
+pub all_applied : (this_lane : LaneView) → IsRawLane this_lane.sheet this_lane.received → carries this_lane ≡ None
     → length this_lane.received ≡ length (entries this_lane)
 all_applied this_lane keeps none = omega (
   arith,
   ap length keeps.in_order,
-  length-append (map bump_applied (entries this_lane)) (aboard this_lane.part.stage),
-  ap length (none_aboard this_lane.part.stage keeps.at_rest none),
+  length-append (map bump_applied (entries this_lane)) (aboard this_lane.sheet.stage),
+  ap length (none_aboard this_lane.sheet.stage keeps.at_rest none),
   length-map (entries this_lane) bump_applied,
   numbered_long 0 (lives this_lane.received),
   length-map this_lane.received (λ (ride : Ride). ride.life),

@@ -16,8 +16,8 @@ use Rattle.bump_rules.specs.Lives.{is_same}
 use Rattle.bump_rules.specs.Tables.{is_cold, is_warm}
 use Rattle.bump_rules.specs.Totals.{how_many}
 use Rattle.bump_rules.proofs.Updates.{total_below}
-use Rattle.bump_steps.specs.declared.views.ClassPart.{ClassPart}
-use Rattle.bump_steps.specs.declared.views.LanePart.{LanePart}
+use Rattle.bump_steps.specs.declared.views.ClassSheet.{ClassSheet}
+use Rattle.bump_steps.specs.declared.views.LaneSheet.{LaneSheet}
 use Rattle.bump_steps.specs.Meetings.{class_after_meet}
 use Rattle.bump_heads.specs.Applying.{NamesNoBumpTwice, NamesWorkersBelow}
 use Rattle.bump_class.specs.Applications.{EachMoveIsTold, moved_in}
@@ -27,28 +27,28 @@ use Rattle.bump_store.specs.Lanes.{LaneState}
 use Rattle.bump_store.specs.Meetings.{HasLaneOf, AreAllLanes, IsTold, EachIsTold}
 
 -- the Book that met so often has noted steps, and is as it was
-meets_part : (n : ℕ) (b : BookView)
-    → (book_after_meets n b).part ≡ record b.part { steps = (book_after_meets n b).part.steps }
-meets_part zero b = refl
-meets_part (suc n) b = ap class_after_meet (meets_part n b)
+meets_sheet : (n : ℕ) (b : BookView)
+    → (book_after_meets n b).sheet ≡ record b.sheet { steps = (book_after_meets n b).sheet.steps }
+meets_sheet zero b = refl
+meets_sheet (suc n) b = ap class_after_meet (meets_sheet n b)
 
 module _ (n : ℕ) (b : BookView) where
   -- so what was known of it then is so of it before
-  pub told_before : (l : LanePart) → EachMoveIsTold (book_after_meets n b).part l → EachMoveIsTold b.part l
-  told_before l told = subst (λ (k : ClassPart). EachMoveIsTold k l) (meets_part n b) told
+  pub told_before : (l : LaneSheet) → EachMoveIsTold (book_after_meets n b).sheet l → EachMoveIsTold b.sheet l
+  told_before l told = subst (λ (k : ClassSheet). EachMoveIsTold k l) (meets_sheet n b) told
 
-  pub moves_before : (l : LanePart)
-      → moves_of l.worker (book_after_meets n b).part.history ≡ moved_in (book_after_meets n b).part l.applied
-      → moves_of l.worker b.part.history ≡ moved_in b.part l.applied
+  pub moves_before : (l : LaneSheet)
+      → moves_of l.worker (book_after_meets n b).sheet.history ≡ moved_in (book_after_meets n b).sheet l.applied
+      → moves_of l.worker b.sheet.history ≡ moved_in b.sheet l.applied
   moves_before l told =
-      subst (λ (k : ClassPart). moves_of l.worker k.history ≡ moved_in k l.applied) (meets_part n b) told
+      subst (λ (k : ClassSheet). moves_of l.worker k.history ≡ moved_in k l.applied) (meets_sheet n b) told
 
-  pub once_before : NamesNoBumpTwice (book_after_meets n b).part → NamesNoBumpTwice b.part
-  once_before once = subst NamesNoBumpTwice (meets_part n b) once
+  pub once_before : NamesNoBumpTwice (book_after_meets n b).sheet → NamesNoBumpTwice b.sheet
+  once_before once = subst NamesNoBumpTwice (meets_sheet n b) once
 
-  pub workers_before : (workers : ℕ) → NamesWorkersBelow workers (book_after_meets n b).part
-      → NamesWorkersBelow workers b.part
-  workers_before workers below = subst (NamesWorkersBelow workers) (meets_part n b) below
+  pub workers_before : (workers : ℕ) → NamesWorkersBelow workers (book_after_meets n b).sheet
+      → NamesWorkersBelow workers b.sheet
+  workers_before workers below = subst (NamesWorkersBelow workers) (meets_sheet n b) below
 
 -- what holds of the first so many lanes
 abbrev pub SoFar : (LaneState → Type 0) → ℕ → List LaneState → Type 0
@@ -85,8 +85,8 @@ any_item item w n (change.Swept life) = omega arith
 any_item item w n (change.Retired life) = omega arith
 
 -- where the lanes are those of all workers, each move is told by one of them
-pub each_by_its_lane : (workers : ℕ) (k : ClassPart) (lanes : List LaneState) → AreAllLanes workers lanes
-    → NamesWorkersBelow workers k → All (λ x. EachMoveIsTold k x.lane.part) lanes → EachIsTold k lanes
+pub each_by_its_lane : (workers : ℕ) (k : ClassSheet) (lanes : List LaneState) → AreAllLanes workers lanes
+    → NamesWorkersBelow workers k → All (λ x. EachMoveIsTold k x.lane.sheet) lanes → EachIsTold k lanes
 each_by_its_lane workers k lanes all below told w n item some = by (nat_lt w workers) refl
   where
     found : w < workers → IsTold w n item lanes
@@ -99,9 +99,9 @@ each_by_its_lane workers k lanes all below told w n item some = by (nat_lt w wor
     }
       where
         of_lane : (x : LaneState) → HasLaneOf w lanes x
-            → 0 < how_many (is_move_for (is_same item) x.lane.part.worker n) k.history
-            → slice_get x.lane.part.applied n ≡ Some (applied_bump (bump_of n item) Moved)
-        of_lane x has some_of = subst (λ (y : LaneState). EachMoveIsTold k y.lane.part)
+            → 0 < how_many (is_move_for (is_same item) x.lane.sheet.worker n) k.history
+            → slice_get x.lane.sheet.applied n ≡ Some (applied_bump (bump_of n item) Moved)
+        of_lane x has some_of = subst (λ (y : LaneState). EachMoveIsTold k y.lane.sheet)
             (get_or_from_slice_get lanes w x x has.there)
             (told w x (slice_get_within lanes w x has.there)) item n some_of
 

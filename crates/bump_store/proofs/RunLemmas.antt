@@ -38,7 +38,7 @@ own_is_next now book left last aboard to answer bump ride is boards own = (
   left,
   record {
     boards = boards;
-    own = subst (λ (x : Option Bump). IfSome x (λ b. owns b.life.chunk book.part ≡ true)) is own.own;
+    own = subst (λ (x : Option Bump). IfSome x (λ b. owns b.life.chunk book.sheet ≡ true)) is own.own;
     applied = record { aboard = is; front = own.front; once = own.once; tells = own.told };
   },
 )

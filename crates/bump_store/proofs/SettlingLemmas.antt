@@ -17,19 +17,19 @@ use Rattle.bump_steps.specs.Plays.{step_of}
 use Rattle.bump_class.specs.Applications.{FoundHeads}
 use Rattle.bump_class.specs.Lanes.{LaneView, IsRawLane, carries, entries, lives}
 use Rattle.bump_store.specs.Lanes.{AppliesNext, NothingAboard, applied_bump_of}
-use Rattle.bump_parts.specs.Closing.{AppliedAll}
+use Rattle.bump_unlocked.specs.Closing.{AppliedAll}
 use Rattle.bump_store.specs.Settling.{MaySeeEnd, IsLater, IsAppliedBetween, AppliesEach}
-use Rattle.bump_parts.proofs.GrowingLists.{grown_on}
-use Rattle.bump_parts.proofs.ClosingLemmas.{numbered_long}
+use Rattle.bump_unlocked.proofs.GrowingLists.{grown_on}
+use Rattle.bump_unlocked.proofs.ClosingLemmas.{numbered_long}
 use Rattle.bump_store.proofs.LaneLemmas.{all_applied, none_aboard}
 
 -- where nothing is aboard, what was applied is what was received
-pub in_order : (this_lane : LaneView) → IsRawLane this_lane.part this_lane.received → NothingAboard this_lane
+pub in_order : (this_lane : LaneView) → IsRawLane this_lane.sheet this_lane.received → NothingAboard this_lane
     → AppliedAll this_lane.received this_lane
 in_order this_lane keeps none =
     sym (append-nil (map bump_applied (entries this_lane)))
     ∙ ap (λ bumps. map bump_applied (entries this_lane) ++ bumps)
-    (sym (none_aboard this_lane.part.stage keeps.at_rest none))
+    (sym (none_aboard this_lane.sheet.stage keeps.at_rest none))
     ∙ keeps.in_order
 
 -- they are as many then
@@ -65,7 +65,7 @@ as_it_is this_lane = record {
   told = omega arith;
   entries_stay = ([], append-nil (entries this_lane));
   made = omega arith;
-  steps_stay = ([], append-nil this_lane.part.steps);
+  steps_stay = ([], append-nil this_lane.sheet.steps);
   ring = refl;
   worker = refl;
 }
@@ -81,7 +81,7 @@ later_still first more count before between after sum once again = record {
   told = omega (arith, sum, once.told, again.told);
   entries_stay = grown_on (entries before) (entries between) (entries after) once.entries_stay again.entries_stay;
   made = omega (arith, sum, once.made, again.made);
-  steps_stay = grown_on before.part.steps between.part.steps after.part.steps once.steps_stay again.steps_stay;
+  steps_stay = grown_on before.sheet.steps between.sheet.steps after.sheet.steps once.steps_stay again.steps_stay;
   ring = again.ring ∙ once.ring;
   worker = again.worker ∙ once.worker;
 }
@@ -123,7 +123,7 @@ one_later now from entry to next =
     let bump : Bump = front.0 in
     let found : FoundHeads = front.2 in
     let same = front.4.lane_after in
-    let mine : Option (ℕ × ℕ) = Some (fetched.part.worker, bump.number) in
+    let mine : Option (ℕ × ℕ) = Some (fetched.sheet.worker, bump.number) in
     let look : OwnStep = step_of kind.Try bump.life.chunk (word_of found.tried) mine in
     let release : OwnStep = step_of kind.Alight bump.life.chunk (word_of found.last) mine in
     let received : to.received ≡ from.received ++ ride ∷ [] =
@@ -131,10 +131,10 @@ one_later now from entry to next =
     let known : to.known ≡ fetched.known = ap (λ (x : LaneView). x.known) same in
     let told : entries to ≡ entries from ++ applied_bump bump front.1 ∷ [] =
     ap entries same ∙ ap (λ (x : LaneView). entries x ++ applied_bump bump front.1 ∷ []) boards.lane in
-    let steps : IsPrefix from.part.steps to.part.steps × (length to.part.steps ≡ length from.part.steps + 2 * 1) =
-    two_more from.part.steps to.part.steps look release
-    (ap (λ (x : LaneView). x.part.steps) same
-    ∙ ap (λ (x : LaneView). (x.part.steps ++ look ∷ []) ++ release ∷ []) boards.lane) in
+    let steps : IsPrefix from.sheet.steps to.sheet.steps × (length to.sheet.steps ≡ length from.sheet.steps + 2 * 1) =
+    two_more from.sheet.steps to.sheet.steps look release
+    (ap (λ (x : LaneView). x.sheet.steps) same
+    ∙ ap (λ (x : LaneView). (x.sheet.steps ++ look ∷ []) ++ release ∷ []) boards.lane) in
     record {
       took = omega (arith, ap length received, length-append from.received (ride ∷ []));
       received = (ride ∷ [], sym received);
@@ -146,7 +146,7 @@ one_later now from entry to next =
       made = steps.1;
       steps_stay = steps.0;
       ring = ap (λ (x : LaneView). x.ring) same ∙ ap (λ (x : LaneView). x.ring) boards.lane;
-      worker = ap (λ (x : LaneView). x.part.worker) same ∙ ap (λ (x : LaneView). x.part.worker) boards.lane;
+      worker = ap (λ (x : LaneView). x.sheet.worker) same ∙ ap (λ (x : LaneView). x.sheet.worker) boards.lane;
     }
 
 -- where none was known, a look for the end changes what is known, and no bump is passed over by it
@@ -164,10 +164,10 @@ looked count before between after later none lane =
       );
       told = omega (arith, ap (λ (x : LaneView). length (entries x)) lane);
       entries_stay = ([], append-nil (entries between) ∙ sym (ap entries lane));
-      made = omega (arith, ap (λ (x : LaneView). length x.part.steps) lane);
-      steps_stay = ([], append-nil between.part.steps ∙ sym (ap (λ (x : LaneView). x.part.steps) lane));
+      made = omega (arith, ap (λ (x : LaneView). length x.sheet.steps) lane);
+      steps_stay = ([], append-nil between.sheet.steps ∙ sym (ap (λ (x : LaneView). x.sheet.steps) lane));
       ring = ap (λ (x : LaneView). x.ring) lane;
-      worker = ap (λ (x : LaneView). x.part.worker) lane;
+      worker = ap (λ (x : LaneView). x.sheet.worker) lane;
     })
 
 -- no bump was applied yet
@@ -237,12 +237,12 @@ looked_for_end now count before between still after so_far same none lane =
     }
 
 -- so many are left of a ring as are known of it, where nothing is aboard
-left_is_known : (sent : List Ride) (before after : LaneView) (count : ℕ) → IsRawLane before.part before.received
+left_is_known : (sent : List Ride) (before after : LaneView) (count : ℕ) → IsRawLane before.sheet before.received
     → carries before ≡ None → after ≡ record before { known = after.known }
     → sent ≡ after.received ++ after.known → length (entries after) + count ≡ length sent
     → count ≡ length after.known
 left_is_known sent before after count keeps none lane end number =
-    let keeps_still = subst (λ (x : LaneView). IsRawLane x.part x.received) (sym lane) keeps in
+    let keeps_still = subst (λ (x : LaneView). IsRawLane x.sheet x.received) (sym lane) keeps in
     omega (
       arith,
       number,
@@ -253,7 +253,7 @@ left_is_known sent before after count keeps none lane end number =
 
 -- the same of a look for the end, which may not show it
 pub left_if_shown : (sent : List Ride) (before after : LaneView) (left : Option ℕ)
-    → IsRawLane before.part before.received → carries before ≡ None → after ≡ record before { known = after.known }
+    → IsRawLane before.sheet before.received → carries before ≡ None → after ≡ record before { known = after.known }
     → IfSome left (λ count. sent ≡ after.received ++ after.known)
     → IfSome left (λ count. length (entries after) + count ≡ length sent)
     → IfSome left (λ count. count ≡ length after.known)
@@ -263,15 +263,15 @@ left_if_shown sent before after (Some count) keeps none lane end number =
 
 -- what a look for the end comes to
 pub looked_once : (sent : List Ride) (capacity : ℕ) (before after : LaneView) (left : Option ℕ)
-    → IsRawLane before.part before.received → carries before ≡ None → after ≡ record before { known = after.known }
+    → IsRawLane before.sheet before.received → carries before ≡ None → after ≡ record before { known = after.known }
     → IfSome left (λ count. sent ≡ after.received ++ after.known)
     → IfSome left (λ count. length (entries after) + count ≡ length sent)
-    → IfSome left (λ count. count ≤ capacity + length (aboard after.part.stage))
+    → IfSome left (λ count. count ≤ capacity + length (aboard after.sheet.stage))
     → IfNone left (after ≡ before) → MaySeeEnd sent capacity before after
 looked_once sent capacity before after None keeps none lane end number few same =
     record { lane = lane; left = inl same }
 looked_once sent capacity before after (Some count) keeps none lane end number few same =
     let known = left_is_known sent before after count keeps none lane end number in
-    let idle = none_aboard before.part.stage keeps.at_rest none in
-    let same_stage = ap (λ (x : LaneView). length (aboard x.part.stage)) lane in
+    let idle = none_aboard before.sheet.stage keeps.at_rest none in
+    let same_stage = ap (λ (x : LaneView). length (aboard x.sheet.stage)) lane in
     record { lane = lane; left = inr (end, omega (arith, known, few, same_stage, ap length idle)) }

@@ -4,11 +4,11 @@ use Rattle.std.specs.Prelude.{slice_index}
 use Rattle.bump_rules.specs.declared.configs.ClassConfig.{ClassConfig}
 use Rattle.bump_rules.specs.Configs.{chunks_of}
 use Rattle.bump_rules.specs.Lanes.{carried}
-use Rattle.bump_steps.specs.declared.views.LanePart.{LanePart}
-use Rattle.bump_steps.specs.Rule.{class_parts, lane_parts}
+use Rattle.bump_steps.specs.declared.views.LaneSheet.{LaneSheet}
+use Rattle.bump_steps.specs.Rule.{class_sheets, lane_sheets}
 use Rattle.bump_readers.specs.Seats.{head_or}
 use Rattle.bump_class.specs.Lanes.{LaneView}
-use Rattle.bump_parts.specs.Parting.{starts_from, new_books, raw_parts_of, IsBetweenStarts}
+use Rattle.bump_unlocked.specs.UnlockedStore.{starts_from, new_books, raw_sheets_of, IsBetweenStarts}
 use Rattle.bump_store.specs.Lanes.{NothingAboard}
 use Rattle.bump_store.specs.Stores.{first_chunk, ClassHasChunk, IsStore}
 
@@ -39,18 +39,18 @@ some_of_all (suc class) (config ∷ configs) = omega (arith, some_of_all class c
 
 -- there is a Book for each class
 pub count_of_books : (fresh class first workers : ℕ) (classes : List ClassConfig)
-    → length (new_books (class_parts fresh class first classes) classes workers) ≡ length classes
+    → length (new_books (class_sheets fresh class first classes) classes workers) ≡ length classes
 count_of_books fresh class first workers [] = refl
 count_of_books fresh class first workers (config ∷ configs) =
     ap suc (count_of_books fresh (class + 1) (first + config.chunks) workers configs)
 
 -- new lanes have nothing aboard
-pub new_lanes_idle : (worker count : ℕ) (lanes : List LaneView) → raw_parts_of lanes ≡ lane_parts worker count
+pub new_lanes_idle : (worker count : ℕ) (lanes : List LaneView) → raw_sheets_of lanes ≡ lane_sheets worker count
     → All NothingAboard lanes
 new_lanes_idle worker count [] are k none low = absurd (omega (arith, low))
 new_lanes_idle worker zero (this_lane ∷ lanes) are k none low = absurd (cc are)
 new_lanes_idle worker (suc count) (this_lane ∷ lanes) are zero none low =
-    ap (λ (parts : List LanePart). carried (head_or this_lane.part parts).stage) are
+    ap (λ (sheets : List LaneSheet). carried (head_or this_lane.sheet sheets).stage) are
 new_lanes_idle worker (suc count) (this_lane ∷ lanes) are (suc k) none low =
     new_lanes_idle (worker + 1) count lanes (ap (drop 1) are) k none (omega (arith, low))
 

@@ -7,7 +7,7 @@ use Rattle.bump_rules.specs.declared.bumps.Entry.{Entry}
 use Rattle.bump_rules.specs.declared.bumps.Outcome.{Outcome}
 use Rattle.bump_rules.specs.declared.bumps.Outcome.TheVariants as outcome
 use Rattle.bump_rules.specs.Lanes.{bump_of}
-use Rattle.bump_steps.specs.declared.views.LanePart.{LanePart}
+use Rattle.bump_steps.specs.declared.views.LaneSheet.{LaneSheet}
 use Rattle.bump_steps.specs.declared.views.Ride.{Ride}
 use Rattle.bump_steps.specs.Views.{owns}
 use Rattle.bump_heads.specs.Applying.{NamesNoBumpTwice}
@@ -30,8 +30,8 @@ abbrev pub lane_rings : List LaneState → List Ring
 lane_rings lanes = map (λ this_lane. this_lane.lane.ring) lanes
 
 -- what their seats know
-abbrev pub lane_parts_of : List LaneState → List LanePart
-lane_parts_of lanes = map (λ this_lane. this_lane.lane.part) lanes
+abbrev pub lane_sheets_of : List LaneState → List LaneSheet
+lane_sheets_of lanes = map (λ this_lane. this_lane.lane.sheet) lanes
 
 -- what a lane keeps of what was answered
 abbrev pub outcome_told : Applied → Outcome
@@ -54,8 +54,8 @@ pub record AppliesAboard (now : ℕ) (book : BookView) (from : LaneView) (entry 
   -- what that comes to is the update table's, and the entry is true
   pub front : AppliesFront now book from entry.applied left to
   -- no bump is named twice by the class's history, and each move that it has for a bump of the lane is the lane's entry
-  pub once : NamesNoBumpTwice left.part
-  pub tells : EachMoveIsTold left.part to.part
+  pub once : NamesNoBumpTwice left.sheet
+  pub tells : EachMoveIsTold left.sheet to.sheet
 
 -- The next bump of a lane's ring was applied, as this entry tells it, to a Book that was locked for it.
 pub record IsNextApplied (now : ℕ) (before : LaneView) (entry : Entry) (after : LaneView) (ride : Ride)
@@ -63,7 +63,7 @@ pub record IsNextApplied (now : ℕ) (before : LaneView) (entry : Entry) (after 
   -- it was taken out of the ring, and went aboard
   pub boards : Boards before (bump_of entry.number entry.life) fetched ride
   -- the Book is that of its chunk's class
-  pub own : owns entry.life.chunk book.part ≡ true
+  pub own : owns entry.life.chunk book.sheet ≡ true
   -- and it alone was applied to it
   pub applied : AppliesAboard now book fetched entry left after
 

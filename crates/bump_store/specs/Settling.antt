@@ -5,7 +5,7 @@ use Rattle.bump_rules.specs.declared.bumps.Entry.{Entry}
 use Rattle.bump_rules.specs.declared.lanes.LaneStage.TheVariants.{Empty}
 use Rattle.bump_steps.specs.declared.views.Ride.{Ride}
 use Rattle.bump_class.specs.Lanes.{LaneView, entries}
-use Rattle.bump_parts.specs.Closing.{AppliedAll}
+use Rattle.bump_unlocked.specs.Closing.{AppliedAll}
 use Rattle.bump_store.specs.Lanes.{AppliesNext, NothingAboard, applied_bump_of}
 
 -- A lane may have been shown the end of its ring, of this room and of which this was sent: then it knows all that is
@@ -23,11 +23,11 @@ pub record IsLater (count : ℕ) (before after : LaneView) : Type 0 where
   -- behind the entries that it had it has one of each, and it made two steps for each
   pub told : length (entries after) ≡ length (entries before) + count
   pub entries_stay : IsPrefix (entries before) (entries after)
-  pub made : length after.part.steps ≡ length before.part.steps + 2 * count
-  pub steps_stay : IsPrefix before.part.steps after.part.steps
+  pub made : length after.sheet.steps ≡ length before.sheet.steps + 2 * count
+  pub steps_stay : IsPrefix before.sheet.steps after.sheet.steps
   -- its ring stays, and its worker
   pub ring : after.ring ≡ before.ring
-  pub worker : after.part.worker ≡ before.part.worker
+  pub worker : after.sheet.worker ≡ before.sheet.worker
 
 -- One of the bumps between two states of a lane was applied: so many of them came before it, and so many behind it.
 pub record IsAppliedBetween (now earlier others : ℕ) (before after : LaneView) : Type 0 where
@@ -54,6 +54,6 @@ pub record Settles (now : ℕ) (before after : LaneView) : Type 0 where
   pub applied : AppliesEach now count before after
   -- what it applied is what it took out of its ring, once each and in order, and no bump is half applied
   pub order : AppliedAll after.received after
-  pub empty : after.part.stage ≡ Empty
+  pub empty : after.sheet.stage ≡ Empty
   -- none is known to be left
   pub known : after.known ≡ []

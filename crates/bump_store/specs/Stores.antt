@@ -21,9 +21,9 @@ pub record HasLimitsOf (class : ℕ) (classes : List ClassConfig) (book : BookVi
 
 -- The Book is that of the class with this number: it has the number, the class's chunks, and its limits.
 pub record IsOfClass (class : ℕ) (classes : List ClassConfig) (book : BookView) : Type 0 where
-  pub number : book.part.class ≡ class
-  pub first : book.part.first ≡ first_chunk class classes
-  pub end : book.part.first + book.part.count ≡ first_chunk (class + 1) classes
+  pub number : book.sheet.class ≡ class
+  pub first : book.sheet.first ≡ first_chunk class classes
+  pub end : book.sheet.first + book.sheet.count ≡ first_chunk (class + 1) classes
   pub limits : HasLimitsOf class classes book
 
 -- What every store keeps: by its configuration's classes, where its classes' chunks start, and the number of its locks.

@@ -2,7 +2,7 @@
 ghost use Rattle.std.specs.Prelude.{◌≡◌, ◌≤◌, ◌<◌, ◌↔◌, ◌-◌, length, slice_index, IfOk, IfSome, IfNone, IsErr};
 ghost use Rattle.bump_rules.specs.Configs.{chunks_of};
 ghost use Rattle.bump_store.specs.Stores.{ClassHasChunk};
-ghost use Rattle.bump_parts.specs.Parting.{IsBetweenStarts};
+ghost use Rattle.bump_unlocked.specs.UnlockedStore.{IsBetweenStarts};
 
 use crate::stores::Store;
 use bump_heads::Name;

@@ -40,7 +40,7 @@ fn apply_aboard<N: Name, L: RowLaw>(
     now: u64,
 ) -> Entry
     requires aboard { carries raw.old ≡ Some bump }
-    requires own { owns bump.life.chunk book.old.part ≡ true }
+    requires own { owns bump.life.chunk book.old.sheet ≡ true }
     ensures applied { AppliesAboard now book.old raw.old result book.new raw.new }
     ensures bump { (result.number ≡ bump.number) × (result.life ≡ bump.life) }
     ensures ring { raw.new.ring ≡ raw.old.ring }
@@ -59,7 +59,7 @@ impl<N: Name, L: RowLaw> Lane<N, L> {
     /// so on. None is aboard.
     pub fn applied(&self) -> u64
         ensures count { result ≡ length (entries self.now.lane) }
-        ensures order { IsRawLane self.now.lane.part self.now.lane.received }
+        ensures order { IsRawLane self.now.lane.sheet self.now.lane.received }
         ensures idle { NothingAboard self.now.lane }
     {
         self.raw.promise();
@@ -68,7 +68,7 @@ impl<N: Name, L: RowLaw> Lane<N, L> {
 
     /// The number of its worker.
     pub fn worker(&self) -> u32
-        ensures { result ≡ self.now.lane.part.worker }
+        ensures { result ≡ self.now.lane.sheet.worker }
     {
         self.raw.worker()
     }

@@ -1,5 +1,5 @@
 //! A store: the locks of its classes, and the lanes that apply what its workers queued, until each is settled with its
-//! closed worker. Its workers' gets, touches and holds are those of bump_parts.
+//! closed worker. Its workers' gets, touches and holds are those of bump_unlocked.
 //!
 //! A [`Lane`] is a `RawLane` of bump_class that takes the lock of each bump's class, and a [`Maintainer`] has all
 //! lanes.
@@ -16,13 +16,13 @@ mod stores;
 
 pub use bump_class::{Book, LinkRefusal, UnlinkRefusal};
 pub use bump_heads::{Blank, Name, ReaderHeads};
-pub use bump_parts::{ClosedWorker, GetAnyRefusal, GetRefusal, Hold, Worker};
 pub use bump_rules::{
     Accounts, Applied, ClassConfig, Classes, Config, ConfigFault, Dropped, Ended, Entry, Head,
     ItemId, MAX_CAPACITY, MAX_CHUNKS, MAX_REFS, Outcome, Place, Pulled, Segment, Start, Tail,
     Touch,
 };
-pub use bump_steps::{AnyRow, ClassPart, HoldPart, LanePart, Ride, RowLaw, Rule};
+pub use bump_steps::{AnyRow, ClassSheet, HoldSheet, LaneSheet, Ride, RowLaw, Rule};
+pub use bump_unlocked::{ClosedWorker, GetAnyRefusal, GetRefusal, Hold, Worker};
 pub use classes::NoSuchChunk;
 pub use finishing::{ClassSizes, Unfinished};
 pub use lanes::Lane;

@@ -69,12 +69,12 @@ impl<N: Name, L: RowLaw> Maintainer<N, L> {
     pub fn meet(&mut self, store: &Store<N, L>, book: &mut Book<N, L>)
         ensures lanes { self.new ≡ self.old }
         ensures book { book.new ≡ book_after_meets (length self.old + 1) book.old }
-        ensures once { NamesNoBumpTwice book.old.part }
-        ensures workers { NamesWorkersBelow store.now.workers book.old.part }
-        ensures told { All (λ l. EachMoveIsTold book.old.part l.lane.part) self.old }
-        ensures moves { All (λ l. moves_of l.lane.part.worker book.old.part.history
-            ≡ moved_in book.old.part (entries l.lane)) self.old }
-        ensures all_told { AreAllLanes store.now.workers self.old → EachIsTold book.old.part self.old }
+        ensures once { NamesNoBumpTwice book.old.sheet }
+        ensures workers { NamesWorkersBelow store.now.workers book.old.sheet }
+        ensures told { All (λ l. EachMoveIsTold book.old.sheet l.lane.sheet) self.old }
+        ensures moves { All (λ l. moves_of l.lane.sheet.worker book.old.sheet.history
+            ≡ moved_in book.old.sheet (entries l.lane)) self.old }
+        ensures all_told { AreAllLanes store.now.workers self.old → EachIsTold book.old.sheet self.old }
     {
         let count = self.lanes.len();
         for worker in 0..count {

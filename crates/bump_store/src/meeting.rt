@@ -20,10 +20,10 @@ impl<N: Name, L: RowLaw> Lane<N, L> {
     pub fn meet(&mut self, book: &mut Book<N, L>)
         ensures lane { self.new ≡ self.old }
         ensures book { book.new ≡ book_after_meet book.old }
-        ensures once { NamesNoBumpTwice book.old.part }
-        ensures told { EachMoveIsTold book.old.part self.old.lane.part }
-        ensures moves { moves_of self.old.lane.part.worker book.old.part.history
-            ≡ moved_in book.old.part (entries self.old.lane) }
+        ensures once { NamesNoBumpTwice book.old.sheet }
+        ensures told { EachMoveIsTold book.old.sheet self.old.lane.sheet }
+        ensures moves { moves_of self.old.lane.sheet.worker book.old.sheet.history
+            ≡ moved_in book.old.sheet (entries self.old.lane) }
     {
         book.meet_lane(&mut self.raw);
     }

@@ -1,17 +1,17 @@
 //! A store that is opened: its locks, its workers and its lanes.
 ghost use Rattle.std.specs.Prelude.{◌≡◌, IfOk, length, vec_len, All};
-ghost use Rattle.bump_steps.specs.Rule.{worker_parts, lane_parts};
-ghost use Rattle.bump_parts.specs.Workers.{worker_rings, worker_parts_of};
-ghost use Rattle.bump_store.specs.Lanes.{NothingAboard, lane_rings, lane_parts_of, lanes_of};
+ghost use Rattle.bump_steps.specs.Rule.{worker_sheets, lane_sheets};
+ghost use Rattle.bump_unlocked.specs.Workers.{worker_rings, worker_sheets_of};
+ghost use Rattle.bump_store.specs.Lanes.{NothingAboard, lane_rings, lane_sheets_of, lanes_of};
 
 use crate::lanes::Lane;
 use crate::maintainers::Maintainer;
 use crate::stores::Store;
 use bump_class::{Book, RawLane};
 use bump_heads::{Blank, Name};
-use bump_parts::{StoreParts, Worker};
 use bump_rules::Config;
 use bump_steps::RowLaw;
+use bump_unlocked::{UnlockedStore, Worker};
 use std::alloc::{AllocError, Global};
 use std::sync::Mutex;
 
@@ -60,18 +60,18 @@ impl<N: Name, L: RowLaw> Store<N, L> {
         ensures store { IfOk result (λ r. r.0 ≡ config.now) }
         ensures count { IfOk result (λ r. (length r.1.items ≡ config.now.workers) × (length r.2 ≡ config.now.workers)) }
         ensures rings { IfOk result (λ r. worker_rings r.1.items ≡ lane_rings r.2) }
-        ensures workers { IfOk result (λ r. worker_parts_of r.1.items ≡ worker_parts 0 config.now.workers) }
-        ensures lanes { IfOk result (λ r. lane_parts_of r.2 ≡ lane_parts 0 config.now.workers) }
+        ensures workers { IfOk result (λ r. worker_sheets_of r.1.items ≡ worker_sheets 0 config.now.workers) }
+        ensures lanes { IfOk result (λ r. lane_sheets_of r.2 ≡ lane_sheets 0 config.now.workers) }
         ensures capacity { IfOk result (λ r. All (λ w. w.sender.capacity ≡ config.now.capacity) r.1.items
             × All (λ l. l.capacity ≡ config.now.capacity) r.2) }
     {
-        let StoreParts {
+        let UnlockedStore {
             heads,
             books,
             starts,
             workers,
             lanes,
-        } = StoreParts::<N, L>::open(alloc, blank, config)?;
+        } = UnlockedStore::<N, L>::open(alloc, blank, config)?;
         let locks = put_under_locks(alloc, books)?;
         let configs = Vec::from_slice(alloc, config.classes.as_slice())?;
         let lanes = make_lanes(alloc, lanes, config.capacity)?;

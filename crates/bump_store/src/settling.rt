@@ -5,15 +5,15 @@ ghost use mathlib.Core.List.{IsPrefix};
 ghost use Rattle.bump_rules.specs.declared.lanes.LaneStage.TheVariants.{Empty as IsEmpty};
 ghost use Rattle.bump_class.specs.Lanes.{LaneView as TheLaneView, entries};
 ghost use Rattle.bump_store.specs.Lanes.{applied_bump_of, AppliesNext};
-ghost use Rattle.bump_parts.specs.Closing.{AppliedAll};
+ghost use Rattle.bump_unlocked.specs.Closing.{AppliedAll};
 ghost use Rattle.bump_store.specs.Settling.{MaySeeEnd, Settles};
 
 use crate::lanes::Lane;
 use crate::stores::Store;
 use bump_heads::Name;
-use bump_parts::ClosedWorker;
 use bump_rules::{Accounts, Entry};
 use bump_steps::RowLaw;
+use bump_unlocked::ClosedWorker;
 use std::sync::Wait;
 use thiserror::Error;
 
@@ -48,7 +48,7 @@ impl<N: Name, L: RowLaw> Lane<N, L> {
         ensures ring { (self.new.lane.ring ≡ self.old.lane.ring) × (self.new.capacity ≡ self.old.capacity) }
         ensures entries { entries self.new.lane ≡ entries self.old.lane }
         ensures order { AppliedAll self.new.lane.received self.new.lane }
-        ensures empty { self.new.lane.part.stage ≡ IsEmpty }
+        ensures empty { self.new.lane.sheet.stage ≡ IsEmpty }
         ensures seen { MaySeeEnd closed.old.sender.sent closed.old.sender.capacity self.old.lane self.new.lane }
         ensures rest { IfSome result (λ left.
             closed.old.sender.sent ≡ self.new.lane.received ++ self.new.lane.known) }
@@ -71,7 +71,7 @@ impl<N: Name, L: RowLaw> Lane<N, L> {
     // What is told of a lane that applied all.
     fn settled(&self, closed: &ClosedWorker<N>) -> Settled
         requires all { AppliedAll closed.now.sender.sent self.now.lane }
-        ensures counts { result.counts ≡ closed.now.part.accounts }
+        ensures counts { result.counts ≡ closed.now.sheet.accounts }
         ensures applied { result.applied ≡ length (entries self.now.lane) }
         ensures accepted { result.applied ≡ result.counts.accepted }
         ensures attempted { result.counts.attempted ≡ result.counts.accepted + result.counts.full + result.counts.busy
@@ -146,7 +146,7 @@ impl<N: Name, L: RowLaw> Lane<N, L> {
         ensures grown { IsPrefix (entries self.old.lane) (entries self.new.lane) }
         ensures all { IfOk result (λ settled. AppliedAll closed.sender.sent self.new.lane) }
         ensures received { IfOk result (λ settled. self.new.lane.received ≡ closed.sender.sent) }
-        ensures counts { IfOk result (λ settled. settled.counts ≡ closed.part.accounts) }
+        ensures counts { IfOk result (λ settled. settled.counts ≡ closed.sheet.accounts) }
         ensures applied { IfOk result (λ settled. settled.applied ≡ length (entries self.new.lane)) }
         ensures accepted { IfOk result (λ settled. settled.applied ≡ settled.counts.accepted) }
         ensures attempted { IfOk result (λ settled. settled.counts.attempted ≡ settled.counts.accepted

@@ -131,7 +131,7 @@ impl<N: Name, L: RowLaw> Store<N, L> {
     // The Book that has the chunk, under its lock. It is looked for among all, from that of the chunk's class on.
     #[inline(always)]
     pub(crate) fn lock_of_chunk<R: Wait>(&self, rt: &R, chunk: u32) -> MutexGuard<'_, Book<N, L>>
-        ensures { owns chunk (mutex_guard_value result).part ≡ true }
+        ensures { owns chunk (mutex_guard_value result).sheet ≡ true }
     {
         let mut at = self.class_or_first(chunk);
         for _ in rt.forever() {

@@ -8,7 +8,7 @@ use Rattle.std.proofs.lemmas.List.Folds.{list_any_none}
 use Rattle.std.proofs.Math.ListN.{get_or-eq_default}
 use Rattle.bump_rules.specs.declared.bumps.Ended.TheVariants.{Freed, Deferred}
 use Rattle.bump_rules.specs.declared.bumps.Ended.{Ended}
-use Rattle.bump_state.specs.declared.chunks.Chunk.{Chunk}
+use Rattle.model_state.specs.declared.chunks.Chunk.{Chunk}
 use Rattle.bump_rules.specs.declared.commands.Command.{Command}
 use Rattle.bump_rules.specs.declared.commands.Command.TheVariants as command
 use Rattle.bump_rules.specs.declared.commands.Dropped.{Dropped}
@@ -21,9 +21,9 @@ use Rattle.bump_rules.specs.declared.places.Tail.{Tail}
 use Rattle.bump_rules.specs.declared.places.Tail.TheVariants as tail
 use Rattle.bump_core.specs.Commands.{is_allowed, may_store, command_after, with_chunk_freed, unlink_item, unlinked_as, pull, pull_to, pulled_at, hit, hit_at, attempt, dropped_at, is_exhausted, apply_bump, bumped_lists, outcome_next, gone_as, bump_next, last_pulled_in, get_at, held_by_get}
 use Rattle.bump_rules.specs.Lanes.{is_half_made}
-use Rattle.bump_state.specs.Events.{next_chunk}
+use Rattle.model_state.specs.Events.{next_chunk}
 use Rattle.bump_rules.specs.Lives.{life}
-use Rattle.bump_state.specs.State.{State, ClassState, WorkerState, new_worker, no_chunk, chunk_at, head_at, worker_at, is_class, is_worker, with_chunk, with_class, with_worker, class_of, is_current, is_linked, is_held, has_free_hold, is_open, workers_on, is_under_application, applies_in}
+use Rattle.model_state.specs.State.{State, ClassState, WorkerState, new_worker, no_chunk, chunk_at, head_at, worker_at, is_class, is_worker, with_chunk, with_class, with_worker, class_of, is_current, is_linked, is_held, has_free_hold, is_open, workers_on, is_under_application, applies_in}
 use Rattle.bump_rules.specs.Hands.{is_idle, is_on}
 use Rattle.bump_rules.specs.declared.commands.Hit.{Hit}
 use Rattle.bump_rules.specs.declared.commands.Hit.TheVariants.{First as IsFirst, Already as IsAlready, Marked as IsMarked, Attempts}

@@ -6,7 +6,7 @@ use Rattle.bump_rules.specs.declared.commands.Answer.TheVariants as answer
 use Rattle.bump_rules.specs.declared.commands.Command.TheVariants as command
 use Rattle.bump_core.specs.Commands.{answer_of, command_after}
 use Rattle.bump_rules.specs.Lists.{ascending}
-use Rattle.bump_state.specs.State.{State}
+use Rattle.model_state.specs.State.{State}
 use Rattle.bump_trace.specs.OpenStore.{Drained, drained_none, drained_one, drained_both, drained_by, drained_of, drained_through, drain_by, drain_said}
 use Rattle.bump_trace.specs.Stages.{StoreState, Open, say}
 use Rattle.trace_lines.specs.Text.{drain_line}

@@ -7,8 +7,8 @@ use Rattle.std.proofs.lemmas.Bool.{true≢false}
 use std.Path.{fun_ext}
 use Rattle.bump_rules.specs.declared.items.ItemId.{ItemId}
 use Rattle.bump_rules.specs.Lives.{one_if}
-use Rattle.bump_state.specs.State.{State, is_held}
-use Rattle.bump_state.specs.Worlds.{IsLawful, holds_of}
+use Rattle.model_state.specs.State.{State, is_held}
+use Rattle.model_state.specs.Worlds.{IsLawful, holds_of}
 use Rattle.bump_core.proofs.Held.{one_if_same, held_from}
 use Rattle.bump_trace.specs.Names.{Names, bind, unbind}
 use Rattle.bump_trace.specs.Ready.{AreHeld, KeepsHolds, HoldsStay, GivesBack, bindings, bound_to}

@@ -10,7 +10,7 @@ use Rattle.bump_rules.specs.declared.bumps.Ended.TheVariants.{Freed, Deferred}
 use Rattle.bump_rules.specs.declared.bumps.Ended.{Ended}
 use Rattle.bump_rules.specs.declared.bumps.Outcome.{Outcome}
 use Rattle.bump_rules.specs.declared.bumps.Outcome.TheVariants as outcome
-use Rattle.bump_state.specs.declared.chunks.Chunk.{Chunk}
+use Rattle.model_state.specs.declared.chunks.Chunk.{Chunk}
 use Rattle.bump_rules.specs.declared.commands.Answer.{Answer}
 use Rattle.bump_rules.specs.declared.commands.Answer.TheVariants as answer
 use Rattle.bump_rules.specs.declared.commands.Command.{Command}
@@ -25,13 +25,13 @@ use Rattle.bump_rules.specs.declared.places.Start.{Start}
 use Rattle.bump_rules.specs.declared.places.Start.TheVariants as start
 use Rattle.bump_rules.specs.Starts.{link_command}
 use Rattle.bump_core.specs.Commands.{is_allowed, answer_of, command_after, with_chunk_freed, unlink_item, unlinked_as, pull, pull_to, pulled_at, get_answer, get_at, held_by_get, hit, hit_at, attempt, dropped_at, apply_bump, bumped_chunk, bumped_lists, outcome_next, gone_as, bump_next, last_pulled_in, link_labelled}
-use Rattle.bump_state.specs.Events.{next_chunk, with_hold, without_hold}
+use Rattle.model_state.specs.Events.{next_chunk, with_hold, without_hold}
 use Rattle.bump_rules.specs.Lives.{life, one_if}
-use Rattle.bump_state.specs.State.{State, ClassState, WorkerState, no_chunk, chunk_at, head_at, worker_at, is_chunk, is_current, is_held, is_open, with_chunk, with_class, with_worker}
+use Rattle.model_state.specs.State.{State, ClassState, WorkerState, no_chunk, chunk_at, head_at, worker_at, is_chunk, is_current, is_held, is_open, with_chunk, with_class, with_worker}
 use Rattle.bump_rules.specs.declared.commands.Hit.{Hit}
 use Rattle.bump_rules.specs.declared.commands.Hit.TheVariants.{First as IsFirst, Already as IsAlready, Marked as IsMarked, Attempts}
 use Rattle.bump_rules.specs.Tables.{Get, IsStale, IsRefsFull, IsHeld, get_of, is_of, pulled_to}
-use Rattle.bump_state.specs.Worlds.{IsLawful, holds_of}
+use Rattle.model_state.specs.Worlds.{IsLawful, holds_of}
 use Rattle.bump_core.proofs.Held.{held_by, held_at, held_else, one_if_same, one_if_cases, unheld_next}
 use Rattle.bump_trace.specs.OpenStore.{answer_by, state_by, Drained, drained_by, drained_of, drained_through}
 use Rattle.bump_trace.specs.Ready.{HoldsStay, GivesBack, is_release}

@@ -1,6 +1,6 @@
 -- Benches that differ in their World alone.
 use Rattle.std.proofs.Common.{◌≡◌, sym, ap, ◌∙◌}
-use Rattle.bump_state.specs.State.{State}
+use Rattle.model_state.specs.State.{State}
 use Rattle.bump_trace.specs.declared.open_store.OpenStore.{OpenStore}
 
 -- one store differs from a second in its World alone, and the second from a third

@@ -11,10 +11,10 @@ use Rattle.bump_rules.specs.declared.bumps.Outcome.TheVariants as outcome
 use Rattle.bump_rules.specs.declared.lanes.LaneStage.TheVariants as lane
 use Rattle.bump_rules.specs.declared.commands.Answer.TheVariants as answer
 use Rattle.bump_rules.specs.Lanes.{bump_of}
-use Rattle.bump_state.specs.State.{State, WorkerState, new_worker, worker_at, chunk_at, with_chunk, with_worker}
-use Rattle.bump_state.specs.Events.{waiting, next_bump}
-use Rattle.bump_state.specs.Worlds.{IsLawful}
-use Rattle.bump_state.proofs.Ring.{next_in_ring}
+use Rattle.model_state.specs.State.{State, WorkerState, new_worker, worker_at, chunk_at, with_chunk, with_worker}
+use Rattle.model_state.specs.Events.{waiting, next_bump}
+use Rattle.model_state.specs.Worlds.{IsLawful}
+use Rattle.model_state.proofs.Ring.{next_in_ring}
 use Rattle.bump_core.specs.Commands.{bump_next, bumped_worker, bumped_chunk, bumped_lists, apply_bump, outcome_next, gone_as, entry_next}
 use Rattle.bump_trace.specs.OpenStore.{Drained, drained_none, drained_one, drained_both, drained_by, drained_of}
 use Rattle.bump_trace.specs.Ready.{AllWorkersRest}

@@ -16,10 +16,10 @@ pub use Rattle.bump_rules.specs.Lives
 pub use Rattle.bump_rules.specs.Places
 pub use Rattle.bump_rules.specs.Starts
 pub use Rattle.bump_rules.specs.Totals
-pub use Rattle.bump_state.specs.Events
-pub use Rattle.bump_state.specs.Opening
-pub use Rattle.bump_state.specs.State
-pub use Rattle.bump_state.specs.Worlds
+pub use Rattle.model_state.specs.Events
+pub use Rattle.model_state.specs.Opening
+pub use Rattle.model_state.specs.State
+pub use Rattle.model_state.specs.Worlds
 pub use Rattle.trace_lines.specs.Counted
 pub use Rattle.trace_lines.specs.Faults
 pub use Rattle.trace_lines.specs.Lines

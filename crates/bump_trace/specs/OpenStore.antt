@@ -12,8 +12,8 @@ use Rattle.bump_rules.specs.declared.places.Tail.{Tail}
 use Rattle.bump_rules.specs.Starts.{link_command}
 use Rattle.bump_core.specs.Commands.{answer_of, command_after}
 use Rattle.bump_rules.specs.Lists.{ascending}
-use Rattle.bump_state.specs.State.{State, worker_at, is_class, is_worker, is_open}
-use Rattle.bump_state.specs.Events.{waiting}
+use Rattle.model_state.specs.State.{State, worker_at, is_class, is_worker, is_open}
+use Rattle.model_state.specs.Events.{waiting}
 use Rattle.trace_lines.specs.Lines.{Instruction, Set, Get, Hold, Hit, Read, Drop, Del, Pull, Sweep, Drain, Close, Show}
 use Rattle.trace_lines.specs.Lines.{Moves, Par, may_follow_par}
 use Rattle.bump_trace.specs.Names.{Names, bind, unbind}

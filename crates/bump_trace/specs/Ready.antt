@@ -6,9 +6,9 @@ use Rattle.bump_rules.specs.declared.items.ItemId.{ItemId}
 use Rattle.bump_rules.specs.declared.lanes.LaneStage.TheVariants as lane
 use Rattle.bump_rules.specs.declared.hands.Hand.TheVariants as hand
 use Rattle.bump_rules.specs.Lives.{one_if}
-use Rattle.bump_state.specs.State.{State, WorkerState}
+use Rattle.model_state.specs.State.{State, WorkerState}
 use Rattle.bump_rules.specs.Totals.{total}
-use Rattle.bump_state.specs.Worlds.{IsLawful, holds_of}
+use Rattle.model_state.specs.Worlds.{IsLawful, holds_of}
 use Rattle.bump_trace.specs.Names.{Names, no_names, bind}
 use Rattle.bump_trace.specs.Views.{names_of}
 use Rattle.bump_trace.specs.declared.open_store.OpenStore.{OpenStore}

@@ -4,7 +4,7 @@ use Rattle.std.specs.List.{flat_map}
 use Rattle.bump_rules.specs.declared.places.Place.{Place}
 use Rattle.bump_rules.specs.Lists.{list_at, ascending}
 use Rattle.bump_rules.specs.Places.{all_places}
-use Rattle.bump_state.specs.State.{State, chunk_at, head_at, class_at, worker_at}
+use Rattle.model_state.specs.State.{State, chunk_at, head_at, class_at, worker_at}
 use Rattle.bump_rules.specs.Entries.{moves_of}
 use Rattle.trace_lines.specs.Text.{chunk_text, is_shown, list_start, moves_line, accounts_text, accounts_line}
 use Rattle.trace_lines.specs.Text.{close_start}

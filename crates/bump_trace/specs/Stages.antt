@@ -3,8 +3,8 @@
 use Rattle.std.specs.Prelude.{ℕ, Bool, false, List, [], ◌∷◌, ◌++◌, Option, Some, None, Result, Ok, Err, option_map}
 use Rattle.bump_rules.specs.declared.configs.ClassConfig.{ClassConfig}
 use Rattle.bump_rules.specs.Configs.{first_fault}
-use Rattle.bump_state.specs.Opening.{opening_state}
-use Rattle.bump_state.specs.State.{State}
+use Rattle.model_state.specs.Opening.{opening_state}
+use Rattle.model_state.specs.State.{State}
 use Rattle.trace_lines.specs.Faults.{fault_of_config}
 use Rattle.bump_trace.specs.Names.{Names, no_names}
 use Rattle.trace_lines.specs.declared.faults.Fault.{Fault}

@@ -5,7 +5,7 @@ use Rattle.std.specs.Str.{bytes_eq}
 use denote.Ref.{Bor}
 use Rattle.bump_rules.specs.declared.configs.Config.{Config}
 use Rattle.bump_rules.specs.declared.items.ItemId.{ItemId}
-use Rattle.bump_state.specs.Opening.{new_state}
+use Rattle.model_state.specs.Opening.{new_state}
 use Rattle.bump_trace.specs.Names as names
 use Rattle.bump_trace.specs.OpenStore.{Drained}
 use Rattle.bump_trace.specs.Stages as stages

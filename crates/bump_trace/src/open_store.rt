@@ -3,13 +3,13 @@
 ghost use Rattle.std.specs.Prelude.{◌≡◌, ◌<◌, ◌^◌, ◌&&◌, not, true, false, [], IfOk, IfErr, OnOk, Ok};
 ghost use Rattle.bump_core.specs.Commands.{is_allowed, answer_of, command_after};
 ghost use Rattle.bump_rules.specs.declared.commands.Command.TheVariants as command;
-ghost use Rattle.bump_state.specs.State.{is_held, is_open};
+ghost use Rattle.model_state.specs.State.{is_held, is_open};
 ghost use Rattle.bump_trace.specs.Stages.{Open};
 ghost use Rattle.bump_trace.specs.OpenStore.{answer_by, state_by, get_held, set_said, get_said, hold_said, hit_said};
 ghost use Rattle.bump_trace.specs.OpenStore.{read_said, drop_said, del_said, pull_said, sweep_said, drain_said};
 ghost use Rattle.bump_trace.specs.OpenStore.{close_said, line_answered, instruction_said, drained_of};
 ghost use Rattle.bump_trace.specs.Names.{no_names};
-ghost use Rattle.bump_state.specs.Opening.{new_state};
+ghost use Rattle.model_state.specs.Opening.{new_state};
 ghost use Rattle.trace_lines.specs.Lines.{may_follow_par};
 ghost use Rattle.trace_lines.specs.declared.faults.LineError.TheVariants.{Memory};
 

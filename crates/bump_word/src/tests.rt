@@ -96,32 +96,37 @@ fn named_numbers(rt: HostRuntime) {
         &[1_048_576, 2_097_152, 4_194_304],
     );
     expect(&rt, "the limit", &REFS_MAX, &1_048_575);
+    expect_segments(&rt);
+}
+
+// The numbers that lead from one segment to another.
+fn expect_segments(rt: &impl Abort) {
     expect(
-        &rt,
+        rt,
         "from WARM to WARM",
         &segment_xor(Segment::Warm, Segment::Warm),
         &0,
     );
     expect(
-        &rt,
+        rt,
         "from HOT to WARM",
         &segment_xor(Segment::Hot, Segment::Warm),
         &8_388_608,
     );
     expect(
-        &rt,
+        rt,
         "from COLD to HOT",
         &segment_xor(Segment::Cold, Segment::Hot),
         &16_777_216,
     );
     expect(
-        &rt,
+        rt,
         "from WARM to COLD",
         &segment_xor(Segment::Warm, Segment::Cold),
         &25_165_824,
     );
     expect(
-        &rt,
+        rt,
         "from HOT, WARM and COLD to TEMP",
         &[
             segment_xor(Segment::Hot, Segment::Temp),
@@ -198,8 +203,13 @@ fn steps(rt: HostRuntime) {
             ..head
         }),
     );
+    expect_newborn_steps(&rt);
+}
+
+// Those of a newborn chunk.
+fn expect_newborn_steps(rt: &impl Abort) {
     expect(
-        &rt,
+        rt,
         "with FETCHED",
         &unpack(pack(NEWBORN) | FETCHED),
         &Some(Head {
@@ -208,7 +218,7 @@ fn steps(rt: HostRuntime) {
         }),
     );
     expect(
-        &rt,
+        rt,
         "unlinked",
         &unpack(pack(NEWBORN) - LINK),
         &Some(Head {

@@ -4,7 +4,7 @@
 #![tactic(auto)]
 
 ghost use Rattle.std.specs.Prelude.{◌≡◌, ◌+◌, None};
-ghost use Rattle.cache_making.specs.Configs.{IsStoreOf};
+ghost use Rattle.cache_config.specs.Configs.{IsStoreOf};
 ghost use Rattle.cache_handles.specs.Configs.{first_byte_fault, key_words_of, value_words_of};
 
 use anyhow::Result;

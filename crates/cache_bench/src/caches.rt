@@ -1,6 +1,7 @@
 //! The calls of a cache.
 ghost use Rattle.std.specs.Prelude.{◌≡◌, ◌<◌};
 ghost use Rattle.bump_cache.specs.Calls.{CallerView};
+ghost use Rattle.bump_cache.specs.Opening.{IsNamed};
 
 use crate::memory::{Memory, memory_now};
 use crate::passes::{Called, Passes, Times};
@@ -230,10 +231,7 @@ fn blank_of(alloc: Global, items: u32, readers: u32, parts: u32) -> Option<Cache
 impl<R: Threads + Clock + Wait + Copy + Send + Sync> Passes<R> {
     // Opens a cache under the names that the blank has, and times the calls.
     fn run<N: Name + LogName + Send + Sync>(self, blank: CacheBlank<u64, u64>) -> Option<Times>
-        requires table { blank.table ≡ N.table }
-        requires book { blank.log.book ≡ N.book }
-        requires name { blank.log.name ≡ N.name }
-        requires parts { blank.log.parts ≡ N.parts }
+        requires { IsNamed N.table N.book N.name N.parts blank }
     {
         let Opened {
             cache,
@@ -280,10 +278,7 @@ fn grown<N: Name + LogName, R: Wait + Files + AllocGlobal>(
     blank: CacheBlank<u64, u64>,
     items: u32,
 ) -> io::Result<Memory>
-    requires table { blank.table ≡ N.table }
-    requires book { blank.log.book ≡ N.book }
-    requires name { blank.log.name ≡ N.name }
-    requires parts { blank.log.parts ≡ N.parts }
+    requires { IsNamed N.table N.book N.name N.parts blank }
 {
     let Opened {
         cache,

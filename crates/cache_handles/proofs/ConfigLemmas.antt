@@ -2,9 +2,9 @@
 use Rattle.std.proofs.Common.{◌≡◌, ◌≤◌, Bool, true, false, cond, Option, None, Some, option_map, refl}
 use Rattle.std.specs.Prelude.{nat_lt}
 use Rattle.std.proofs.lemmas.Bool.{ltb-false}
-use Rattle.cache_making.specs.Choosing.{IsPartCount}
-use Rattle.cache_making.specs.Configs.{first_cache_fault}
-use Rattle.cache_making.proofs.Soundness.{sound}
+use Rattle.cache_config.specs.Choosing.{IsPartCount}
+use Rattle.cache_config.specs.Configs.{first_cache_fault}
+use Rattle.cache_config.proofs.Soundness.{sound}
 use Rattle.cache_handles.specs.declared.config.ByteConfig.{ByteConfig}
 use Rattle.cache_handles.specs.declared.config.ByteFault.TheVariants.{KeyBytes, ValueBytes, Cache}
 use Rattle.cache_handles.specs.Configs.{first_byte_fault, most_key_bytes, most_value_bytes}

@@ -1,7 +1,7 @@
 -- What a part does by its desk: it takes the words of a key, looks what the key has, and puts.
 use Rattle.std.proofs.Common.{◌≡◌, ℕ, suc, ◌%◌, ◌^◌, List, ◌∷◌, Option, None, IfNone, IfSome, sym, ap, ◌∙◌, subst}
 use Rattle.std.specs.Prelude.{slice_index}
-use Rattle.byte_words.specs.Strings.{long_string}
+use Rattle.packed_words.specs.Spelling.{long_string}
 use Rattle.cache_part.specs.Parts.{PartView}
 use Rattle.cache_shelf.specs.Entries.{ReadsShelf}
 use Rattle.cache_shelf.specs.Shelves.{ShelfView}

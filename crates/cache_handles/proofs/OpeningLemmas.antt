@@ -5,14 +5,14 @@ use Rattle.std.proofs.lemmas.List.{append_assoc, length-map, map-append}
 use Rattle.std.proofs.lemmas.Option.{slice_get-get_or}
 use Rattle.bump_rules.specs.declared.configs.Config.{Config}
 use Rattle.bump_class.specs.Lanes.{LaneView}
-use Rattle.bump_parts.specs.Parting.{raw_rings}
-use Rattle.bump_parts.specs.Workers.{WorkerState, worker_parts_of, worker_rings}
-use Rattle.bump_steps.specs.Rule.{worker_parts}
+use Rattle.bump_unlocked.specs.UnlockedStore.{raw_rings}
+use Rattle.bump_unlocked.specs.Workers.{WorkerState, worker_sheets_of, worker_rings}
+use Rattle.bump_steps.specs.Rule.{worker_sheets}
 use Rattle.cache_readers.specs.Readers.{ReaderView}
 use Rattle.cache_shelf.specs.Shelves.{ShelfView}
-use Rattle.cache_making.specs.declared.config.CacheConfig.{CacheConfig}
-use Rattle.cache_making.specs.Configs.{IsStoreOf}
-use Rattle.cache_making.specs.Making.{AreMadeShelves, AreRows, chunks_before}
+use Rattle.cache_config.specs.declared.config.CacheConfig.{CacheConfig}
+use Rattle.cache_config.specs.Configs.{IsStoreOf}
+use Rattle.cache_config.specs.Making.{AreMadeShelves, AreRows, chunks_before}
 use Rattle.bump_cache.specs.Opening.{AreNewReaders, IsNewShelf}
 use Rattle.bump_cache.specs.Readers.{readers_by}
 use Rattle.bump_cache.proofs.NewParts.{new_of_made}
@@ -36,7 +36,7 @@ made_one f made pushed x y coming rest all is same next so_far =
 pub readers_new : (config : CacheConfig) (store heads : Config) (workers : List WorkerState)
     (rows : List (List ReaderView)) → IsStoreOf config store → heads ≡ store
     → AreRows heads (chunks_before config) config.readers config.parts workers rows
-    → worker_parts_of workers ≡ worker_parts 0 store.workers
+    → worker_sheets_of workers ≡ worker_sheets 0 store.workers
     → All (λ worker. worker.sender.capacity ≡ store.capacity) workers
     → AreNewReaders config (map (readers_by config.seed) rows)
 readers_new config store heads workers rows store_of same are new_workers capacity = record {
@@ -45,7 +45,7 @@ readers_new config store heads workers rows store_of same are new_workers capaci
   store_of = store_of;
   made = λ number reader had. rows_all config store workers rows config.parts number reader refl
       (subst (λ (k : Config). AreRows k (chunks_before config) config.readers config.parts workers rows) same are) had;
-  new_workers = new_workers ∙ ap (λ (count : ℕ). worker_parts 0 count) store_of.workers;
+  new_workers = new_workers ∙ ap (λ (count : ℕ). worker_sheets 0 count) store_of.workers;
   capacity = subst (λ (most : ℕ). All (λ (worker : WorkerState). worker.sender.capacity ≡ most) workers)
       store_of.capacity capacity;
 }

@@ -1,9 +1,9 @@
 -- What a cache of byte strings is made from, and which configurations are refused.
 use Rattle.std.specs.Prelude.{ℕ, suc, if◌then◌else◌, nat_lt, List, length, Option, None, Some, option_map}
-use Rattle.byte_words.specs.Strings.{long_string, words_for}
+use Rattle.packed_words.specs.Spelling.{long_string, words_for}
 use Rattle.keyed_hash.specs.Hashes.{hash_of}
-use Rattle.cache_making.specs.Choosing.{part_of}
-use Rattle.cache_making.specs.Configs.{first_cache_fault, new_config}
+use Rattle.cache_config.specs.Choosing.{part_of}
+use Rattle.cache_config.specs.Configs.{first_cache_fault, new_config}
 use Rattle.cache_handles.specs.declared.config.ByteConfig.{ByteConfig}
 use Rattle.cache_handles.specs.declared.config.ByteFault.{ByteFault}
 use Rattle.cache_handles.specs.declared.config.ByteFault.TheVariants.{KeyBytes, ValueBytes, Cache}

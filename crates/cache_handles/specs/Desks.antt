@@ -1,6 +1,6 @@
 -- What contracts see of a shelf with room for what a call packs and unpacks.
 use Rattle.std.specs.Prelude.{ℕ, suc, ◌+◌, List, replicate}
-use Rattle.byte_words.specs.Strings.{words_for}
+use Rattle.packed_words.specs.Spelling.{words_for}
 use Rattle.cache_shelf.specs.Shelves.{ShelfView}
 use Rattle.cache_handles.specs.declared.keys.PartPlace.{PartPlace}
 

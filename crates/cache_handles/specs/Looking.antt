@@ -3,7 +3,7 @@ use Rattle.std.specs.Prelude.{◌≡◌, ℕ, Bool, true, false, List, ◌∷◌
 use Rattle.cache_part.specs.Parts.{PartView, IsUnknown}
 use Rattle.cache_shelf.specs.Entries.{Keeps, OthersKept, ReadsShelf}
 use Rattle.cache_shelf.specs.Shelves.{ShelfView, with_ended}
-use Rattle.entry_times.specs.Times.{has_expired}
+use Rattle.bump_rules.specs.Expiry.{has_expired}
 use Rattle.bump_cache.specs.Putting.{EndsKey, HadValue}
 use Rattle.cache_handles.specs.declared.keys.KeyFault.{KeyFault}
 use Rattle.cache_handles.specs.declared.keys.KeyFault.TheVariants as key_is

@@ -2,7 +2,7 @@
 use Rattle.std.specs.Prelude.{◌≡◌, ℕ, ◌%◌, ◌^◌, Bool, false, if◌then◌else◌, nat_lt, List, slice_index, Option, None, Some, IfNone, IfSome, is_some}
 use Rattle.cache_shelf.specs.Entries.{AllKept, Keeps, OthersKept}
 use Rattle.cache_shelf.specs.Shelves.{ShelfView}
-use Rattle.entry_times.specs.Times.{has_expired}
+use Rattle.bump_rules.specs.Expiry.{has_expired}
 use Rattle.bump_cache.specs.Changing.{BehindLook, HadSome, OnlyFinds}
 use Rattle.bump_cache.specs.Putting.{HadValue, PutsRow, RefusesRow}
 use Rattle.cache_handles.specs.declared.keys.KeyFault.{KeyFault}

@@ -1,9 +1,9 @@
 -- What a reader of a cache of byte strings does.
 use Rattle.std.specs.Prelude.{◌≡◌, ◌≢◌, ℕ, ◌+◌, ◌<◌, ◌≤◌, Bool, true, false, List, length, min, replicate, slice_get, slice_index, slice_set, None, Some}
-use Rattle.bump_steps.specs.declared.views.HoldPart.{HoldPart}
+use Rattle.bump_steps.specs.declared.views.HoldSheet.{HoldSheet}
 use Rattle.bump_steps.specs.References.{word_of_row}
 use Rattle.cache_readers.specs.Readers.{ReaderView, CountsHit, Misses}
-use Rattle.byte_words.specs.Strings.{long_string}
+use Rattle.packed_words.specs.Spelling.{long_string}
 use Rattle.bump_cache.specs.Readers.{FindsValue, HitsItem, InPart}
 use Rattle.cache_handles.specs.declared.reading.GetTold.{GetTold}
 use Rattle.cache_handles.specs.declared.reading.GetTold.TheVariants as got
@@ -17,11 +17,11 @@ abbrev pub key_of : ByteReaderView → List ℕ → List ℕ
 key_of reader key = long_string reader.key_words key
 
 -- the words of the value of a hold, by number, which stand behind so many of its key
-abbrev pub value_word : ℕ → HoldPart → ℕ → ℕ
+abbrev pub value_word : ℕ → HoldSheet → ℕ → ℕ
 value_word key_words hold i = word_of_row hold.row (key_words + i)
 
 -- A get took this hold of an item with the key, touched it and counted a hit.
-pub record HitsHeld (key : List ℕ) (now : ℕ) (hold : HoldPart) (before after : ReaderView) : Type 0 where
+pub record HitsHeld (key : List ℕ) (now : ℕ) (hold : HoldSheet) (before after : ReaderView) : Type 0 where
   pub hits : HitsItem any_row key now hold before after
   pub counted : CountsHit before after
 
@@ -58,7 +58,7 @@ pub record TellsGet (Does : List ℕ → ℕ → ℕ → GetTold → ReaderView 
 
 -- What a get comes to that holds: the hold that it took stands in the place.
 abbrev pub Holds : List ℕ → ℕ → ℕ → ByteReaderView → ByteReaderView → HeldTold → Type 0
-Holds key place now before after (held.Found value) = (hold : HoldPart)
+Holds key place now before after (held.Found value) = (hold : HoldSheet)
     × InPart (HitsHeld key now hold) key before.reader after.reader
     × TellsValue (value_word before.key_words hold) value.flags value.length
     × (after.holds ≡ slice_set before.holds place (Some hold))
@@ -78,23 +78,23 @@ pub record TellsHold (place : ℕ) (key : List ℕ) (now : ℕ) (before after : 
     pub rest : after ≡ record before { reader = after.reader; holds = after.holds }
 
 -- this hold stands in the place
-abbrev pub IsHoldAt : ℕ → ByteReaderView → HoldPart → Type 0
+abbrev pub IsHoldAt : ℕ → ByteReaderView → HoldSheet → Type 0
 IsHoldAt place reader hold = slice_get reader.holds place ≡ Some (Some hold)
 
 -- none does, or there is no such place
 abbrev pub HoldsNothing : ℕ → ByteReaderView → Type 0
-HoldsNothing place reader = (hold : HoldPart) → slice_get reader.holds place ≢ Some (Some hold)
+HoldsNothing place reader = (hold : HoldSheet) → slice_get reader.holds place ≢ Some (Some hold)
 
 -- What reading in place comes to: eight words of the value's bytes, from one on; or 0 where the place holds nothing.
 -- Nothing is changed.
 pub record TellsRead (place from : ℕ) (before after : ByteReaderView) (told : List ℕ) : Type 0 where
   pub nothing : HoldsNothing place before → told ≡ replicate 8 0
-  pub held : (hold : HoldPart) → IsHoldAt place before hold
+  pub held : (hold : HoldSheet) → IsHoldAt place before hold
       → told ≡ eight_words (value_word before.key_words hold) (from + 2) before.value_words
   pub same : after ≡ before
 
 -- What giving a hold back comes to.
 pub record TellsRelease (place : ℕ) (before after : ByteReaderView) (answer : Bool) : Type 0 where
   pub nothing : answer ≡ false → HoldsNothing place before × (after ≡ before)
-  pub released : answer ≡ true → (hold : HoldPart) × IsHoldAt place before hold
+  pub released : answer ≡ true → (hold : HoldSheet) × IsHoldAt place before hold
       × (after ≡ record before { holds = slice_set before.holds place None })

@@ -1,6 +1,6 @@
 -- Values as words, and what is told of them.
 use Rattle.std.specs.Prelude.{◌≡◌, ℕ, ◌+◌, ◌-◌, ◌%◌, ◌^◌, nat_lt, if◌then◌else◌, List, [], ◌∷◌}
-use Rattle.byte_words.specs.Strings.{long_string}
+use Rattle.packed_words.specs.Spelling.{long_string}
 
 -- the words of a value, so many: its flags, and then those of its bytes
 abbrev pub value_row : ℕ → ℕ → List ℕ → List ℕ

@@ -1,11 +1,11 @@
 -- What contracts see of the parts of a cache of byte strings, and of its readers.
 use Rattle.std.specs.Prelude.{ℕ, ◌==◌, if◌then◌else◌, nat_lt, List, length, Option, None, Some}
-use Rattle.bump_steps.specs.declared.views.HoldPart.{HoldPart}
+use Rattle.bump_steps.specs.declared.views.HoldSheet.{HoldSheet}
 use Rattle.bump_steps.specs.Rule.{RowPredicate}
-use Rattle.byte_words.specs.Strings.{long_string}
+use Rattle.packed_words.specs.Spelling.{long_string}
 use Rattle.keyed_hash.specs.declared.seed.Seed.{Seed}
 use Rattle.keyed_hash.specs.Hashes.{hash_of}
-use Rattle.cache_making.specs.Choosing.{part_of}
+use Rattle.cache_config.specs.Choosing.{part_of}
 use Rattle.cache_shelf.specs.Shelves.{ShelfView}
 use Rattle.bump_cache.specs.Readers.{CacheReaderView}
 use Rattle.cache_handles.specs.declared.keys.KeyFault.{KeyFault}
@@ -34,7 +34,7 @@ pub record ByteReaderView : Type 0 where
   pub key_bytes : ℕ
   pub key_words : ℕ
   pub value_words : ℕ
-  pub holds : List (Option HoldPart)
+  pub holds : List (Option HoldSheet)
 
 -- what is still to be taken out of a cache that was opened, by numbers from 0: None where it is taken
 pub record OpenedCacheView : Type 0 where

@@ -16,11 +16,11 @@ pub record IsEntry (key_words : ℕ) (words : List ℕ) (told : EntryTold) : Typ
 
 -- the chunk of a part with this number
 abbrev pub chunk_of : BytePartView → ℕ → ℕ
-chunk_of part number = part.shelf.part.book.part.first + number
+chunk_of part number = part.shelf.part.book.sheet.first + number
 
 -- What was visited: the item of this chunk is told by its words; or there is none, and the words stay.
 pub record Visits (now chunk : ℕ) (before after : BytePartView) (answer : Option EntryTold) : Type 0 where
-  pub told : is_some answer ≡ has_unexpired now before.shelf.part.book.part chunk
+  pub told : is_some answer ≡ has_unexpired now before.shelf.part.book.sheet chunk
   pub read : IfSome answer (λ entry. after.entry ≡ row_at before.shelf.part chunk)
   pub entry : IfSome answer (λ entry. IsEntry before.shelf.part.key_words after.entry entry)
   pub stays : IfNone answer (after.entry ≡ before.entry)
@@ -29,8 +29,8 @@ pub record Visits (now chunk : ℕ) (before after : BytePartView) (answer : Opti
 -- What a visit of the chunk with this number comes to: the part has so many chunks or fewer, and nothing is changed; or
 -- its item is told where it has one that hasn't expired.
 pub record TellsEntry (number now : ℕ) (before after : BytePartView) (answer : Option EntryTold) : Type 0 where
-  pub none : before.shelf.part.book.part.count ≤ number → (answer ≡ None) × (after ≡ before)
-  pub visits : number < before.shelf.part.book.part.count → Visits now (chunk_of before number) before after answer
+  pub none : before.shelf.part.book.sheet.count ≤ number → (answer ≡ None) × (after ≡ before)
+  pub visits : number < before.shelf.part.book.sheet.count → Visits now (chunk_of before number) before after answer
   pub rest : after ≡ record before { shelf = after.shelf; entry = after.entry }
 
 -- eight words of the bytes of the key of what was visited last, from one on

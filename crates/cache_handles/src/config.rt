@@ -3,9 +3,9 @@ ghost use Rattle.std.specs.Prelude.{◌≡◌, ◌+◌, ◌≤◌, None};
 ghost use Rattle.cache_handles.specs.Configs.{default_config, first_byte_fault, key_words_of, most_value_bytes, part_of_key};
 ghost use Rattle.cache_handles.specs.Configs.{value_words_of};
 
-use byte_words::{spell, words_for};
-use cache_making::{CacheConfig, CacheFault, part_of_hash};
+use cache_config::{CacheConfig, CacheFault, part_of_hash};
 use keyed_hash::Seed;
+use packed_words::{spell, words_for};
 
 // The longest key that a cache may have: memcached's are of 250 bytes at most.
 const MOST_KEY_BYTES: u32 = 1_024;

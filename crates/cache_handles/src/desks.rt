@@ -1,7 +1,7 @@
 //! A shelf, and room for what a call packs and unpacks.
 ghost use Rattle.std.specs.Prelude.{◌≡◌, ◌+◌, ◌-◌, ◌++◌, ◌<◌, ◌≤◌, IfOk, IfSome, IfNone, None, true, false, suc, length, take, drop, slice_index};
-ghost use Rattle.byte_words.specs.Strings.{long_string, words_for};
-ghost use Rattle.cache_making.specs.Choosing.{IsPartCount};
+ghost use Rattle.packed_words.specs.Spelling.{long_string, words_for};
+ghost use Rattle.cache_config.specs.Choosing.{IsPartCount};
 ghost use Rattle.cache_part.specs.Putting.{row_at};
 ghost use Rattle.cache_part.specs.Visiting.{has_unexpired};
 ghost use Rattle.cache_shelf.specs.Entries.{ReadsShelf};
@@ -20,11 +20,11 @@ use crate::putting::PutTold;
 use crate::values::{TOLD_WORDS, ValueTold, eight_from, flags_in, spell_value};
 use crate::visiting::EntryTold;
 use bump_heads::Name;
+use bump_rules::has_expired;
 use bump_steps::AnyRow;
-use byte_words::words_for;
 use cache_shelf::Shelf;
-use entry_times::has_expired;
 use keyed_hash::Seed;
+use packed_words::words_for;
 use std::alloc::{AllocError, Global};
 use std::marker::Model;
 
@@ -50,8 +50,8 @@ pub(crate) struct Desk<N: Name> {
 
 impl<N: Name> Model for Desk<N> {
     ghost use Rattle.std.specs.Prelude.{◌≡◌, ◌+◌, ◌≤◌, suc, length};
-    ghost use Rattle.byte_words.specs.Strings.{words_for};
-    ghost use Rattle.cache_making.specs.Choosing.{IsPartCount};
+    ghost use Rattle.packed_words.specs.Spelling.{words_for};
+    ghost use Rattle.cache_config.specs.Choosing.{IsPartCount};
     ghost use Rattle.cache_handles.specs.Configs.{most_key_bytes, most_value_bytes};
     ghost use Rattle.cache_handles.specs.Desks.{DeskView as TheDeskView};
 
@@ -299,11 +299,11 @@ impl<N: Name> Desk<N> {
     // Reads the item of the part's chunk with this number, which it has, and tells whether one is there that hasn't
     // expired.
     pub(crate) fn visit(&mut self, number: u32, now: u64) -> bool
-        requires { number < self.old.shelf.part.book.part.count }
-        ensures told { result ≡ has_unexpired now self.old.shelf.part.book.part
-            (self.old.shelf.part.book.part.first + number) }
+        requires { number < self.old.shelf.part.book.sheet.count }
+        ensures told { result ≡ has_unexpired now self.old.shelf.part.book.sheet
+            (self.old.shelf.part.book.sheet.first + number) }
         ensures read { result ≡ true → self.new.entry ≡ row_at self.old.shelf.part
-            (self.old.shelf.part.book.part.first + number) }
+            (self.old.shelf.part.book.sheet.first + number) }
         ensures stays { result ≡ false → self.new.entry ≡ self.old.entry }
         ensures reads { ReadsShelf self.old.shelf self.new.shelf }
         ensures rest { self.new ≡ record self.old { shelf = self.new.shelf; entry = self.new.entry } }

@@ -1,12 +1,12 @@
 //! Keys as words, and which of them are a part's.
 ghost use Rattle.std.specs.Prelude.{◌≡◌, ◌≤◌, IfNone, length};
-ghost use Rattle.byte_words.specs.Strings.{long_string, words_for};
-ghost use Rattle.cache_making.specs.Choosing.{IsPartCount};
+ghost use Rattle.packed_words.specs.Spelling.{long_string, words_for};
+ghost use Rattle.cache_config.specs.Choosing.{IsPartCount};
 ghost use Rattle.cache_handles.specs.Views.{key_fault};
 
-use byte_words::spell;
-use cache_making::part_of_hash;
+use cache_config::part_of_hash;
 use keyed_hash::Seed;
+use packed_words::spell;
 
 /// Why a part doesn't take a key.
 #[derive(Clone, Copy, Debug, PartialEq, Eq)]

@@ -15,7 +15,7 @@ mod values;
 mod visiting;
 
 pub use bump_heads::{Blank, Name};
-pub use cache_making::{CacheConfig, CacheFault};
+pub use cache_config::{CacheConfig, CacheFault};
 pub use cache_shelf::Stats;
 pub use config::{ByteConfig, ByteFault};
 pub use keyed_hash::Seed;

@@ -1,8 +1,8 @@
 //! A cache of byte strings is opened, and its parts and readers are taken out of it.
 ghost use Rattle.std.specs.Prelude.{◌≡◌, ◌+◌, ◌≤◌, All, IfOk, None, length, map, option_map};
 ghost use Rattle.bump_handles.specs.Opening.{TakesPart, all_there};
-ghost use Rattle.cache_making.specs.Choosing.{IsPartCount};
-ghost use Rattle.cache_making.specs.Configs.{IsStoreOf};
+ghost use Rattle.cache_config.specs.Choosing.{IsPartCount};
+ghost use Rattle.cache_config.specs.Configs.{IsStoreOf};
 ghost use Rattle.cache_handles.specs.Configs.{first_byte_fault, key_words_of, value_words_of};
 ghost use Rattle.cache_handles.specs.Opening.{IsOpenedCache, IsShelfFor, parts_of, readers_of};
 ghost use Rattle.cache_handles.specs.Views.{BytePartView as TheBytePartView, ByteReaderView as TheByteReaderView};
@@ -14,10 +14,10 @@ use crate::parts::BytePart;
 use crate::readers::ByteReader;
 use bump_handles::take_at;
 use bump_heads::{Blank, Name};
-use bump_parts::StoreParts;
 use bump_rules::Config;
 use bump_steps::AnyRow;
-use cache_making::{PartReaders, make_indexes, make_part_readers, make_shelves};
+use bump_unlocked::UnlockedStore;
+use cache_config::{PartReaders, make_indexes, make_part_readers, make_shelves};
 use cache_shelf::Shelf;
 use std::alloc::{AllocError, Global};
 use std::marker::Model;
@@ -126,13 +126,13 @@ pub fn open<N: Name>(
     requires sound { first_byte_fault config.now ≡ None }
     ensures { IfOk result (λ opened. IsOpenedCache config.now places opened) }
 {
-    let StoreParts {
+    let UnlockedStore {
         heads,
         books,
         starts: _,
         workers,
         lanes,
-    } = StoreParts::<N, AnyRow>::open(alloc, words, store)?;
+    } = UnlockedStore::<N, AnyRow>::open(alloc, words, store)?;
     let cache = &config.cache;
     let indexes = make_indexes(alloc, cache)?;
     let rows = make_part_readers(alloc, &heads, workers, &indexes, cache)?;

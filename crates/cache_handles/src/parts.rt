@@ -1,8 +1,8 @@
 //! A part of a cache of byte strings: what one lock of the caller's guards.
 ghost use Rattle.std.specs.Prelude.{◌≡◌, ℕ, List, ◌+◌, ◌≤◌, IfOk, suc, replicate};
 ghost use Rattle.bump_steps.specs.Views.{last_word};
-ghost use Rattle.byte_words.specs.Strings.{words_for};
-ghost use Rattle.cache_making.specs.Choosing.{IsPartCount};
+ghost use Rattle.packed_words.specs.Spelling.{words_for};
+ghost use Rattle.cache_config.specs.Choosing.{IsPartCount};
 ghost use Rattle.cache_part.specs.Expiring.{KeepsUnexpired, LooksInTurn};
 ghost use Rattle.cache_part.specs.Parts.{IsUnknown};
 ghost use Rattle.cache_part.specs.Stats.{stats_of};
@@ -88,8 +88,8 @@ impl<N: Name> BytePart<N> {
     /// Ends each item, as `Shelf::clear` does.
     pub fn clear(&mut self)
         ensures empty { (key : List ℕ) → IsUnknown key self.new.shelf.part }
-        ensures words { (i c : ℕ) → last_word i self.new.shelf.part.book.part c
-            ≡ last_word i self.old.shelf.part.book.part c }
+        ensures words { (i c : ℕ) → last_word i self.new.shelf.part.book.sheet c
+            ≡ last_word i self.old.shelf.part.book.sheet c }
         ensures same { self.new.shelf ≡ with_ended self.new.shelf self.old.shelf }
         ensures rest { self.new ≡ record self.old { shelf = self.new.shelf } }
     {
@@ -105,7 +105,7 @@ impl<N: Name> BytePart<N> {
 
     /// How many chunks the part has.
     pub fn chunks(&self) -> u32
-        ensures { result ≡ self.now.shelf.part.book.part.count }
+        ensures { result ≡ self.now.shelf.part.book.sheet.count }
     {
         let chunks = self.desk.shelf.chunks();
         chunks.end - chunks.start

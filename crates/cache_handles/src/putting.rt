@@ -1,6 +1,6 @@
 //! Puts of byte strings.
 ghost use Rattle.std.specs.Prelude.{◌≡◌, IfNone, ◌≤◌, length};
-ghost use Rattle.byte_words.specs.Strings.{long_string};
+ghost use Rattle.packed_words.specs.Spelling.{long_string};
 ghost use Rattle.cache_handles.specs.Putting.{Adds, Puts, Replaces, TellsPut, Touches, Updates, fault_of, told_of_fault};
 ghost use Rattle.cache_handles.specs.Rows.{value_row};
 ghost use Rattle.cache_handles.specs.Views.{key_fault, key_row};

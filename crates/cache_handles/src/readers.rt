@@ -1,9 +1,9 @@
 //! A reader of a cache of byte strings.
 ghost use Rattle.std.specs.Prelude.{◌≡◌, ◌+◌, ◌≤◌, ◌<◌, ◌^◌, IfNone, IfOk, IfSome, None, length};
-ghost use Rattle.byte_words.specs.Strings.{long_string, words_for};
+ghost use Rattle.packed_words.specs.Spelling.{long_string, words_for};
 ghost use Rattle.cache_readers.specs.Readers.{Misses};
-ghost use Rattle.cache_making.specs.Choosing.{IsPartCount};
-ghost use Rattle.cache_making.specs.Sums.{bumps_of, dropped_of, hits_of, misses_of};
+ghost use Rattle.cache_config.specs.Choosing.{IsPartCount};
+ghost use Rattle.cache_config.specs.Sums.{bumps_of, dropped_of, hits_of, misses_of};
 ghost use Rattle.bump_cache.specs.Readers.{InPart, readers_by};
 ghost use Rattle.cache_handles.specs.Configs.{first_byte_fault, key_words_of, value_words_of};
 ghost use Rattle.cache_handles.specs.Opening.{reader_by};
@@ -15,10 +15,10 @@ use crate::values::{FIRST_WORDS, TOLD_WORDS, ValueTold, eight_from, flags_in};
 use bump_handles::{no_holds, put_hold};
 use bump_heads::Name;
 use bump_steps::AnyRow;
-use byte_words::spell;
-use cache_making::{PartReaders, bumps_in, hits_in, misses_in, part_in};
+use cache_config::{PartReaders, bumps_in, hits_in, misses_in, part_in};
 use cache_readers::{Hold, WordReader};
 use keyed_hash::Seed;
+use packed_words::spell;
 use std::alloc::{AllocError, Global};
 use std::marker::Model;
 
@@ -37,8 +37,8 @@ pub struct ByteReader<N: Name> {
 
 impl<N: Name> Model for ByteReader<N> {
     ghost use Rattle.std.specs.Prelude.{◌≡◌, ◌+◌, ◌≤◌, ◌<◌, ◌^◌, length};
-    ghost use Rattle.byte_words.specs.Strings.{words_for};
-    ghost use Rattle.cache_making.specs.Choosing.{IsPartCount};
+    ghost use Rattle.packed_words.specs.Spelling.{words_for};
+    ghost use Rattle.cache_config.specs.Choosing.{IsPartCount};
     ghost use Rattle.cache_handles.specs.Configs.{most_key_bytes};
     ghost use Rattle.cache_handles.specs.Views.{ByteReaderView as TheByteReaderView};
 

@@ -1,9 +1,9 @@
 //! Values as words, and what is told of them.
 ghost use Rattle.std.specs.Prelude.{◌≡◌, ◌%◌, ◌^◌, ◌<◌, ◌≤◌, suc, length, slice_index};
-ghost use Rattle.byte_words.specs.Strings.{words_for};
+ghost use Rattle.packed_words.specs.Spelling.{words_for};
 ghost use Rattle.cache_handles.specs.Rows.{eight_words, value_row, word_or_zero};
 
-use byte_words::spell;
+use packed_words::spell;
 
 /// So many words are told at a time.
 pub const TOLD_WORDS: usize = 8;

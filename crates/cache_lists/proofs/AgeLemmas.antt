@@ -10,24 +10,9 @@ use Rattle.cache_lists.specs.Flows.{Flows}
 use Rattle.cache_lists.specs.Items.{KeepsItems}
 use Rattle.cache_lists.proofs.Ways.{still}
 
--- a load of a head and a time keeps the items
-pub sight_keeps : (chunk age now : ℕ) (book seen : BookView) → SeesTime chunk age now book seen → KeepsItems book seen
-sight_keeps chunk age now book seen sees = subst (KeepsItems book) (sym sees.seen)
-    (record { class = record { first = refl; count = refl }; linked = λ c. refl; words = λ i c. refl })
-
--- and counts nothing
-pub sight_flows : (chunk age now : ℕ) (book seen : BookView) → SeesTime chunk age now book seen → Flows None book seen
-sight_flows chunk age now book seen sees = still book seen (ap (λ (b : BookView). b.part.fresh) sees.seen)
-    (ap (λ (b : BookView). b.part.history) sees.seen)
-
 -- a pull behind such a load, of the last chunk of its list
 pub pulled_past : (from : Tail) (bound : Bound) (chunk now : ℕ) (answer : Pulled) (before after : BookView)
     → last_pulled from before.lists ≡ Some chunk → PullsPast from bound chunk now (is_some (pulled_to answer)) before after
     → LooksPast from bound now (is_some (pulled_to answer)) before after
 pulled_past from bound chunk now answer before after last pulls =
     subst (λ at. PullsPastAt at from bound now (is_some (pulled_to answer)) before after) (sym last) pulls
-
--- where its list is empty nothing changed
-pub pulled_none : (from : Tail) (bound : Bound) (now : ℕ) (book : BookView) → last_pulled from book.lists ≡ None
-    → LooksPast from bound now false book book
-pulled_none from bound now book last = subst (λ at. PullsPastAt at from bound now false book book) (sym last) (refl, refl)

@@ -20,7 +20,7 @@ use Rattle.bump_steps.specs.Views.{standing, last_word}
 use Rattle.bump_class.specs.Books.{BookView}
 use Rattle.bump_class.specs.Lanes.{LaneView, carries}
 use Rattle.bump_class.specs.Applications.{FoundHeads, Applies, AppliesFront, book_after_update, class_with_time, with_clearing}
-use Rattle.bump_steps.specs.declared.views.ClassPart.{ClassPart}
+use Rattle.bump_steps.specs.declared.views.ClassSheet.{ClassSheet}
 use Rattle.bump_class.specs.Changes.{book_after_sweep_or_load, book_after_load}
 use Rattle.bump_steps.specs.Lives.{class_after_sweep, class_after_load}
 use Rattle.bump_word.specs.Words.{word_of}
@@ -71,50 +71,50 @@ gone_found tried cleared is = by tried.linked (is_cold tried.segment && cleared.
 -- an applied bump keeps the items
 pub applied_keeps : (book left : BookView) (from to : LaneView) (bump : Bump) (now : ℕ) (came_out : Outcome) (answer : Applied)
     (found : FoundHeads) → Applies book from bump now came_out answer left to found
-    → (standing book.part bump.life.chunk).1 ≡ bump.life.generation → KeepsItems book left
+    → (standing book.sheet bump.life.chunk).1 ≡ bump.life.generation → KeepsItems book left
 applied_keeps book left from to bump now came_out answer found applies same =
     subst (KeepsItems book) (sym applies.book_after) (by came_out refl)
   where
-    timed : ClassPart
-    timed = class_with_time from.part.worker bump now book.part
+    timed : ClassSheet
+    timed = class_with_time from.sheet.worker bump now book.sheet
 
     in_cold : (b : Bool) → KeepsItems book (record book {
-      part = if b then with_clearing from.part.worker bump found.cleared timed else timed;
+      sheet = if b then with_clearing from.sheet.worker bump found.cleared timed else timed;
     })
     in_cold true = record { class = record { first = refl; count = refl }; linked = λ c. refl; words = λ i c. refl }
     in_cold false = record { class = record { first = refl; count = refl }; linked = λ c. refl; words = λ i c. refl }
 
     Looked : Bool → BookView
     Looked b = record book {
-      part = if b then class_after_sweep bump.life.chunk (word_of found.behind) book.part
-          else class_after_load bump.life.chunk (word_of found.behind) book.part;
+      sheet = if b then class_after_sweep bump.life.chunk (word_of found.behind) book.sheet
+          else class_after_load bump.life.chunk (word_of found.behind) book.sheet;
       lists = (book_after_sweep_or_load bump.life.chunk found.behind book).lists;
     }
 
     item : ItemId
-    item = life bump.life.chunk (standing book.part bump.life.chunk).1
+    item = life bump.life.chunk (standing book.sheet bump.life.chunk).1
 
     gone : (b : Bool) → found.tried.linked ≡ false → KeepsItems book (Looked b)
     gone true apart = record {
       class = record { first = refl; count = refl };
-      linked = linked_same book.part.fresh book.part.history (freed_change item)
-          ((freed_nowhere item).0 ∙ sym (ap (λ (l : ItemId). linked_at book.part l.chunk) (freed_nowhere item).1
-          ∙ stands_elsewhere book.part bump.life.chunk (standing book.part bump.life.chunk).0 refl
-          (shows_elsewhere found.tried (standing book.part bump.life.chunk).0 applies.shows apart)));
+      linked = linked_same book.sheet.fresh book.sheet.history (freed_change item)
+          ((freed_nowhere item).0 ∙ sym (ap (λ (l : ItemId). linked_at book.sheet l.chunk) (freed_nowhere item).1
+          ∙ stands_elsewhere book.sheet bump.life.chunk (standing book.sheet bump.life.chunk).0 refl
+          (shows_elsewhere found.tried (standing book.sheet bump.life.chunk).0 applies.shows apart)));
       words = λ i c. refl;
     }
     gone false apart = record { class = record { first = refl; count = refl }; linked = λ c. refl; words = λ i c. refl }
 
-    by : (o : Outcome) → o ≡ came_out → KeepsItems book (book_after_update o from.part.worker bump now found book)
+    by : (o : Outcome) → o ≡ came_out → KeepsItems book (book_after_update o from.sheet.worker bump now found book)
     by outcome.Moved e =
         let cold = moved_found found.tried found.cleared (e ∙ applies.table) in
-        let there = shows_cold found.tried (standing book.part bump.life.chunk).0 applies.shows cold.0 cold.1 in
+        let there = shows_cold found.tried (standing book.sheet bump.life.chunk).0 applies.shows cold.0 cold.1 in
         record {
           class = record { first = refl; count = refl };
-          linked = linked_same book.part.fresh book.part.history
-              (change.Moved bump.life segment.Cold segment.Warm (cause.Bump from.part.worker bump.number))
+          linked = linked_same book.sheet.fresh book.sheet.history
+              (change.Moved bump.life segment.Cold segment.Warm (cause.Bump from.sheet.worker bump.number))
               (segment_linked segment.Warm bump.life.generation
-              ∙ (ap Some (sym same) ∙ sym (stands_linked book.part bump.life.chunk segment.Cold there)));
+              ∙ (ap Some (sym same) ∙ sym (stands_linked book.sheet bump.life.chunk segment.Cold there)));
           words = λ i c. refl;
         }
     by outcome.TimeOnly e = in_cold (is_cold found.tried.segment)
@@ -123,20 +123,20 @@ applied_keeps book left from to bump now came_out answer found applies same =
 -- the bump aboard is applied, whose life its chunk has
 pub front_keeps : (book left : BookView) (from to : LaneView) (bump : Bump) (now : ℕ) (answer : Applied)
     → AppliesFront now book from answer left to → carries from ≡ Some bump
-    → (standing book.part bump.life.chunk).1 ≡ bump.life.generation → KeepsItems book left
+    → (standing book.sheet bump.life.chunk).1 ≡ bump.life.generation → KeepsItems book left
 front_keeps book left from to bump now answer (other, came_out, found, aboard, applies) is same =
     let one : other ≡ bump = cc (sym aboard ∙ is) in
     applied_keeps book left from to other now came_out answer found applies
-    (ap (λ (b : Bump). (standing book.part b.life.chunk).1) one ∙ (same ∙ ap (λ (b : Bump). b.life.generation) (sym one)))
+    (ap (λ (b : Bump). (standing book.sheet b.life.chunk).1) one ∙ (same ∙ ap (λ (b : Bump). b.life.generation) (sym one)))
 
 -- a look at a chunk keeps the items, and so what is kept behind it
 pub seen_keeps : (book seen left : BookView) (chunk : ℕ) (head : Head) → seen ≡ book_after_load chunk head book
     → KeepsItems seen left → KeepsItems book left
 seen_keeps book seen left chunk head is keeps = record {
   class = record {
-    first = keeps.class.first ∙ ap (λ (b : BookView). b.part.first) is;
-    count = keeps.class.count ∙ ap (λ (b : BookView). b.part.count) is;
+    first = keeps.class.first ∙ ap (λ (b : BookView). b.sheet.first) is;
+    count = keeps.class.count ∙ ap (λ (b : BookView). b.sheet.count) is;
   };
-  linked = λ c. keeps.linked c ∙ ap (λ (b : BookView). linked_at b.part c) is;
-  words = λ i c. keeps.words i c ∙ ap (λ (b : BookView). last_word i b.part c) is;
+  linked = λ c. keeps.linked c ∙ ap (λ (b : BookView). linked_at b.sheet c) is;
+  words = λ i c. keeps.words i c ∙ ap (λ (b : BookView). last_word i b.sheet c) is;
 }

@@ -45,39 +45,34 @@ apart (Some (a, b)) from to ours other = by (is_way (Some (a, b)) from to) refl
 
 -- the counts go on as the items go
 pub flow_goes_on : (way : Option Way) (before after : BookView) (flow : Flow)
-    → are_ours way → Flows way before after → IsFlow flow before.part
-    → IsFlow (noted way flow) after.part
+    → are_ours way → Flows way before after → IsFlow flow before.sheet
+    → IsFlow (noted way flow) after.sheet
 flow_goes_on way before after flow ours flows is = record {
-  linked = ap (more (is_way way Unused Hot)) is.linked
-      ∙ (more_capped (is_way way Unused Hot) (crossings Unused Hot before.part) ∙ ap capped (sym (flows.counts Unused Hot refl)));
-  linked_temp = ap (more (is_way way Unused Temp)) is.linked_temp
-      ∙ (more_capped (is_way way Unused Temp) (crossings Unused Temp before.part) ∙ ap capped (sym (flows.counts Unused Temp refl)));
-  hot_to_warm = ap (more (is_way way Hot Warm)) is.hot_to_warm
-      ∙ (more_capped (is_way way Hot Warm) (crossings Hot Warm before.part) ∙ ap capped (sym (flows.counts Hot Warm refl)));
-  hot_to_cold = ap (more (is_way way Hot Cold)) is.hot_to_cold
-      ∙ (more_capped (is_way way Hot Cold) (crossings Hot Cold before.part) ∙ ap capped (sym (flows.counts Hot Cold refl)));
-  warm_to_warm = ap (more (is_way way Warm Warm)) is.warm_to_warm
-      ∙ (more_capped (is_way way Warm Warm) (crossings Warm Warm before.part) ∙ ap capped (sym (flows.counts Warm Warm refl)));
-  warm_to_cold = ap (more (is_way way Warm Cold)) is.warm_to_cold
-      ∙ (more_capped (is_way way Warm Cold) (crossings Warm Cold before.part) ∙ ap capped (sym (flows.counts Warm Cold refl)));
-  cold_to_warm = ap (more (is_way way Cold Warm)) is.cold_to_warm
-      ∙ (more_capped (is_way way Cold Warm) (crossings Cold Warm before.part) ∙ ap capped (sym (flows.counts Cold Warm refl)));
-  ended_hot = ap (more (is_way way Hot Dying)) is.ended_hot
-      ∙ (more_capped (is_way way Hot Dying) (crossings Hot Dying before.part) ∙ ap capped (sym (flows.counts Hot Dying refl)));
-  ended_warm = ap (more (is_way way Warm Dying)) is.ended_warm
-      ∙ (more_capped (is_way way Warm Dying) (crossings Warm Dying before.part) ∙ ap capped (sym (flows.counts Warm Dying refl)));
-  ended_cold = ap (more (is_way way Cold Dying)) is.ended_cold
-      ∙ (more_capped (is_way way Cold Dying) (crossings Cold Dying before.part) ∙ ap capped (sym (flows.counts Cold Dying refl)));
-  ended_temp = ap (more (is_way way Temp Dying)) is.ended_temp
-      ∙ (more_capped (is_way way Temp Dying) (crossings Temp Dying before.part) ∙ ap capped (sym (flows.counts Temp Dying refl)));
+  linked = goes Unused Hot flow.linked refl is.linked;
+  linked_temp = goes Unused Temp flow.linked_temp refl is.linked_temp;
+  hot_to_warm = goes Hot Warm flow.hot_to_warm refl is.hot_to_warm;
+  hot_to_cold = goes Hot Cold flow.hot_to_cold refl is.hot_to_cold;
+  warm_to_warm = goes Warm Warm flow.warm_to_warm refl is.warm_to_warm;
+  warm_to_cold = goes Warm Cold flow.warm_to_cold refl is.warm_to_cold;
+  cold_to_warm = goes Cold Warm flow.cold_to_warm refl is.cold_to_warm;
+  ended_hot = goes Hot Dying flow.ended_hot refl is.ended_hot;
+  ended_warm = goes Warm Dying flow.ended_warm refl is.ended_warm;
+  ended_cold = goes Cold Dying flow.ended_cold refl is.ended_cold;
+  ended_temp = goes Temp Dying flow.ended_temp refl is.ended_temp;
   no_other = λ from to segment other. flows.counts from to segment
       ∙ ap₂ (λ n b. n + bit b) (is.no_other from to segment other) (apart way from to ours other);
 }
+  where
+    goes : (from to : Place) (count : ℕ) → (is_segment_place from || is_segment_place to) ≡ true
+        → count ≡ capped (crossings from to before.sheet)
+        → more (is_way way from to) count ≡ capped (crossings from to after.sheet)
+    goes from to count segment same = ap (more (is_way way from to)) same
+        ∙ (more_capped (is_way way from to) (crossings from to before.sheet) ∙ ap capped (sym (flows.counts from to segment)))
 
 -- and so they do where two ways were taken
 pub flow_goes_twice : (first second : Option Way) (before after : BookView) (flow : Flow) → are_ours first
-    → are_ours second → FlowsTwice first second before after → IsFlow flow before.part
-    → IsFlow (noted second (noted first flow)) after.part
+    → are_ours second → FlowsTwice first second before after → IsFlow flow before.sheet
+    → IsFlow (noted second (noted first flow)) after.sheet
 flow_goes_twice first second before after flow ours_first ours_second flows is =
     flow_goes_on second flows.between after (noted first flow) ours_second flows.other
     (flow_goes_on first before flows.between flow ours_first flows.one is)
@@ -139,9 +134,9 @@ bump_is_ours (Some applied.TimeOnly) = tt
 bump_is_ours (Some (applied.Gone ended)) = tt
 
 -- what came in is there still, or went out, by the ways that there are
-pub segments_add_up : (book : BookView) (flow : Flow) → AddsUp book → IsFlow flow book.part
+pub segments_add_up : (book : BookView) (flow : Flow) → AddsUp book → IsFlow flow book.sheet
     → SegmentsAddUp (length book.lists.hot) (length book.lists.warm) (length book.lists.cold) (length book.lists.temp)
-    book.part
+    book.sheet
 segments_add_up book flow adds is = record {
   hot_adds_up = omega (arith, adds Hot refl, no Cold Hot refl refl, no Dying Hot refl refl, no Hot Hot refl refl, no Hot Retired refl refl, no Hot Temp refl refl, no Hot Unused refl refl, no Retired Hot refl refl, no Temp Hot refl refl, no Warm Hot refl refl);
   warm_adds_up = omega (arith, adds Warm refl, no Dying Warm refl refl, no Retired Warm refl refl, no Temp Warm refl refl, no Unused Warm refl refl, no Warm Hot refl refl, no Warm Retired refl refl, no Warm Temp refl refl, no Warm Unused refl refl);
@@ -150,5 +145,5 @@ segments_add_up book flow adds is = record {
 }
   where
     no : (from to : Place) → (is_segment_place from || is_segment_place to) ≡ true → is_ours from to ≡ false
-        → crossings from to book.part ≡ 0
+        → crossings from to book.sheet ≡ 0
     no = is.no_other

@@ -20,16 +20,3 @@ pub each_keeps : (count now : ℕ) (book left : BookView) (from to : LaneView) �
 each_keeps zero now book left from to (still, same) = subst (KeepsItems book) (sym still) (keeps_still book)
 each_keeps (suc count) now book left from to (between, half, each, once) =
     keeps_then book between left (each_keeps count now book between from half each) once.items
-
--- and by a whole turn
-pub drains_keep : (most now : ℕ) (book left : BookView) (from to : LaneView) → DrainsLane most now book from left to
-    → KeepsItems book left
-drains_keep most now book left from to drains = by drains.ends
-  where
-    each : KeepsItems book drains.between
-    each = each_keeps drains.count now book drains.between from drains.half drains.applies
-
-    by : ((drains.count ≡ most) × (left ≡ drains.between) × (to ≡ drains.half))
-        ⊎ HasNoMore drains.between drains.half left to → KeepsItems book left
-    by (inl (all, still, same)) = subst (KeepsItems book) (sym still) each
-    by (inr none) = keeps_then book drains.between left each none.items

@@ -7,7 +7,7 @@ use Rattle.bump_rules.specs.Places.{place_of}
 use Rattle.bump_steps.specs.Views.{last_label}
 use Rattle.bump_class.specs.Books.{BookView}
 use Rattle.bump_class.specs.Changes.{book_after_see_label}
-use Rattle.entry_times.specs.Times.{has_expired}
+use Rattle.bump_rules.specs.Expiry.{has_expired}
 use Rattle.cache_lists.specs.Counts.{CountedView, noted, with_crawled}
 use Rattle.cache_lists.specs.Ends.{EndsLinked}
 use Rattle.cache_lists.specs.Expiring.{EndsExpired}
@@ -33,7 +33,7 @@ seen_looks chunk label before after seen =
 
 -- where the label isn't of an item that has expired none is found
 pub finds_unexpired : (chunk now label : ℕ) (before after : CountedView) → SeesLabel chunk label before after
-    → label ≡ last_label before.book.part chunk → has_expired label now ≡ false
+    → label ≡ last_label before.book.sheet chunk → has_expired label now ≡ false
     → EndsExpired chunk now false before after
 finds_unexpired chunk now label before after seen is fresh = record {
   none = inr (ap (λ l. has_expired l now) (sym is) ∙ fresh);
@@ -47,7 +47,7 @@ pub finds_unlinked : (chunk now label : ℕ) (before seen after : CountedView) �
     → EndsLinked chunk None seen.book after.book → after.flow ≡ seen.flow → after.evictions ≡ seen.evictions
     → EndsExpired chunk now false before after
 finds_unlinked chunk now label before seen after sees ends flow evictions = record {
-  none = inl (ap (λ (v : CountedView). linked_at v.book.part chunk) (sym sees) ∙ ends.not_linked);
+  none = inl (ap (λ (v : CountedView). linked_at v.book.sheet chunk) (sym sees) ∙ ends.not_linked);
   looks = looks_then before.book seen.book after.book (seen_looks chunk label before seen sees) ends.looks;
   rest = same_counted after (record before { book = after.book }) refl (flow ∙ ap (λ (v : CountedView). v.flow) sees)
       (evictions ∙ ap (λ (v : CountedView). v.evictions) sees);
@@ -70,7 +70,7 @@ ends_amid chunk from before seen ended after looks ends more = record {
 
 -- an expired item that is linked ends, and is counted
 pub ends_found : (chunk now label : ℕ) (from : Segment) (fetched active : Bool) (before seen ended after : CountedView)
-    → SeesLabel chunk label before seen → label ≡ last_label before.book.part chunk → has_expired label now ≡ true
+    → SeesLabel chunk label before seen → label ≡ last_label before.book.sheet chunk → has_expired label now ≡ true
     → EndsLinked chunk (Some from) seen.book ended.book → ended.flow ≡ noted (Some (place_of from, Dying)) seen.flow
     → ended.evictions ≡ seen.evictions → LooksOnly ended.book after.book → after.flow ≡ ended.flow
     → ShowsMarks chunk fetched active after.book → after.evictions ≡ with_crawled fetched ended.evictions

@@ -147,11 +147,11 @@ empty_open first count Retired is = absurd (cc is)
 -- in each Book what came to a list of linked items is there still, or went out
 pub adds_up : (book : BookView) → IsBook book → AddsUp book
 adds_up book is q linked =
-    let first = book.part.first in
-    let end = book.part.first + book.part.count in
-    ap (λ (l : Lists). length (list_at l q) + out_of q book.part) is.lists
-    ∙ (adds_up_behind first end book.part.fresh q [] book.part.history tt is.entries
-    ∙ ap (λ n. n + into q book.part) (empty_open first (end - first) q linked) ∙ none (into q book.part))
+    let first = book.sheet.first in
+    let end = book.sheet.first + book.sheet.count in
+    ap (λ (l : Lists). length (list_at l q) + out_of q book.sheet) is.lists
+    ∙ (adds_up_behind first end book.sheet.fresh q [] book.sheet.history tt is.entries
+    ∙ ap (λ n. n + into q book.sheet) (empty_open first (end - first) q linked) ∙ none (into q book.sheet))
   where
     none : (n : ℕ) → 0 + n ≡ n
     none n = omega arith

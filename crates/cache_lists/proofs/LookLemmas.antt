@@ -24,7 +24,7 @@ looks_keep book left looks = subst (KeepsItems book) (sym looks) (record {
 
 -- and more loads are loads
 pub looks_then : (book between left : BookView) → LooksOnly book between → LooksOnly between left → LooksOnly book left
-looks_then book between left one other = other ∙ ap (with_steps left.part.steps) one
+looks_then book between left one other = other ∙ ap (with_steps left.sheet.steps) one
 
 -- they leave each list as it was
 pub looks_same : (book left : BookView) → LooksOnly book left → SameSegments book.lists left.lists
@@ -32,8 +32,8 @@ looks_same book left looks = same_still book.lists left.lists (ap (λ (b : BookV
 
 -- and count nothing
 pub looks_flow : (book left : BookView) → LooksOnly book left → Flows None book left
-looks_flow book left looks = still book left (ap (λ (b : BookView). b.part.fresh) looks)
-    (ap (λ (b : BookView). b.part.history) looks)
+looks_flow book left looks = still book left (ap (λ (b : BookView). b.sheet.fresh) looks)
+    (ap (λ (b : BookView). b.sheet.history) looks)
 
 -- a load of a head is one
 pub head_looks : (book left : BookView) (chunk : ℕ) (head : Head) → left ≡ book_after_load chunk head book

@@ -83,14 +83,14 @@ stay_leaves before after item None is pulls = absurd (cc pulls.0)
 stay_leaves before after item (Some chunk) is pulls =
     subst (λ (b : BookView). victim b.lists ≡ Some item.chunk) (sym pulls.2.after)
     (cold_victim before.lists item.chunk (sym is ∙ ap (λ (l : ItemId). Some l.chunk)
-    (sym (stay_told pulls.0.active item (life_in before.part chunk) (pulls.2.pulled ended.Freed)))))
+    (sym (stay_told pulls.0.active item (life_in before.sheet chunk) (pulls.2.pulled ended.Freed)))))
 
 -- where something is there a pull finds something
 found_some : (before after : BookView) (chunk : ℕ) (at : Option ℕ) → at ≡ Some chunk
     → PullsAt before tail.Cold at pulled.Empty after → ⊥
 found_some before after chunk None is pulls = absurd (cc is)
 found_some before after chunk (Some other) is pulls =
-    absurd (never_empty pulls.0.active (life_in before.part other) (pulls.2.pulled ended.Freed))
+    absurd (never_empty pulls.0.active (life_in before.sheet other) (pulls.2.pulled ended.Freed))
 
 -- where a look at a label found COLD's last item there was a victim
 seen_some : (chunk expires : ℕ) (before seen : BookView) → SeesExpiry chunk expires before seen

@@ -4,7 +4,7 @@ use Rattle.bump_rules.specs.declared.items.ItemId.{ItemId}
 use Rattle.bump_rules.specs.declared.places.Start.{Start}
 use Rattle.bump_rules.specs.declared.labels.LabelStep.TheVariants.{Stored}
 use Rattle.bump_rules.specs.Labels.{label_word}
-use Rattle.bump_steps.specs.declared.views.ClassPart.{ClassPart}
+use Rattle.bump_steps.specs.declared.views.ClassSheet.{ClassSheet}
 use Rattle.bump_steps.specs.declared.views.WordStep.{WordStep}
 use Rattle.bump_steps.specs.declared.views.WordStep.TheVariants.{Put}
 use Rattle.bump_steps.specs.Views.{last_word, of_word}
@@ -30,7 +30,7 @@ puts_elsewhere c d i j (x ∷ xs) ws other = ap (λ (l : List WordStep). label_w
     by false = refl
 
 -- so does the beginning of a life at the chunk
-pub row_elsewhere : (begins : Start) (class : ClassPart) (item : ItemId) (label : ℕ) (words : List ℕ) (now i c : ℕ)
+pub row_elsewhere : (begins : Start) (class : ClassSheet) (item : ItemId) (label : ℕ) (words : List ℕ) (now i c : ℕ)
     → (item.chunk == c) ≡ false
     → last_word i (class_with_item begins item label now (class_with_words item.chunk 0 words class)) c
     ≡ last_word i class c
@@ -47,10 +47,10 @@ row_elsewhere begins class item label words now (suc j) c other =
 pub row_given : (begins : Start) (book left : BookView) (item : ItemId) (label : ℕ) (words : List ℕ) (now : ℕ)
     → left ≡ book_with_words begins item label words now book → HasRow item.chunk label words left
 row_given begins book left item label words now after = subst (HasRow item.chunk label words) (sym after) (
-  word_linked item.chunk 0 (book.part.labels ++ Stored item.chunk label ∷ []) item
-      ∙ just_stored item.chunk book.part.labels label,
-  λ j low. ap (label_word item.chunk 0) (of_word_begun j (book.part.words ++ puts item.chunk 0 words) item)
-      ∙ word_linked item.chunk 0 (of_word j (book.part.words ++ puts item.chunk 0 words)) item
-      ∙ ap (λ (n : ℕ). label_word item.chunk 0 (of_word n (book.part.words ++ puts item.chunk 0 words))) (omega arith)
-      ∙ last_put item.chunk 0 j words book.part.words low,
+  word_linked item.chunk 0 (book.sheet.labels ++ Stored item.chunk label ∷ []) item
+      ∙ just_stored item.chunk book.sheet.labels label,
+  λ j low. ap (label_word item.chunk 0) (of_word_begun j (book.sheet.words ++ puts item.chunk 0 words) item)
+      ∙ word_linked item.chunk 0 (of_word j (book.sheet.words ++ puts item.chunk 0 words)) item
+      ∙ ap (λ (n : ℕ). label_word item.chunk 0 (of_word n (book.sheet.words ++ puts item.chunk 0 words))) (omega arith)
+      ∙ last_put item.chunk 0 j words book.sheet.words low,
 )

@@ -71,12 +71,6 @@ pub same_then : (before between after : Lists) → SameSegments before between �
     → SameSegments before after
 same_then before between after one other place segment = other place segment ∙ one place segment
 
--- and without a chunk
-pub same_without : (c : ℕ) (before after : Lists) → SameSegments before after
-    → SameSegments (all_without c before) (all_without c after)
-same_without c before after same place segment = list_at_without c place after
-    ∙ (ap (without c) (same place segment) ∙ sym (list_at_without c place before))
-
 -- ---- what single changes leave
 
 -- a segment's place is neither DYING nor where freed chunks go
@@ -122,10 +116,10 @@ ends_others book left chunk ended last behind ends place segment =
     out : list_at unlinked.lists place ≡ without chunk (list_at book.lists place)
     out = front_elsewhere chunk Dying place book.lists (no_dying place segment)
 
-    by : (b : Bool) → list_at (if b then to_front chunk (target (freed_change (life_in unlinked.part chunk))) unlinked.lists
+    by : (b : Bool) → list_at (if b then to_front chunk (target (freed_change (life_in unlinked.sheet chunk))) unlinked.lists
         else unlinked.lists) place ≡ without chunk (list_at book.lists place)
-    by true = front_elsewhere chunk (target (freed_change (life_in unlinked.part chunk))) place unlinked.lists
-        (no_freed (life_in unlinked.part chunk) place segment)
+    by true = front_elsewhere chunk (target (freed_change (life_in unlinked.sheet chunk))) place unlinked.lists
+        (no_freed (life_in unlinked.sheet chunk) place segment)
         ∙ (ap (without chunk) out ∙ without_twice chunk (list_at book.lists place))
     by false = out
 
@@ -173,7 +167,7 @@ pulls_others limits book left tail.Cold answer ne (Some chunk) pulls = moves_oth
 pulls_others limits book left tail.Evict answer ne (Some chunk) pulls = absurd (ne refl)
 
 -- by the item that a pull tells
-pub told_others : (book left : BookView) (at : Option ℕ) (told : Option ItemId) → told ≡ option_map (life_in book.part) at
+pub told_others : (book left : BookView) (at : Option ℕ) (told : Option ItemId) → told ≡ option_map (life_in book.sheet) at
     → IfSome at (λ chunk. SameSegments (all_without chunk book.lists) (all_without chunk left.lists))
     → IfSome told (λ (item : ItemId). SameSegments (all_without item.chunk book.lists) (all_without item.chunk left.lists))
 told_others book left None told e some =
@@ -212,10 +206,10 @@ swept_list heads q segment lists (d ∷ cs) none =
     by false rest = rest lists rest_none
 
 -- a chunk stands in one list
-pub stands_once : (book : BookView) → Stands book → (c : ℕ) (p q : Place) → (standing book.part c).0 ≡ p
+pub stands_once : (book : BookView) → Stands book → (c : ℕ) (p q : Place) → (standing book.sheet c).0 ≡ p
     → is_place p q ≡ false → times c (list_at book.lists q) ≡ 0
 stands_once book stands c p q is other = stands c q
-    ∙ (ap (λ r. bit (owns c book.part && is_place r q)) is ∙ (ap (λ b. bit (owns c book.part && b)) other ∙ by (owns c book.part)))
+    ∙ (ap (λ r. bit (owns c book.sheet && is_place r q)) is ∙ (ap (λ b. bit (owns c book.sheet && b)) other ∙ by (owns c book.sheet)))
   where
     by : (b : Bool) → bit (b && false) ≡ 0
     by true = refl
@@ -231,23 +225,16 @@ sweeps_segments book left freed_chunks heads looked stands dying sweeps place se
     (λ c some. stands_once book stands c Dying place (listed_there book stands c Dying (dying c some)).1 (no_dying place segment))
 
 -- where no item is linked at a chunk, it stands in no segment
-pub unlinked_apart : (book : BookView) (chunk : ℕ) → Stands book → linked_at book.part chunk ≡ None
+pub unlinked_apart : (book : BookView) (chunk : ℕ) → Stands book → linked_at book.sheet chunk ≡ None
     → SameSegments (all_without chunk book.lists) book.lists
 unlinked_apart book chunk stands none place segment =
     sym (list_at_without chunk place book.lists ∙ without_none chunk (list_at book.lists place)
-    (stands_once book stands chunk (standing book.part chunk).0 place refl (by (is_place (standing book.part chunk).0 place) refl)))
+    (stands_once book stands chunk (standing book.sheet chunk).0 place refl (by (is_place (standing book.sheet chunk).0 place) refl)))
   where
-    by : (b : Bool) → is_place (standing book.part chunk).0 place ≡ b → is_place (standing book.part chunk).0 place ≡ false
+    by : (b : Bool) → is_place (standing book.sheet chunk).0 place ≡ b → is_place (standing book.sheet chunk).0 place ≡ false
     by false is = is
     by true is =
-        let linked : linked_at book.part chunk ≡ Some (standing book.part chunk).1 =
-        ap (λ p. if is_segment_place p then Some (standing book.part chunk).1 else None) (same_place (standing book.part chunk).0 place is)
-        ∙ ap (λ b. if b then Some (standing book.part chunk).1 else None) segment in
+        let linked : linked_at book.sheet chunk ≡ Some (standing book.sheet chunk).1 =
+        ap (λ p. if is_segment_place p then Some (standing book.sheet chunk).1 else None) (same_place (standing book.sheet chunk).0 place is)
+        ∙ ap (λ b. if b then Some (standing book.sheet chunk).1 else None) segment in
         absurd (cc (sym none ∙ linked))
-
--- an item that began and ended at once left the segments as they were
-pub unbegun_segments : (chunk : ℕ) (place : Place) (before left : Lists) → SameSegments (all_without chunk before) before
-    → SameSegments (all_without chunk (to_front chunk place before)) left → SameSegments before left
-unbegun_segments chunk place before left apart ends q segment =
-    ends q segment ∙ (list_at_without chunk q (to_front chunk place before)
-    ∙ (front_without chunk place q before ∙ (sym (list_at_without chunk q before) ∙ sym (apart q segment))))

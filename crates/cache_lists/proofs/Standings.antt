@@ -35,7 +35,7 @@ use Rattle.bump_rules.proofs.Laws.{bit_some}
 use Rattle.bump_rules.proofs.PlainLists.{last_there, first_there, times_same, times_rest}
 use Rattle.bump_rules.proofs.Replay.{standing_push}
 use Rattle.bump_rules.proofs.Standings.{same_place}
-use Rattle.bump_steps.specs.declared.views.ClassPart.{ClassPart}
+use Rattle.bump_steps.specs.declared.views.ClassSheet.{ClassSheet}
 use Rattle.bump_steps.specs.Applications.{life_in}
 use Rattle.bump_steps.specs.Views.{standing, owns, last_word}
 use Rattle.bump_class.specs.Books.{BookView}
@@ -97,23 +97,23 @@ freed_nowhere item = by (item.generation == 4294967295)
 
 -- what a Book promises of its lists
 abbrev pub Stands : BookView → Type 0
-Stands book = (c : ℕ) (q : Place) → times c (list_at book.lists q) ≡ bit (owns c book.part && is_place (standing book.part c).0 q)
+Stands book = (c : ℕ) (q : Place) → times c (list_at book.lists q) ≡ bit (owns c book.sheet && is_place (standing book.sheet c).0 q)
 
 -- what stands in a list is of the class, and has that place
 pub listed_there : (book : BookView) → Stands book → (c : ℕ) (q : Place) → 0 < times c (list_at book.lists q)
-    → (owns c book.part ≡ true) × ((standing book.part c).0 ≡ q)
+    → (owns c book.sheet ≡ true) × ((standing book.sheet c).0 ≡ q)
 listed_there book stands c q some =
-    let both = and_parts (owns c book.part) (is_place (standing book.part c).0 q) (bit_some _ (subst (λ n. 0 < n) (stands c q) some)) in
-    (both.0, same_place (standing book.part c).0 q both.1)
+    let both = and_parts (owns c book.sheet) (is_place (standing book.sheet c).0 q) (bit_some _ (subst (λ n. 0 < n) (stands c q) some)) in
+    (both.0, same_place (standing book.sheet c).0 q both.1)
 
 -- what stands at a segment's place is linked
-pub stands_linked : (class : ClassPart) (chunk : ℕ) (s : Segment) → (standing class chunk).0 ≡ place_of s
+pub stands_linked : (class : ClassSheet) (chunk : ℕ) (s : Segment) → (standing class chunk).0 ≡ place_of s
     → linked_at class chunk ≡ Some (standing class chunk).1
 stands_linked class chunk s is =
     ap (λ p. linked_standing (p, (standing class chunk).1)) is ∙ segment_linked s (standing class chunk).1
 
 -- what stands elsewhere isn't
-pub stands_elsewhere : (class : ClassPart) (chunk : ℕ) (q : Place) → (standing class chunk).0 ≡ q → is_segment_place q ≡ false
+pub stands_elsewhere : (class : ClassSheet) (chunk : ℕ) (q : Place) → (standing class chunk).0 ≡ q → is_segment_place q ≡ false
     → linked_at class chunk ≡ None
 stands_elsewhere class chunk q is no_segment =
     ap (λ p. if is_segment_place p then Some (standing class chunk).1 else None) is
@@ -121,7 +121,7 @@ stands_elsewhere class chunk q is no_segment =
 
 -- a pull that moves an item keeps the items
 pub moves_keep : (limits : Limits) (book left : BookView) (from : Tail) (chunk : ℕ) (answer : Pulled) (cleared moved : Head)
-    → MovesItemBy limits book from chunk answer left cleared moved → (standing book.part chunk).0 ≡ place_of (segment_of from)
+    → MovesItemBy limits book from chunk answer left cleared moved → (standing book.sheet chunk).0 ≡ place_of (segment_of from)
     → KeepsItems book left
 moves_keep limits book left from chunk answer cleared moved moves is = subst (KeepsItems book) (sym moves.after) (by (pulled_to answer))
   where
@@ -129,8 +129,8 @@ moves_keep limits book left from chunk answer cleared moved moves is = subst (Ke
     by None = record { class = record { first = refl; count = refl }; linked = λ c. refl; words = λ i c. refl }
     by (Some to) = record {
       class = record { first = refl; count = refl };
-      linked = linked_same book.part.fresh book.part.history (change.Moved (life_in book.part chunk) (segment_of from) to cause.Pull)
-          (segment_linked to (standing book.part chunk).1 ∙ sym (stands_linked book.part chunk (segment_of from) is));
+      linked = linked_same book.sheet.fresh book.sheet.history (change.Moved (life_in book.sheet chunk) (segment_of from) to cause.Pull)
+          (segment_linked to (standing book.sheet chunk).1 ∙ sym (stands_linked book.sheet chunk (segment_of from) is));
       words = λ i c. refl;
     }
 
@@ -149,35 +149,35 @@ pulls_keep limits book left tail.Evict answer stands ne (Some chunk) is pulls = 
 
 -- the end of a life
 pub ends_at : (book left : BookView) (chunk : ℕ) (ended : Ended) (last behind : Head)
-    → EndsItem book chunk ended left last behind → owns chunk book.part ≡ true
-    → (generation : ℕ) × (linked_at book.part chunk ≡ Some generation) → EndsAt chunk book left
+    → EndsItem book chunk ended left last behind → owns chunk book.sheet ≡ true
+    → (generation : ℕ) × (linked_at book.sheet chunk ≡ Some generation) → EndsAt chunk book left
 ends_at book left chunk ended last behind ends own was = subst (EndsAt chunk book) (sym ends.after) (by (behind.refs == 0))
   where
     unlinked : List Change
-    unlinked = book.part.history ++ change.Unlinked (life chunk (standing book.part chunk).1) ∷ []
+    unlinked = book.sheet.history ++ change.Unlinked (life chunk (standing book.sheet chunk).1) ∷ []
 
     Left : Bool → BookView
     Left b = record (book_after_unlink chunk last book) {
-      part = if b then class_after_sweep chunk (word_of behind) (book_after_unlink chunk last book).part
-          else class_after_load chunk (word_of behind) (book_after_unlink chunk last book).part;
+      sheet = if b then class_after_sweep chunk (word_of behind) (book_after_unlink chunk last book).sheet
+          else class_after_load chunk (word_of behind) (book_after_unlink chunk last book).sheet;
       lists = (book_after_end chunk last behind book).lists;
     }
 
-    after_unlink : (c : ℕ) → linked_standing (standing_in book.part.fresh unlinked c)
-        ≡ (if chunk == c then None else linked_at book.part c)
-    after_unlink c = linked_push book.part.fresh book.part.history (change.Unlinked (life chunk (standing book.part chunk).1)) c
+    after_unlink : (c : ℕ) → linked_standing (standing_in book.sheet.fresh unlinked c)
+        ≡ (if chunk == c then None else linked_at book.sheet c)
+    after_unlink c = linked_push book.sheet.fresh book.sheet.history (change.Unlinked (life chunk (standing book.sheet chunk).1)) c
 
     generation : ℕ
-    generation = (standing_in book.part.fresh unlinked chunk).1
+    generation = (standing_in book.sheet.fresh unlinked chunk).1
 
-    nowhere : linked_standing (standing_in book.part.fresh unlinked chunk) ≡ None
-    nowhere = after_unlink chunk ∙ ap (λ b. if b then None else linked_at book.part chunk) (eq-eqb chunk chunk refl)
+    nowhere : linked_standing (standing_in book.sheet.fresh unlinked chunk) ≡ None
+    nowhere = after_unlink chunk ∙ ap (λ b. if b then None else linked_at book.sheet chunk) (eq-eqb chunk chunk refl)
 
-    freed : (c : ℕ) → linked_standing (standing_in book.part.fresh (unlinked ++ freed_change (life chunk generation) ∷ []) c)
-        ≡ linked_standing (standing_in book.part.fresh unlinked c)
-    freed = linked_same book.part.fresh unlinked (freed_change (life chunk generation))
+    freed : (c : ℕ) → linked_standing (standing_in book.sheet.fresh (unlinked ++ freed_change (life chunk generation) ∷ []) c)
+        ≡ linked_standing (standing_in book.sheet.fresh unlinked c)
+    freed = linked_same book.sheet.fresh unlinked (freed_change (life chunk generation))
         ((freed_nowhere (life chunk generation)).0
-        ∙ sym (ap (λ (l : ItemId). linked_standing (standing_in book.part.fresh unlinked l.chunk)) (freed_nowhere (life chunk generation)).1 ∙ nowhere))
+        ∙ sym (ap (λ (l : ItemId). linked_standing (standing_in book.sheet.fresh unlinked l.chunk)) (freed_nowhere (life chunk generation)).1 ∙ nowhere))
 
     by : (b : Bool) → EndsAt chunk book (Left b)
     by true = record { class = record { first = refl; count = refl }; own = own; was = was; linked = λ c. freed c ∙ after_unlink c; words = λ i c. refl }
@@ -189,7 +189,7 @@ pub evicts_at : (book left : BookView) (answer : Pulled) (chunk : ℕ) → Stand
 evicts_at book left answer chunk stands is pulls =
     let there = listed_there book stands chunk Cold (last_there chunk book.lists.cold is) in
     ends_at book left chunk pulls.0 pulls.1 pulls.2 pulls.3.ends there.0
-    ((standing book.part chunk).1, stands_linked book.part chunk segment.Cold there.1)
+    ((standing book.sheet chunk).1, stands_linked book.sheet chunk segment.Cold there.1)
 
 -- a sweep keeps the items
 swept_keep : (fresh : ℕ) (heads : ℕ → Head) (history : List Change) (cs : List ℕ)
@@ -225,8 +225,8 @@ pub sweeps_keep : (book left : BookView) (freed_chunks : ℕ) (heads : ℕ → H
     → KeepsItems book left
 sweeps_keep book left freed_chunks heads looked stands dying sweeps = subst (KeepsItems book) (sym sweeps.after) (record {
   class = record { first = refl; count = refl };
-  linked = swept_keep book.part.fresh heads book.part.history looked
-      (λ c some. stands_elsewhere book.part c Dying (listed_there book stands c Dying (dying c some)).1 refl);
+  linked = swept_keep book.sheet.fresh heads book.sheet.history looked
+      (λ c some. stands_elsewhere book.sheet c Dying (listed_there book stands c Dying (dying c some)).1 refl);
   words = λ i c. refl;
 })
 
@@ -246,14 +246,14 @@ begins_at begins book left item label words now stands is after =
         let there = listed_there book stands chunk Unused (first_there chunk book.lists.unused e) in
         record {
           class = record { first = refl; count = refl };
-          own = ap (λ d. owns d book.part) (sym same) ∙ there.0;
-          free = ap (linked_at book.part) (sym same) ∙ stands_elsewhere book.part chunk Unused there.1 refl;
-          linked = λ c. linked_push book.part.fresh book.part.history (begun_change begins item) c
-              ∙ (ap₂ (λ p (l : ItemId). if l.chunk == c then linked_standing (p, l.generation) else linked_at book.part c)
+          own = ap (λ d. owns d book.sheet) (sym same) ∙ there.0;
+          free = ap (linked_at book.sheet) (sym same) ∙ stands_elsewhere book.sheet chunk Unused there.1 refl;
+          linked = λ c. linked_push book.sheet.fresh book.sheet.history (begun_change begins item) c
+              ∙ (ap₂ (λ p (l : ItemId). if l.chunk == c then linked_standing (p, l.generation) else linked_at book.sheet c)
               (begun_target begins item) (begun_subject begins item)
-              ∙ ap (λ (o : Option ℕ). if item.chunk == c then o else linked_at book.part c)
+              ∙ ap (λ (o : Option ℕ). if item.chunk == c then o else linked_at book.sheet c)
               (segment_linked (first_segment begins) item.generation));
-          words = λ i c other. row_elsewhere begins book.part item label words now i c other;
+          words = λ i c other. row_elsewhere begins book.sheet item label words now i c other;
         }
 
 -- a life begins at the first chunk of UNUSED
@@ -274,19 +274,19 @@ evict_told book left answer item stands None is pulls told = absurd (cc (sym tol
 evict_told book left answer item stands (Some chunk) is pulls told =
     (is ∙ ap Some same, subst (λ c. EndsAt c book left) same (evicts_at book left answer chunk stands is pulls))
   where
-    by : (e : Ended) → item_told (evicted_as e (life_in book.part chunk)) ≡ Some (life_in book.part chunk)
+    by : (e : Ended) → item_told (evicted_as e (life_in book.sheet chunk)) ≡ Some (life_in book.sheet chunk)
     by ended.Freed = refl
     by ended.Deferred = refl
 
     same : chunk ≡ item.chunk
     same =
-        let one : Some (life_in book.part chunk) ≡ Some item =
+        let one : Some (life_in book.sheet chunk) ≡ Some item =
         sym (by pulls.0) ∙ (sym (ap item_told pulls.3.pulled) ∙ told) in
-        let it : life_in book.part chunk ≡ item = cc one in
+        let it : life_in book.sheet chunk ≡ item = cc one in
         ap (λ (l : ItemId). l.chunk) it
 
 -- a class of the same chunks owns the same
-pub owns_same : (book left : BookView) → IsSameClass book left → (c : ℕ) → owns c left.part ≡ owns c book.part
+pub owns_same : (book left : BookView) → IsSameClass book left → (c : ℕ) → owns c left.sheet ≡ owns c book.sheet
 owns_same book left class c = ap₂ (λ f n. is_between f (f + n) c) class.first class.count
 
 -- nothing keeps the items
@@ -342,12 +342,12 @@ see_keeps book seen chunk head is = subst (KeepsItems book) (sym is) (record {
 })
 
 -- behind its end no item is linked at the chunk
-pub ended_none : (book ended : BookView) (chunk : ℕ) → EndsAt chunk book ended → linked_at ended.part chunk ≡ None
+pub ended_none : (book ended : BookView) (chunk : ℕ) → EndsAt chunk book ended → linked_at ended.sheet chunk ≡ None
 ended_none book ended chunk ends = ends.linked chunk
-    ∙ ap (λ b. if b then None else linked_at book.part chunk) (eq-eqb chunk chunk refl)
+    ∙ ap (λ b. if b then None else linked_at book.sheet chunk) (eq-eqb chunk chunk refl)
 
 -- a head of a chunk at which no item is linked isn't linked
-pub unlinked_shown : (class : ClassPart) (chunk : ℕ) (head : Head) → linked_at class chunk ≡ None
+pub unlinked_shown : (class : ClassSheet) (chunk : ℕ) (head : Head) → linked_at class chunk ≡ None
     → Shows head (standing class chunk).0 → head.linked ≡ false
 unlinked_shown class chunk head none shows = by (standing class chunk).0 none shows
   where
@@ -361,82 +361,82 @@ unlinked_shown class chunk head none shows = by (standing class chunk).0 none sh
     by Retired none shown = shown.0
 
 -- a chunk of the class stands in a segment's list where its place is a segment's
-pub segments_listed : (book : BookView) → Stands book → (c : ℕ) → owns c book.part ≡ true
-    → is_in_segment c book.lists ≡ is_segment_place (standing book.part c).0
+pub segments_listed : (book : BookView) → Stands book → (c : ℕ) → owns c book.sheet ≡ true
+    → is_in_segment c book.lists ≡ is_segment_place (standing book.sheet c).0
 segments_listed book stands c own = ap (λ (f : Place → Bool). list_any f segment_places) (λ i q. each q i)
   where
     shown : (b : Bool) → nat_lt 0 (bit b) ≡ b
     shown true = refl
     shown false = refl
 
-    each : (q : Place) → nat_lt 0 (times c (list_at book.lists q)) ≡ is_place (standing book.part c).0 q
-    each q = ap (nat_lt 0) (stands c q) ∙ (shown (owns c book.part && is_place (standing book.part c).0 q)
-        ∙ ap (λ b. b && is_place (standing book.part c).0 q) own)
+    each : (q : Place) → nat_lt 0 (times c (list_at book.lists q)) ≡ is_place (standing book.sheet c).0 q
+    each q = ap (nat_lt 0) (stands c q) ∙ (shown (owns c book.sheet && is_place (standing book.sheet c).0 q)
+        ∙ ap (λ b. b && is_place (standing book.sheet c).0 q) own)
 
 -- an item is linked where an unlink of it isn't refused, and only there
-pub unlink_ok : (book : BookView) (item : ItemId) → Stands book → owns item.chunk book.part ≡ true
-    → None ≡ unlink_refusal book item → linked_at book.part item.chunk ≡ Some item.generation
-unlink_ok book item stands own is = by (is_segment_place (standing book.part item.chunk).0) refl
-    (eqb (standing book.part item.chunk).1 item.generation) refl
+pub unlink_ok : (book : BookView) (item : ItemId) → Stands book → owns item.chunk book.sheet ≡ true
+    → None ≡ unlink_refusal book item → linked_at book.sheet item.chunk ≡ Some item.generation
+unlink_ok book item stands own is = by (is_segment_place (standing book.sheet item.chunk).0) refl
+    (eqb (standing book.sheet item.chunk).1 item.generation) refl
   where
-    told : (b e : Bool) → is_segment_place (standing book.part item.chunk).0 ≡ b
-        → eqb (standing book.part item.chunk).1 item.generation ≡ e
+    told : (b e : Bool) → is_segment_place (standing book.sheet item.chunk).0 ≡ b
+        → eqb (standing book.sheet item.chunk).1 item.generation ≡ e
         → None ≡ (if not (b && e) then Some NotLinked else None)
     told b e is_b is_e = is ∙ (ap (λ o. if not o then Some NoSuchChunk else (if not (is_linked book item) then Some NotLinked else None)) own
         ∙ ap₂ (λ x y. if not (x && y) then Some NotLinked else None) (segments_listed book stands item.chunk own ∙ is_b) is_e)
 
-    by : (b : Bool) → is_segment_place (standing book.part item.chunk).0 ≡ b → (e : Bool)
-        → eqb (standing book.part item.chunk).1 item.generation ≡ e → linked_at book.part item.chunk ≡ Some item.generation
-    by true is_b true is_e = ap (λ x. if x then Some (standing book.part item.chunk).1 else None) is_b ∙ ap Some (eqb-true _ _ is_e)
+    by : (b : Bool) → is_segment_place (standing book.sheet item.chunk).0 ≡ b → (e : Bool)
+        → eqb (standing book.sheet item.chunk).1 item.generation ≡ e → linked_at book.sheet item.chunk ≡ Some item.generation
+    by true is_b true is_e = ap (λ x. if x then Some (standing book.sheet item.chunk).1 else None) is_b ∙ ap Some (eqb-true _ _ is_e)
     by true is_b false is_e = absurd (cc (told true false is_b is_e))
     by false is_b e is_e = absurd (cc (told false e is_b is_e))
 
-pub unlink_err : (book : BookView) (item : ItemId) (refusal : UnlinkRefusal) → Stands book → owns item.chunk book.part ≡ true
-    → Some refusal ≡ unlink_refusal book item → linked_at book.part item.chunk ≢ Some item.generation
-unlink_err book item refusal stands own is linked = by (is_segment_place (standing book.part item.chunk).0) refl
+pub unlink_err : (book : BookView) (item : ItemId) (refusal : UnlinkRefusal) → Stands book → owns item.chunk book.sheet ≡ true
+    → Some refusal ≡ unlink_refusal book item → linked_at book.sheet item.chunk ≢ Some item.generation
+unlink_err book item refusal stands own is linked = by (is_segment_place (standing book.sheet item.chunk).0) refl
   where
-    told : (b : Bool) → is_segment_place (standing book.part item.chunk).0 ≡ b
-        → Some refusal ≡ (if not (b && eqb (standing book.part item.chunk).1 item.generation) then Some NotLinked else None)
+    told : (b : Bool) → is_segment_place (standing book.sheet item.chunk).0 ≡ b
+        → Some refusal ≡ (if not (b && eqb (standing book.sheet item.chunk).1 item.generation) then Some NotLinked else None)
     told b is_b = is ∙ (ap (λ o. if not o then Some NoSuchChunk else (if not (is_linked book item) then Some NotLinked else None)) own
-        ∙ ap (λ x. if not (x && eqb (standing book.part item.chunk).1 item.generation) then Some NotLinked else None) (segments_listed book stands item.chunk own ∙ is_b))
+        ∙ ap (λ x. if not (x && eqb (standing book.sheet item.chunk).1 item.generation) then Some NotLinked else None) (segments_listed book stands item.chunk own ∙ is_b))
 
-    by : (b : Bool) → is_segment_place (standing book.part item.chunk).0 ≡ b → ⊥
+    by : (b : Bool) → is_segment_place (standing book.sheet item.chunk).0 ≡ b → ⊥
     by true is_b =
-        let one : Some (standing book.part item.chunk).1 ≡ Some item.generation =
-        sym (ap (λ x. if x then Some (standing book.part item.chunk).1 else None) is_b) ∙ linked in
-        let same : (standing book.part item.chunk).1 ≡ item.generation = cc one in
+        let one : Some (standing book.sheet item.chunk).1 ≡ Some item.generation =
+        sym (ap (λ x. if x then Some (standing book.sheet item.chunk).1 else None) is_b) ∙ linked in
+        let same : (standing book.sheet item.chunk).1 ≡ item.generation = cc one in
         absurd (cc (told true is_b ∙ ap (λ x. if not x then Some NotLinked else None) (eq-eqb _ _ same)))
     by false is_b =
         let none : None ≡ Some item.generation =
-        sym (ap (λ x. if x then Some (standing book.part item.chunk).1 else None) is_b) ∙ linked in
+        sym (ap (λ x. if x then Some (standing book.sheet item.chunk).1 else None) is_b) ∙ linked in
         absurd (cc none)
 
 -- where the life that a chunk has isn't linked, none is linked there
-pub unlinked_none : (book : BookView) (chunk generation : ℕ) → generation ≡ (standing book.part chunk).1
-    → linked_at book.part chunk ≢ Some generation → linked_at book.part chunk ≡ None
-unlinked_none book chunk generation is apart = by (is_segment_place (standing book.part chunk).0) refl
+pub unlinked_none : (book : BookView) (chunk generation : ℕ) → generation ≡ (standing book.sheet chunk).1
+    → linked_at book.sheet chunk ≢ Some generation → linked_at book.sheet chunk ≡ None
+unlinked_none book chunk generation is apart = by (is_segment_place (standing book.sheet chunk).0) refl
   where
-    by : (b : Bool) → is_segment_place (standing book.part chunk).0 ≡ b → linked_at book.part chunk ≡ None
+    by : (b : Bool) → is_segment_place (standing book.sheet chunk).0 ≡ b → linked_at book.sheet chunk ≡ None
     by true is_b =
-        absurd (apart (ap (λ x. if x then Some (standing book.part chunk).1 else None) is_b ∙ ap Some (sym is)))
-    by false is_b = ap (λ x. if x then Some (standing book.part chunk).1 else None) is_b
+        absurd (apart (ap (λ x. if x then Some (standing book.sheet chunk).1 else None) is_b ∙ ap Some (sym is)))
+    by false is_b = ap (λ x. if x then Some (standing book.sheet chunk).1 else None) is_b
 
 -- what an unlink leaves, where it isn't refused
-pub unlinks_at : (book left : BookView) (item : ItemId) (ended : Ended) → owns item.chunk book.part ≡ true
-    → linked_at book.part item.chunk ≡ Some item.generation → Unlinks book item (Ok ended) left → EndsAt item.chunk book left
+pub unlinks_at : (book left : BookView) (item : ItemId) (ended : Ended) → owns item.chunk book.sheet ≡ true
+    → linked_at book.sheet item.chunk ≡ Some item.generation → Unlinks book item (Ok ended) left → EndsAt item.chunk book left
 unlinks_at book left item ended own was (looked, found, last, behind, looks, ends) =
-    let own_looked : owns item.chunk looked.part ≡ true = ap (λ (b : BookView). owns item.chunk b.part) looks.after ∙ own in
+    let own_looked : owns item.chunk looked.sheet ≡ true = ap (λ (b : BookView). owns item.chunk b.sheet) looks.after ∙ own in
     let at = ends_at looked left item.chunk ended last behind ends own_looked
-    (item.generation, ap (λ (b : BookView). linked_at b.part item.chunk) looks.after ∙ was) in
+    (item.generation, ap (λ (b : BookView). linked_at b.sheet item.chunk) looks.after ∙ was) in
     record {
       class = record {
-        first = at.class.first ∙ ap (λ (b : BookView). b.part.first) looks.after;
-        count = at.class.count ∙ ap (λ (b : BookView). b.part.count) looks.after;
+        first = at.class.first ∙ ap (λ (b : BookView). b.sheet.first) looks.after;
+        count = at.class.count ∙ ap (λ (b : BookView). b.sheet.count) looks.after;
       };
       own = own;
       was = (item.generation, was);
-      linked = λ c. at.linked c ∙ ap (λ (b : BookView). if item.chunk == c then None else linked_at b.part c) looks.after;
-      words = λ i c. at.words i c ∙ ap (λ (b : BookView). last_word i b.part c) looks.after;
+      linked = λ c. at.linked c ∙ ap (λ (b : BookView). if item.chunk == c then None else linked_at b.sheet c) looks.after;
+      words = λ i c. at.words i c ∙ ap (λ (b : BookView). last_word i b.sheet c) looks.after;
     }
 
 -- what a pull tells is the item at which it looked, and that is still linked
@@ -465,55 +465,55 @@ tells_item tail.Evict head lists limits ended.Deferred item = refl
 -- what a pull that isn't an evict tells
 pub pull_tells : (limits : Limits) (book left : BookView) (from : Tail) (answer : Pulled) → Stands book → from ≢ tail.Evict
     → (at : Option ℕ) → at ≡ last_pulled from book.lists → PullsAtBy limits book from at answer left
-    → (item_told answer ≡ option_map (life_in book.part) at)
-    × IfSome at (λ chunk. (owns chunk book.part ≡ true) × (linked_at book.part chunk ≡ Some (standing book.part chunk).1))
+    → (item_told answer ≡ option_map (life_in book.sheet) at)
+    × IfSome at (λ chunk. (owns chunk book.sheet ≡ true) × (linked_at book.sheet chunk ≡ Some (standing book.sheet chunk).1))
 pull_tells limits book left from answer stands ne None is pulls = (ap item_told pulls.0, tt)
 pull_tells limits book left tail.Hot answer stands ne (Some chunk) is pulls =
     let there = listed_there book stands chunk Hot (last_there chunk book.lists.hot (sym is)) in (
-      ap item_told (pulls.2.pulled ended.Freed) ∙ tells_item tail.Hot pulls.0 book.lists limits ended.Freed (life_in book.part chunk),
-      (there.0, stands_linked book.part chunk segment.Hot there.1),
+      ap item_told (pulls.2.pulled ended.Freed) ∙ tells_item tail.Hot pulls.0 book.lists limits ended.Freed (life_in book.sheet chunk),
+      (there.0, stands_linked book.sheet chunk segment.Hot there.1),
     )
 pull_tells limits book left tail.Warm answer stands ne (Some chunk) is pulls =
     let there = listed_there book stands chunk Warm (last_there chunk book.lists.warm (sym is)) in (
-      ap item_told (pulls.2.pulled ended.Freed) ∙ tells_item tail.Warm pulls.0 book.lists limits ended.Freed (life_in book.part chunk),
-      (there.0, stands_linked book.part chunk segment.Warm there.1),
+      ap item_told (pulls.2.pulled ended.Freed) ∙ tells_item tail.Warm pulls.0 book.lists limits ended.Freed (life_in book.sheet chunk),
+      (there.0, stands_linked book.sheet chunk segment.Warm there.1),
     )
 pull_tells limits book left tail.Cold answer stands ne (Some chunk) is pulls =
     let there = listed_there book stands chunk Cold (last_there chunk book.lists.cold (sym is)) in (
-      ap item_told (pulls.2.pulled ended.Freed) ∙ tells_item tail.Cold pulls.0 book.lists limits ended.Freed (life_in book.part chunk),
-      (there.0, stands_linked book.part chunk segment.Cold there.1),
+      ap item_told (pulls.2.pulled ended.Freed) ∙ tells_item tail.Cold pulls.0 book.lists limits ended.Freed (life_in book.sheet chunk),
+      (there.0, stands_linked book.sheet chunk segment.Cold there.1),
     )
 pull_tells limits book left tail.Evict answer stands ne (Some chunk) is pulls = absurd (ne refl)
 
 -- the chunk of the item that a pull tells
-pub told_chunk : (class : ClassPart) (at : Option ℕ)
+pub told_chunk : (class : ClassSheet) (at : Option ℕ)
     → option_map (λ (item : ItemId). item.chunk) (option_map (life_in class) at) ≡ at
 told_chunk class None = refl
 told_chunk class (Some chunk) = refl
 
 -- the item that a pull tells is linked behind it
-pub told_linked : (book left : BookView) (at : Option ℕ) (told : Option ItemId) → told ≡ option_map (life_in book.part) at
-    → IfSome at (λ chunk. (owns chunk book.part ≡ true) × (linked_at book.part chunk ≡ Some (standing book.part chunk).1))
-    → KeepsItems book left → IfSome told (λ item. linked_at left.part item.chunk ≡ Some item.generation)
-told_linked book left None told e some keeps = subst (λ t. IfSome t (λ item. linked_at left.part item.chunk ≡ Some item.generation)) (sym e) tt
+pub told_linked : (book left : BookView) (at : Option ℕ) (told : Option ItemId) → told ≡ option_map (life_in book.sheet) at
+    → IfSome at (λ chunk. (owns chunk book.sheet ≡ true) × (linked_at book.sheet chunk ≡ Some (standing book.sheet chunk).1))
+    → KeepsItems book left → IfSome told (λ item. linked_at left.sheet item.chunk ≡ Some item.generation)
+told_linked book left None told e some keeps = subst (λ t. IfSome t (λ item. linked_at left.sheet item.chunk ≡ Some item.generation)) (sym e) tt
 told_linked book left (Some chunk) told e some keeps =
-    subst (λ t. IfSome t (λ item. linked_at left.part item.chunk ≡ Some item.generation)) (sym e) (keeps.linked chunk ∙ some.1)
+    subst (λ t. IfSome t (λ item. linked_at left.sheet item.chunk ≡ Some item.generation)) (sym e) (keeps.linked chunk ∙ some.1)
 
 -- and of the class
-pub told_own : (book left : BookView) (at : Option ℕ) (told : Option ItemId) → told ≡ option_map (life_in book.part) at
-    → IfSome at (λ chunk. (owns chunk book.part ≡ true) × (linked_at book.part chunk ≡ Some (standing book.part chunk).1))
-    → KeepsItems book left → IfSome told (λ item. owns item.chunk left.part ≡ true)
-told_own book left None told e some keeps = subst (λ t. IfSome t (λ item. owns item.chunk left.part ≡ true)) (sym e) tt
+pub told_own : (book left : BookView) (at : Option ℕ) (told : Option ItemId) → told ≡ option_map (life_in book.sheet) at
+    → IfSome at (λ chunk. (owns chunk book.sheet ≡ true) × (linked_at book.sheet chunk ≡ Some (standing book.sheet chunk).1))
+    → KeepsItems book left → IfSome told (λ item. owns item.chunk left.sheet ≡ true)
+told_own book left None told e some keeps = subst (λ t. IfSome t (λ item. owns item.chunk left.sheet ≡ true)) (sym e) tt
 told_own book left (Some chunk) told e some keeps =
-    subst (λ t. IfSome t (λ item. owns item.chunk left.part ≡ true)) (sym e) (owns_same book left keeps.class chunk ∙ some.0)
+    subst (λ t. IfSome t (λ item. owns item.chunk left.sheet ≡ true)) (sym e) (owns_same book left keeps.class chunk ∙ some.0)
 
 -- where a pull tells no item, it changed nothing
 pub told_none : (limits : Limits) (book left : BookView) (from : Tail) (answer : Pulled) (at : Option ℕ) (told : Option ItemId)
-    → told ≡ option_map (life_in book.part) at → PullsAtBy limits book from at answer left → IfNone told (left ≡ book)
+    → told ≡ option_map (life_in book.sheet) at → PullsAtBy limits book from at answer left → IfNone told (left ≡ book)
 told_none limits book left from answer None told e pulls = subst (λ t. IfNone t (left ≡ book)) (sym e) pulls.1
 told_none limits book left from answer (Some chunk) told e pulls = subst (λ t. IfNone t (left ≡ book)) (sym e) tt
 
 -- an item that began is linked
-pub begun_linked : (book left : BookView) (item : ItemId) → BeginsAt item book left → linked_at left.part item.chunk ≡ Some item.generation
+pub begun_linked : (book left : BookView) (item : ItemId) → BeginsAt item book left → linked_at left.sheet item.chunk ≡ Some item.generation
 begun_linked book left item begins = begins.linked item.chunk
-    ∙ ap (λ b. if b then Some item.generation else linked_at book.part item.chunk) (eq-eqb item.chunk item.chunk refl)
+    ∙ ap (λ b. if b then Some item.generation else linked_at book.sheet item.chunk) (eq-eqb item.chunk item.chunk refl)

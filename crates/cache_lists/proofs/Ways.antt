@@ -59,23 +59,23 @@ use Rattle.cache_lists.proofs.Standings.{Stands, listed_there, freed_nowhere}
 -- ---- what an entry of the history does, and what two changes do one behind the other
 
 -- a Book whose history stays has the same ways
-pub still : (before after : BookView) → after.part.fresh ≡ before.part.fresh
-    → after.part.history ≡ before.part.history → Flows None before after
+pub still : (before after : BookView) → after.sheet.fresh ≡ before.sheet.fresh
+    → after.sheet.history ≡ before.sheet.history → Flows None before after
 still before after fresh history = record {
   counts = λ from to some. omega (arith, ap₂ (λ f h. crossings_behind f from to [] h) fresh history);
 }
 
 -- an entry of a chunk that stood at a place is the way from there to its target
-pub entered : (before after : BookView) (e : Change) (p : Place) → after.part.fresh ≡ before.part.fresh
-    → after.part.history ≡ before.part.history ++ e ∷ [] → (standing before.part (subject e).chunk).0 ≡ p
+pub entered : (before after : BookView) (e : Change) (p : Place) → after.sheet.fresh ≡ before.sheet.fresh
+    → after.sheet.history ≡ before.sheet.history ++ e ∷ [] → (standing before.sheet (subject e).chunk).0 ≡ p
     → Flows (Some (p, target e)) before after
 entered before after e p fresh history stood = record {
   counts = λ from to some. ap₂ (λ f h. crossings_behind f from to [] h) fresh history
-      ∙ (crossings_push before.part.fresh from to [] before.part.history e
-      ∙ ap (λ b. crossings from to before.part + bit b) (way from to));
+      ∙ (crossings_push before.sheet.fresh from to [] before.sheet.history e
+      ∙ ap (λ b. crossings from to before.sheet + bit b) (way from to));
 }
   where
-    way : (from to : Place) → crosses before.part.fresh from to before.part.history e
+    way : (from to : Place) → crosses before.sheet.fresh from to before.sheet.history e
         ≡ is_way (Some (p, target e)) from to
     way from to = ap (λ a. is_place from a && is_place to (target e)) stood
         ∙ ap₂ (λ a b. a && b) (place_turned from p) (place_turned to (target e))
@@ -99,7 +99,7 @@ pub apart : (before after : BookView) (p q : Place) → is_segment_place p ≡ f
     → Flows (Some (p, q)) before after → Flows None before after
 apart before after p q no_p no_q flows = record {
   counts = λ from to some. flows.counts from to some
-      ∙ ap (λ b. crossings from to before.part + bit b) (no_way p q from to no_p no_q some);
+      ∙ ap (λ b. crossings from to before.sheet + bit b) (no_way p q from to no_p no_q some);
 }
 
 -- what counts nothing may come before a way
@@ -120,7 +120,7 @@ before_none first second third way flows none = record {
 pub seen_flows : (book seen : BookView) (chunk : ℕ) (head : Head) → seen ≡ book_after_load chunk head book
     → Flows None book seen
 seen_flows book seen chunk head is =
-    still book seen (ap (λ (b : BookView). b.part.fresh) is) (ap (λ (b : BookView). b.part.history) is)
+    still book seen (ap (λ (b : BookView). b.sheet.fresh) is) (ap (λ (b : BookView). b.sheet.history) is)
 
 -- ---- the ends of lives
 
@@ -133,29 +133,29 @@ freed_apart item = by (item.generation == 4294967295)
     by false = refl
 
 -- a look at a chunk that isn't linked counts nothing, whether it is free then or not
-pub looked_apart : (book : BookView) (chunk : ℕ) (p : Place) (head : Head) → (standing book.part chunk).0 ≡ p
+pub looked_apart : (book : BookView) (chunk : ℕ) (p : Place) (head : Head) → (standing book.sheet chunk).0 ≡ p
     → is_segment_place p ≡ false → Flows None book (book_after_sweep_or_load chunk head book)
 looked_apart book chunk p head stood no_p = by (head.refs == 0)
   where
     item : ItemId
-    item = life chunk (standing book.part chunk).1
+    item = life chunk (standing book.sheet chunk).1
 
     Left : Bool → BookView
     Left b = record book {
-      part = if b then class_after_sweep chunk (word_of head) book.part
-          else class_after_load chunk (word_of head) book.part;
+      sheet = if b then class_after_sweep chunk (word_of head) book.sheet
+          else class_after_load chunk (word_of head) book.sheet;
       lists = (book_after_sweep_or_load chunk head book).lists;
     }
 
     by : (b : Bool) → Flows None book (Left b)
     by true = apart book (Left true) p (target (freed_change item)) no_p (freed_apart item)
         (entered book (Left true) (freed_change item) p refl refl
-        (ap (λ (l : ItemId). (standing book.part l.chunk).0) (freed_nowhere item).1 ∙ stood))
+        (ap (λ (l : ItemId). (standing book.sheet l.chunk).0) (freed_nowhere item).1 ∙ stood))
     by false = still book (Left false) refl refl
 
 -- the end of a life takes its chunk from where it stood to DYING
 pub ends_flow : (book left : BookView) (chunk : ℕ) (p : Place) (ended : Ended) (last behind : Head)
-    → EndsItem book chunk ended left last behind → (standing book.part chunk).0 ≡ p
+    → EndsItem book chunk ended left last behind → (standing book.sheet chunk).0 ≡ p
     → Flows (Some (p, Dying)) book left
 ends_flow book left chunk p ended last behind ends stood =
     subst (Flows (Some (p, Dying)) book) (sym ends.after)
@@ -166,11 +166,11 @@ ends_flow book left chunk p ended last behind ends stood =
     unlinked = book_after_unlink chunk last book
 
     entry : Change
-    entry = change.Unlinked (life chunk (standing book.part chunk).1)
+    entry = change.Unlinked (life chunk (standing book.sheet chunk).1)
 
-    dying : (standing unlinked.part chunk).0 ≡ Dying
-    dying = ap (λ s. s.0) (standing_push chunk (Unused, book.part.fresh) book.part.history entry)
-        ∙ ap (λ b. (cond b (Dying, (standing book.part chunk).1) (standing book.part chunk)).0)
+    dying : (standing unlinked.sheet chunk).0 ≡ Dying
+    dying = ap (λ s. s.0) (standing_push chunk (Unused, book.sheet.fresh) book.sheet.history entry)
+        ∙ ap (λ b. (cond b (Dying, (standing book.sheet chunk).1) (standing book.sheet chunk)).0)
         (eq-eqb chunk chunk refl)
 
 -- a linked head shows the place of its segment
@@ -197,28 +197,28 @@ linked_shown head Retired of generation some shown = absurd (cc some)
 
 -- so it tells the list in which the item stands
 pub found_segment : (book : BookView) (item : ItemId) (head : Head)
-    → linked_at book.part item.chunk ≡ Some item.generation → Shows head (standing book.part item.chunk).0
-    → (standing book.part item.chunk).0 ≡ place_of head.segment
-found_segment book item head linked shows = shows_segment head (standing book.part item.chunk).0 shows
-    (linked_shown head (standing book.part item.chunk).0 (standing book.part item.chunk).1 item.generation linked shows)
+    → linked_at book.sheet item.chunk ≡ Some item.generation → Shows head (standing book.sheet item.chunk).0
+    → (standing book.sheet item.chunk).0 ≡ place_of head.segment
+found_segment book item head linked shows = shows_segment head (standing book.sheet item.chunk).0 shows
+    (linked_shown head (standing book.sheet item.chunk).0 (standing book.sheet item.chunk).1 item.generation linked shows)
 
 -- an unlink that isn't refused takes its chunk from where it stood to DYING
 pub unlinks_flow : (book left : BookView) (item : ItemId) (p : Place) (ended : Ended)
-    → (standing book.part item.chunk).0 ≡ p → Unlinks book item (Ok ended) left → Flows (Some (p, Dying)) book left
+    → (standing book.sheet item.chunk).0 ≡ p → Unlinks book item (Ok ended) left → Flows (Some (p, Dying)) book left
 unlinks_flow book left item p ended stood (looked, found, last, behind, looks, ends) =
     behind_none book looked left (Some (p, Dying))
-    (still book looked (ap (λ (b : BookView). b.part.fresh) looks.after)
-    (ap (λ (b : BookView). b.part.history) looks.after))
+    (still book looked (ap (λ (b : BookView). b.sheet.fresh) looks.after)
+    (ap (λ (b : BookView). b.sheet.history) looks.after))
     (ends_flow looked left item.chunk p ended last behind ends
-    (ap (λ (b : BookView). (standing b.part item.chunk).0) looks.after ∙ stood))
+    (ap (λ (b : BookView). (standing b.sheet item.chunk).0) looks.after ∙ stood))
 
 -- and one that is refused counts nothing
 pub refused_flow : (book left : BookView) (item : ItemId) (refusal : UnlinkRefusal)
     → Unlinks book item (Err refusal) left → Flows None book left
 refused_flow book left item NoSuchChunk is =
-    still book left (ap (λ (b : BookView). b.part.fresh) is) (ap (λ (b : BookView). b.part.history) is)
+    still book left (ap (λ (b : BookView). b.sheet.fresh) is) (ap (λ (b : BookView). b.sheet.history) is)
 refused_flow book left item NotLinked (found, looks) = still book left
-    (ap (λ (b : BookView). b.part.fresh) looks.after) (ap (λ (b : BookView). b.part.history) looks.after)
+    (ap (λ (b : BookView). b.sheet.fresh) looks.after) (ap (λ (b : BookView). b.sheet.history) looks.after)
 
 -- ---- pulls
 
@@ -252,13 +252,13 @@ pub pulls_told : (limits : Limits) (book left : BookView) (from : Tail) (answer 
     → PullsAtBy limits book from at answer left → may_tell from answer ≡ true
 pulls_told limits book left from answer None pulls = ap (may_tell from) pulls.0
 pulls_told limits book left tail.Hot answer (Some chunk) pulls = ap (may_tell tail.Hot) (pulls.2.pulled ended.Freed)
-    ∙ may_told tail.Hot pulls.0 book.lists limits ended.Freed (life_in book.part chunk)
+    ∙ may_told tail.Hot pulls.0 book.lists limits ended.Freed (life_in book.sheet chunk)
 pulls_told limits book left tail.Warm answer (Some chunk) pulls = ap (may_tell tail.Warm) (pulls.2.pulled ended.Freed)
-    ∙ may_told tail.Warm pulls.0 book.lists limits ended.Freed (life_in book.part chunk)
+    ∙ may_told tail.Warm pulls.0 book.lists limits ended.Freed (life_in book.sheet chunk)
 pulls_told limits book left tail.Cold answer (Some chunk) pulls = ap (may_tell tail.Cold) (pulls.2.pulled ended.Freed)
-    ∙ may_told tail.Cold pulls.0 book.lists limits ended.Freed (life_in book.part chunk)
+    ∙ may_told tail.Cold pulls.0 book.lists limits ended.Freed (life_in book.sheet chunk)
 pulls_told limits book left tail.Evict answer (Some chunk) pulls = ap (may_tell tail.Evict) pulls.3.pulled
-    ∙ may_told tail.Evict pulls.1 book.lists (limits_of_book book) pulls.0 (life_in book.part chunk)
+    ∙ may_told tail.Evict pulls.1 book.lists (limits_of_book book) pulls.0 (life_in book.sheet chunk)
 
 -- the item of a pull that isn't an evict goes from its list to where it was moved, if it was
 pub told_way : (from : Tail) (answer : Pulled) → from ≢ tail.Evict → may_tell from answer ≡ true
@@ -283,21 +283,21 @@ told_way tail.Evict (pulled.Deferred item) ne may = absurd (ne refl)
 -- so such a pull is this way
 moves_flow : (limits : Limits) (book left : BookView) (from : Tail) (chunk : ℕ) (answer : Pulled) (cleared moved : Head)
     → from ≢ tail.Evict → MovesItemBy limits book from chunk answer left cleared moved
-    → (standing book.part chunk).0 ≡ place_of (segment_of from) → Flows (way_of_pull from answer) book left
+    → (standing book.sheet chunk).0 ≡ place_of (segment_of from) → Flows (way_of_pull from answer) book left
 moves_flow limits book left from chunk answer cleared moved ne moves stood =
     subst (λ way. Flows way book left) (sym way)
     (subst (Flows (way_to (segment_of from) (pulled_to answer)) book) (sym moves.after) (by (pulled_to answer)))
   where
     way : way_of_pull from answer ≡ way_to (segment_of from) (pulled_to answer)
     way = told_way from answer ne (ap (may_tell from) (moves.pulled ended.Freed)
-        ∙ may_told from cleared book.lists limits ended.Freed (life_in book.part chunk))
+        ∙ may_told from cleared book.lists limits ended.Freed (life_in book.sheet chunk))
 
     by : (to : Option Segment) → Flows (way_to (segment_of from) to) book
         (book_after_pull_to from chunk to moved (book_after_clear_active chunk cleared book))
     by None = still book (book_after_clear_active chunk cleared book) refl refl
     by (Some to) = entered book
         (book_after_pull_to from chunk (Some to) moved (book_after_clear_active chunk cleared book))
-        (change.Moved (life_in book.part chunk) (segment_of from) to cause.Pull) (place_of (segment_of from)) refl refl
+        (change.Moved (life_in book.sheet chunk) (segment_of from) to cause.Pull) (place_of (segment_of from)) refl refl
         stood
 
 -- a pull is the way of its item, by its answer
@@ -305,7 +305,7 @@ pub pulls_flow : (limits : Limits) (book left : BookView) (from : Tail) (answer 
     → at ≡ last_pulled from book.lists → PullsAtBy limits book from at answer left → Flows (way_of_pull from answer) book left
 pulls_flow limits book left from answer stands None is pulls =
     subst (λ a. Flows (way_of_pull from a) book left) (sym pulls.0)
-    (still book left (ap (λ (b : BookView). b.part.fresh) pulls.1) (ap (λ (b : BookView). b.part.history) pulls.1))
+    (still book left (ap (λ (b : BookView). b.sheet.fresh) pulls.1) (ap (λ (b : BookView). b.sheet.history) pulls.1))
 pulls_flow limits book left tail.Hot answer stands (Some chunk) is pulls =
     moves_flow limits book left tail.Hot chunk answer pulls.0 pulls.1 (λ e. absurd (cc e)) pulls.2
     (listed_there book stands chunk Hot (last_there chunk book.lists.hot (sym is))).1
@@ -319,7 +319,7 @@ pulls_flow limits book left tail.Evict answer stands (Some chunk) is pulls =
     subst (λ way. Flows way book left) (sym (ap (way_of_pull tail.Evict) pulls.3.pulled ∙ evicted pulls.0))
     (ends_flow book left chunk Cold pulls.0 pulls.1 pulls.2 pulls.3.ends pulls.3.cold)
   where
-    evicted : (e : Ended) → way_of_pull tail.Evict (evicted_as e (life_in book.part chunk)) ≡ Some (Cold, Dying)
+    evicted : (e : Ended) → way_of_pull tail.Evict (evicted_as e (life_in book.sheet chunk)) ≡ Some (Cold, Dying)
     evicted ended.Freed = refl
     evicted ended.Deferred = refl
 
@@ -362,7 +362,7 @@ links_flow begins book left item label words now stands is after =
         let there = listed_there book stands chunk Unused (first_there chunk book.lists.unused e) in
         subst (λ p. Flows (Some (Unused, p)) book begun) (begun_target begins item)
         (entered book begun (begun_change begins item) Unused refl refl
-        (ap (λ (l : ItemId). (standing book.part l.chunk).0) (begun_subject begins item ∙ sym it) ∙ there.1))
+        (ap (λ (l : ItemId). (standing book.sheet l.chunk).0) (begun_subject begins item ∙ sym it) ∙ there.1))
 
 -- freeing chunks that aren't linked counts nothing
 swept_flow : (fresh : ℕ) (heads : ℕ → Head) (from to : Place)
@@ -425,7 +425,7 @@ pub sweeps_flow : (book left : BookView) (freed_chunks : ℕ) (heads : ℕ → H
 sweeps_flow book left freed_chunks heads looked stands dying sweeps = subst (Flows None book) (sym sweeps.after) (record {
   counts = λ from to some. omega (
     arith,
-    swept_flow book.part.fresh heads from to some book.part.history looked
+    swept_flow book.sheet.fresh heads from to some book.sheet.history looked
         (λ c has. ap is_segment_place (listed_there book stands c Dying (dying c has)).1),
   );
 })
@@ -442,22 +442,22 @@ applied_flows book left from to bump now came_out answer found applies =
     (sym applies.book_after) (by came_out refl))
   where
     in_cold : (b : Bool) → Flows None book (record book {
-      part = if b then with_clearing from.part.worker bump found.cleared
-          (class_with_time from.part.worker bump now book.part) else class_with_time from.part.worker bump now book.part;
+      sheet = if b then with_clearing from.sheet.worker bump found.cleared
+          (class_with_time from.sheet.worker bump now book.sheet) else class_with_time from.sheet.worker bump now book.sheet;
     })
     in_cold true = still book _ refl refl
     in_cold false = still book _ refl refl
 
     by : (o : Outcome) → o ≡ came_out → Flows (way_of_applied (Some (applied_answer o (ended_of found.behind)))) book
-        (book_after_update o from.part.worker bump now found book)
+        (book_after_update o from.sheet.worker bump now found book)
     by outcome.Moved e =
         let cold = moved_found found.tried found.cleared (e ∙ applies.table) in
-        entered book (book_after_update outcome.Moved from.part.worker bump now found book)
-        (change.Moved bump.life segment.Cold segment.Warm (cause.Bump from.part.worker bump.number)) Cold refl refl
-        (shows_cold found.tried (standing book.part bump.life.chunk).0 applies.shows cold.0 cold.1)
+        entered book (book_after_update outcome.Moved from.sheet.worker bump now found book)
+        (change.Moved bump.life segment.Cold segment.Warm (cause.Bump from.sheet.worker bump.number)) Cold refl refl
+        (shows_cold found.tried (standing book.sheet bump.life.chunk).0 applies.shows cold.0 cold.1)
     by outcome.TimeOnly e = in_cold (is_cold found.tried.segment)
-    by outcome.Gone e = looked_apart book bump.life.chunk (standing book.part bump.life.chunk).0 found.behind refl
-        (shows_elsewhere found.tried (standing book.part bump.life.chunk).0 applies.shows
+    by outcome.Gone e = looked_apart book bump.life.chunk (standing book.sheet bump.life.chunk).0 found.behind refl
+        (shows_elsewhere found.tried (standing book.sheet bump.life.chunk).0 applies.shows
         (gone_found found.tried found.cleared (e ∙ applies.table)))
 
 -- so is the one aboard, behind a look at its chunk

@@ -1,11 +1,14 @@
 -- What the counts of a Book say.
-use Rattle.std.specs.Prelude.{◌≡◌, ℕ, ◌+◌, min, Bool, true, false, not, ◌||◌, Option}
+use Rattle.std.specs.Prelude.{◌≡◌, ℕ, ◌+◌, min, Bool, true, false, not, ◌||◌, Option, replicate, slice_index, slice_set}
 use Rattle.bump_rules.specs.declared.places.Place.{Place}
 use Rattle.bump_rules.specs.declared.places.Place.TheVariants.{Hot, Warm, Cold, Temp, Dying, Unused}
 use Rattle.bump_rules.specs.Places.{is_segment_place}
-use Rattle.bump_steps.specs.declared.views.ClassPart.{ClassPart}
+use Rattle.bump_steps.specs.declared.views.ClassSheet.{ClassSheet}
 use Rattle.cache_lists.specs.declared.flow.Flow.{Flow}
 use Rattle.cache_lists.specs.declared.evictions.Evictions.{Evictions}
+use Rattle.cache_lists.specs.declared.evictions.Statistic.{Statistic}
+use Rattle.cache_lists.specs.declared.evictions.Statistic.TheVariants.{EvictedUnfetched, EvictedActive, Evicted, Reclaimed, ExpiredUnfetched, CrawlerReclaimed}
+use Rattle.cache_lists.specs.declared.evictions.TheConstants.{STATISTICS}
 use Rattle.bump_class.specs.Books.{BookView}
 use Rattle.cache_lists.specs.Flows.{Way, is_way, crossings}
 pub use Rattle.cache_lists.specs.Ours.{ways, is_ours, are_ours}
@@ -59,7 +62,7 @@ pub record CountedView : Type 0 where
 
 -- What a Book that counts keeps: each is how often the class's history has that way, as far as it goes; and no
 -- item that is linked came or went another way.
-pub record IsFlow (flow : Flow) (class : ClassPart) : Type 0 where
+pub record IsFlow (flow : Flow) (class : ClassSheet) : Type 0 where
   pub linked : flow.linked ≡ capped (crossings Unused Hot class)
   pub linked_temp : flow.linked_temp ≡ capped (crossings Unused Temp class)
   pub hot_to_warm : flow.hot_to_warm ≡ capped (crossings Hot Warm class)
@@ -76,7 +79,7 @@ pub record IsFlow (flow : Flow) (class : ClassPart) : Type 0 where
 
 -- Items in and out of HOT, WARM, COLD and TEMP, by how often the class's history has each way: what came in is there still,
 -- or went out.
-pub record SegmentsAddUp (hot warm cold temp : ℕ) (class : ClassPart) : Type 0 where
+pub record SegmentsAddUp (hot warm cold temp : ℕ) (class : ClassSheet) : Type 0 where
   pub hot_adds_up : hot + crossings Hot Warm class + crossings Hot Cold class + crossings Hot Dying class
       ≡ crossings Unused Hot class
   pub warm_adds_up : warm + crossings Warm Cold class + crossings Warm Dying class
@@ -85,33 +88,39 @@ pub record SegmentsAddUp (hot warm cold temp : ℕ) (class : ClassPart) : Type 0
       ≡ crossings Hot Cold class + crossings Warm Cold class
   pub temp_adds_up : temp + crossings Temp Dying class ≡ crossings Unused Temp class
 
+-- the place of a name among the counts
+abbrev pub number_of : Statistic → ℕ
+number_of EvictedUnfetched = 0
+number_of EvictedActive = 1
+number_of Evicted = 2
+number_of Reclaimed = 3
+number_of ExpiredUnfetched = 4
+number_of CrawlerReclaimed = 5
+
+-- the count of a name
+abbrev pub count_of : Statistic → Evictions → ℕ
+count_of name evictions = slice_index evictions.counts (number_of name)
+
 -- nothing was evicted, and nothing was ended that had expired
 abbrev pub no_evictions : Evictions
-no_evictions = record {
-  evicted = 0;
-  unfetched = 0;
-  active = 0;
-  reclaimed = 0;
-  expired_unfetched = 0;
-  crawler_reclaimed = 0;
+no_evictions = record { counts = replicate STATISTICS 0 }
+
+-- one more of this name, or not
+unfoldable pub with_count : Statistic → Bool → Evictions → Evictions
+with_count name true evictions = record {
+  counts = slice_set evictions.counts (number_of name) (more true (count_of name evictions));
 }
+with_count name false evictions = evictions
 
 -- an item ended to make room that had expired or not, was fetched or not, and ACTIVE or not: one that had is reclaimed,
 -- and one that hadn't is evicted
 abbrev pub with_eviction : Bool → Bool → Bool → Evictions → Evictions
-with_eviction true fetched active evictions = record evictions {
-  reclaimed = more true evictions.reclaimed;
-  expired_unfetched = more (not fetched) evictions.expired_unfetched;
-}
-with_eviction false fetched active evictions = record evictions {
-  evicted = more true evictions.evicted;
-  unfetched = more (not fetched) evictions.unfetched;
-  active = more active evictions.active;
-}
+with_eviction true fetched active evictions =
+    with_count ExpiredUnfetched (not fetched) (with_count Reclaimed true evictions)
+with_eviction false fetched active evictions =
+    with_count EvictedActive active (with_count EvictedUnfetched (not fetched) (with_count Evicted true evictions))
 
 -- an item that was looked for was found expired, and ended, which was fetched or not
 abbrev pub with_crawled : Bool → Evictions → Evictions
-with_crawled fetched evictions = record evictions {
-  expired_unfetched = more (not fetched) evictions.expired_unfetched;
-  crawler_reclaimed = more true evictions.crawler_reclaimed;
-}
+with_crawled fetched evictions =
+    with_count ExpiredUnfetched (not fetched) (with_count CrawlerReclaimed true evictions)

@@ -7,7 +7,7 @@ use Rattle.bump_rules.specs.Lists.{list_at, all_without}
 use Rattle.bump_rules.specs.Places.{place_of}
 use Rattle.bump_steps.specs.Views.{last_label}
 use Rattle.bump_class.specs.Books.{BookView}
-use Rattle.entry_times.specs.Times.{has_expired}
+use Rattle.bump_rules.specs.Expiry.{has_expired}
 use Rattle.cache_lists.specs.declared.victims.Victim.{Victim}
 use Rattle.cache_lists.specs.Counts.{CountedView, noted, with_eviction}
 use Rattle.cache_lists.specs.Flows.{FlowsTwice, way_to}
@@ -23,7 +23,7 @@ pub record EndsLinked (chunk : ℕ) (from : Option Segment) (before after : Book
   pub ends : IfSome from (λ s. EndsAt chunk before after)
   pub others : IfSome from (λ s. SameSegments (all_without chunk before.lists) after.lists)
   -- or none was: the linked items stay, each where it is, and nothing changed but the steps that the seat notes
-  pub not_linked : IfNone from (linked_at before.part chunk ≡ None)
+  pub not_linked : IfNone from (linked_at before.sheet chunk ≡ None)
   pub kept : IfNone from (KeepsItems before after)
   pub same : IfNone from (SameSegments before.lists after.lists)
   pub looks : IfNone from (LooksOnly before after)
@@ -38,7 +38,7 @@ pub record EndsTold (it : Victim) (before after : BookView) : Type 0 where
   pub flows : FlowsTwice (way_to it.last_of it.moved) (Some (place_of it.from, Dying)) before after
   pub ways : are_ours (way_to it.last_of it.moved)
   -- its label says when it expires
-  pub expires : it.expires ≡ last_label before.part it.chunk
+  pub expires : it.expires ≡ last_label before.sheet it.chunk
   -- a look just behind its end found its marks
   pub marks : ShowsMarks it.chunk it.fetched it.active after
 

@@ -3,9 +3,9 @@ use Rattle.std.specs.Prelude.{◌≡◌, ℕ, ◌⊎◌, Bool, true, false, None
 use Rattle.bump_rules.specs.declared.places.Place.TheVariants.{Dying}
 use Rattle.bump_rules.specs.declared.places.Segment.{Segment}
 use Rattle.bump_rules.specs.Places.{place_of}
-use Rattle.bump_steps.specs.declared.views.ClassPart.{ClassPart}
+use Rattle.bump_steps.specs.declared.views.ClassSheet.{ClassSheet}
 use Rattle.bump_steps.specs.Views.{last_label}
-use Rattle.entry_times.specs.Times.{has_expired}
+use Rattle.bump_rules.specs.Expiry.{has_expired}
 use Rattle.cache_lists.specs.Counts.{CountedView, noted, with_crawled}
 use Rattle.cache_lists.specs.Ends.{EndsLinked}
 use Rattle.cache_lists.specs.Items.{ShowsMarks}
@@ -13,12 +13,12 @@ use Rattle.cache_lists.specs.Linked.{linked_at}
 use Rattle.cache_lists.specs.Looks.{LooksOnly}
 
 -- the label of a chunk is of an item that has expired at this time, whether it is linked or not
-abbrev pub expired_at : ℕ → ClassPart → ℕ → Bool
+abbrev pub expired_at : ℕ → ClassSheet → ℕ → Bool
 expired_at now class chunk = has_expired (last_label class chunk) now
 
 -- The item that was linked at this chunk had expired at this time; it ended, and was counted.
 pub record EndsFound (chunk now : ℕ) (before after : CountedView) : Type 0 where
-  pub expired : expired_at now before.book.part chunk ≡ true
+  pub expired : expired_at now before.book.sheet chunk ≡ true
   -- the list from which it was taken
   pub from : Segment
   pub ends : EndsLinked chunk (Some from) before.book after.book
@@ -31,7 +31,7 @@ pub record EndsFound (chunk now : ℕ) (before after : CountedView) : Type 0 whe
 
 -- No item was linked at this chunk that had expired at this time, and nothing changed but the steps that the seat notes.
 pub record FindsNone (chunk now : ℕ) (before after : CountedView) : Type 0 where
-  pub none : (linked_at before.book.part chunk ≡ None) ⊎ (expired_at now before.book.part chunk ≡ false)
+  pub none : (linked_at before.book.sheet chunk ≡ None) ⊎ (expired_at now before.book.sheet chunk ≡ false)
   pub looks : LooksOnly before.book after.book
   pub rest : after ≡ record before { book = after.book }
 

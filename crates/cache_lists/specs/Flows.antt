@@ -15,7 +15,7 @@ use Rattle.bump_rules.specs.Lists.{list_at}
 use Rattle.bump_rules.specs.Places.{is_place, place_of, all_places, is_segment_place}
 use Rattle.bump_rules.specs.Tables.{segment_of}
 use Rattle.bump_rules.specs.Totals.{total}
-use Rattle.bump_steps.specs.declared.views.ClassPart.{ClassPart}
+use Rattle.bump_steps.specs.declared.views.ClassSheet.{ClassSheet}
 use Rattle.bump_class.specs.Books.{BookView}
 
 -- an entry, behind a history that was so far, takes a chunk that stood at one place to another, or to the front of the
@@ -31,20 +31,20 @@ crossings_behind fresh from to so_far (entry ∷ rest) =
     bit (crosses fresh from to so_far entry) + crossings_behind fresh from to (so_far ++ entry ∷ []) rest
 
 -- how often a chunk went from one place to another, in all
-abbrev pub crossings : Place → Place → ClassPart → ℕ
+abbrev pub crossings : Place → Place → ClassSheet → ℕ
 crossings from to class = crossings_behind class.fresh from to [] class.history
 
 -- how often a chunk came to a place, and how often one went from there
-abbrev pub into : Place → ClassPart → ℕ
+abbrev pub into : Place → ClassSheet → ℕ
 into place class = total (λ from. crossings from place class) all_places
 
-abbrev pub out_of : Place → ClassPart → ℕ
+abbrev pub out_of : Place → ClassSheet → ℕ
 out_of place class = total (λ to. crossings place to class) all_places
 
 -- What came in is there still, or went out.
 abbrev pub AddsUp : BookView → Type 0
 AddsUp book = (place : Place) → is_segment_place place ≡ true
-    → length (list_at book.lists place) + out_of place book.part ≡ into place book.part
+    → length (list_at book.lists place) + out_of place book.sheet ≡ into place book.sheet
 
 -- a way of an item, from a list to another
 abbrev pub Way : Type 0
@@ -58,7 +58,7 @@ is_way (Some way) from to = is_place way.0 from && is_place way.1 to
 -- Of the ways from or to a list of linked items, one was taken once more, or none.
 pub record Flows (way : Option Way) (before after : BookView) : Type 0 where
   pub counts : (from to : Place) → (is_segment_place from || is_segment_place to) ≡ true
-      → crossings from to after.part ≡ crossings from to before.part + bit (is_way way from to)
+      → crossings from to after.sheet ≡ crossings from to before.sheet + bit (is_way way from to)
 
 -- the way of a pull's item, by its answer
 abbrev pub way_of_pull : Tail → Pulled → Option Way

@@ -61,39 +61,39 @@ pub record ShowsMarks (chunk : ℕ) (fetched active : Bool) (after : BookView) :
 
 -- it is a Book of the same chunks
 pub record IsSameClass (before after : BookView) : Type 0 where
-  pub first : after.part.first ≡ before.part.first
-  pub count : after.part.count ≡ before.part.count
+  pub first : after.sheet.first ≡ before.sheet.first
+  pub count : after.sheet.count ≡ before.sheet.count
 
 -- the same items are linked, and each chunk has its words still
 pub record KeepsItems (before after : BookView) : Type 0 where
   pub class : IsSameClass before after
-  pub linked : (c : ℕ) → linked_at after.part c ≡ linked_at before.part c
-  pub words : (i c : ℕ) → last_word i after.part c ≡ last_word i before.part c
+  pub linked : (c : ℕ) → linked_at after.sheet c ≡ linked_at before.sheet c
+  pub words : (i c : ℕ) → last_word i after.sheet c ≡ last_word i before.sheet c
 
 -- the item of this chunk is linked no more, and each chunk has its words still
 pub record EndsAt (chunk : ℕ) (before after : BookView) : Type 0 where
   pub class : IsSameClass before after
-  pub own : owns chunk before.part ≡ true
-  pub was : (generation : ℕ) × (linked_at before.part chunk ≡ Some generation)
-  pub linked : (c : ℕ) → linked_at after.part c ≡ (if chunk == c then None else linked_at before.part c)
-  pub words : (i c : ℕ) → last_word i after.part c ≡ last_word i before.part c
+  pub own : owns chunk before.sheet ≡ true
+  pub was : (generation : ℕ) × (linked_at before.sheet chunk ≡ Some generation)
+  pub linked : (c : ℕ) → linked_at after.sheet c ≡ (if chunk == c then None else linked_at before.sheet c)
+  pub words : (i c : ℕ) → last_word i after.sheet c ≡ last_word i before.sheet c
 
 -- this item is linked, at a chunk at which none was, and each other chunk has its words still
 pub record BeginsAt (item : ItemId) (before after : BookView) : Type 0 where
   pub class : IsSameClass before after
-  pub own : owns item.chunk before.part ≡ true
-  pub free : linked_at before.part item.chunk ≡ None
-  pub linked : (c : ℕ) → linked_at after.part c
-      ≡ (if item.chunk == c then Some item.generation else linked_at before.part c)
-  pub words : (i c : ℕ) → (item.chunk == c) ≡ false → last_word i after.part c ≡ last_word i before.part c
+  pub own : owns item.chunk before.sheet ≡ true
+  pub free : linked_at before.sheet item.chunk ≡ None
+  pub linked : (c : ℕ) → linked_at after.sheet c
+      ≡ (if item.chunk == c then Some item.generation else linked_at before.sheet c)
+  pub words : (i c : ℕ) → (item.chunk == c) ≡ false → last_word i after.sheet c ≡ last_word i before.sheet c
 
 -- the words of this chunk that were stored last begin with this label and these further words
 abbrev pub HasRow : ℕ → ℕ → List ℕ → BookView → Type 0
-HasRow chunk label words book = BeginsWith label words (last_words book.part chunk)
+HasRow chunk label words book = BeginsWith label words (last_words book.sheet chunk)
 
 -- A lane has no bump that a Book can apply: none is aboard or known, or the one aboard is of another class's chunk, or
 -- of another life than the chunk has.
 abbrev pub HasNoBumpFor : BookView → LaneView → Type 0
 HasNoBumpFor book lane = ((carries lane ≡ None) × (lane.known ≡ []))
-    ⊎ ((bump : Bump) × (carries lane ≡ Some bump) × ((owns bump.life.chunk book.part ≡ false)
-    ⊎ ((standing book.part bump.life.chunk).1 ≢ bump.life.generation)))
+    ⊎ ((bump : Bump) × (carries lane ≡ Some bump) × ((owns bump.life.chunk book.sheet ≡ false)
+    ⊎ ((standing book.sheet bump.life.chunk).1 ≢ bump.life.generation)))

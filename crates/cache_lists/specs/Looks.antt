@@ -5,8 +5,8 @@ use Rattle.bump_class.specs.Books.{BookView}
 
 -- its class's seat has noted these steps
 abbrev pub with_steps : List OwnStep → BookView → BookView
-with_steps steps book = record book { part = record book.part { steps = steps } }
+with_steps steps book = record book { sheet = record book.sheet { steps = steps } }
 
 -- nothing changed but the steps that the class's seat notes
 abbrev pub LooksOnly : BookView → BookView → Type 0
-LooksOnly before after = after ≡ with_steps after.part.steps before
+LooksOnly before after = after ≡ with_steps after.sheet.steps before

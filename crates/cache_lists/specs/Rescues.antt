@@ -11,7 +11,7 @@ use Rattle.bump_steps.specs.Views.{last_label}
 use Rattle.bump_class.specs.Books.{BookView}
 use Rattle.bump_class.specs.Changes.{book_after_see_label}
 use Rattle.bump_class.specs.Pulls.{Pulls}
-use Rattle.entry_times.specs.Times.{has_expired}
+use Rattle.bump_rules.specs.Expiry.{has_expired}
 use Rattle.cache_lists.specs.declared.flow.Flow.{Flow}
 use Rattle.cache_lists.specs.declared.victims.Victim.{Victim}
 use Rattle.cache_lists.specs.Counts.{CountedView, noted}
@@ -25,7 +25,7 @@ most_rescues = 8
 -- The label of COLD's last item, which is at this chunk, was looked at: it expires at this time.
 pub record SeesExpiry (chunk expires : ℕ) (before after : BookView) : Type 0 where
   pub last : last_of before.lists.cold ≡ Some chunk
-  pub is : expires ≡ last_label before.part chunk
+  pub is : expires ≡ last_label before.sheet chunk
   pub seen : after ≡ book_after_see_label chunk expires before
 
 -- COLD's last item, which is at this chunk, had expired at this time, as a look found, and no pull followed.

@@ -31,9 +31,8 @@ use crate::items;
 use crate::victims::Victim;
 use bump_class::{Book, RawLane};
 use bump_heads::Name;
-use bump_rules::{Applied, ItemId, Place, Pulled, Segment, Start, Tail};
+use bump_rules::{Applied, ItemId, Place, Pulled, Segment, Start, Tail, has_expired};
 use bump_steps::{AnyRow, RowLaw};
-use entry_times::has_expired;
 use std::marker::Model;
 
 /// A Book, how its items went from list to list, and how many were evicted.
@@ -49,13 +48,13 @@ impl<N: Name, L: RowLaw> Model for CountedBook<N, L> {
 
     ghost view = { λ c. record { book = c.book; flow = c.flow; evictions = c.evictions } };
 
-    ghost invariant = { λ c. IsFlow c.flow c.book.part };
+    ghost invariant = { λ c. IsFlow c.flow c.book.sheet };
 }
 
 impl<N: Name, L: RowLaw> CountedBook<N, L> {
     /// A Book in which no item was linked yet.
     pub fn new(book: Book<N, L>) -> CountedBook<N, L>
-        requires history { book.part.history ≡ [] }
+        requires history { book.sheet.history ≡ [] }
         ensures { result ≡ record { book = book; flow = no_flow; evictions = no_evictions } }
     {
         CountedBook {
@@ -69,9 +68,9 @@ impl<N: Name, L: RowLaw> CountedBook<N, L> {
     /// and what came into HOT, WARM, COLD or TEMP is there still or went out.
     pub fn promise(&self)
         ensures book { IsBook self.now.book }
-        ensures flow { IsFlow self.now.flow self.now.book.part }
+        ensures flow { IsFlow self.now.flow self.now.book.sheet }
         ensures sums { SegmentsAddUp (length self.now.book.lists.hot) (length self.now.book.lists.warm)
-            (length self.now.book.lists.cold) (length self.now.book.lists.temp) self.now.book.part }
+            (length self.now.book.lists.cold) (length self.now.book.lists.temp) self.now.book.sheet }
     {
         self.book.promise();
     }
@@ -94,11 +93,11 @@ impl<N: Name, L: RowLaw> CountedBook<N, L> {
     /// The label of a chunk of the class, by one load, which is noted with what it found, as `Book::label` does. Where the
     /// chunk isn't free it is the one with which its item was linked.
     pub fn label(&mut self, chunk: u32) -> u64
-        requires own { owns chunk self.old.book.part ≡ true }
+        requires own { owns chunk self.old.book.sheet ≡ true }
         ensures seen { self.new ≡ record self.old { book = book_after_see_label chunk result self.old.book } }
-        ensures stored { result ≡ last_label self.old.book.part chunk }
-        ensures life { IsUsed (place_of_chunk self.old.book.part chunk)
-            → label_of_life (life_in self.old.book.part chunk) 0 self.old.book.part.labels ≡ Some result }
+        ensures stored { result ≡ last_label self.old.book.sheet chunk }
+        ensures life { IsUsed (place_of_chunk self.old.book.sheet chunk)
+            → label_of_life (life_in self.old.book.sheet chunk) 0 self.old.book.sheet.labels ≡ Some result }
     {
         self.book.label(chunk)
     }
@@ -106,12 +105,12 @@ impl<N: Name, L: RowLaw> CountedBook<N, L> {
     /// A further word of a chunk of the class, in the same way. Its number, from 0, is below `further`. It is 0 where
     /// none was stored yet.
     pub fn word(&mut self, chunk: u32, index: u32) -> u64
-        requires own { owns chunk self.old.book.part ≡ true }
+        requires own { owns chunk self.old.book.sheet ≡ true }
         requires index { index < N.table.slots }
         ensures seen { self.new ≡ record self.old { book = book_after_see_word chunk result self.old.book } }
-        ensures stored { result ≡ last_word (suc index) self.old.book.part chunk }
-        ensures life { IsUsed (place_of_chunk self.old.book.part chunk)
-            → label_of_life (life_in self.old.book.part chunk) 0 (of_word index self.old.book.part.words)
+        ensures stored { result ≡ last_word (suc index) self.old.book.sheet chunk }
+        ensures life { IsUsed (place_of_chunk self.old.book.sheet chunk)
+            → label_of_life (life_in self.old.book.sheet chunk) 0 (of_word index self.old.book.sheet.words)
             ≡ Some result }
     {
         self.book.word(chunk, index)
@@ -144,9 +143,9 @@ impl<N: Name, L: RowLaw> CountedBook<N, L> {
         ensures none { IfNone result (self.new ≡ self.old) }
         ensures linked { IfSome result (λ id. self.new.book
             ≡ book_with_words start id label words.now now self.old.book) }
-        ensures label { IfSome result (λ id. label_of_life id 0 self.new.book.part.labels ≡ Some label) }
+        ensures label { IfSome result (λ id. label_of_life id 0 self.new.book.sheet.labels ≡ Some label) }
         ensures words { IfSome result (λ id. (j : ℕ) → j < length words.now
-            → label_of_life id 0 (of_word j self.new.book.part.words) ≡ Some (slice_index words.now j)) }
+            → label_of_life id 0 (of_word j self.new.book.sheet.words) ≡ Some (slice_index words.now j)) }
         ensures flow { IfSome result (λ id. self.new.flow
             ≡ noted (Some (Unused, place_of (first_segment start))) self.old.flow) }
         ensures begins { IfSome result (λ id. BeginsAt id self.old.book self.new.book) }
@@ -168,7 +167,7 @@ impl<N: Name, L: RowLaw> CountedBook<N, L> {
     /// Ends the item that is linked at a chunk of the class, and tells the list in which it was; or None exactly where
     /// none is linked there, and then nothing changes but the steps that the class's seat notes.
     pub fn end(&mut self, chunk: u32) -> Option<Segment>
-        requires own { owns chunk self.old.book.part ≡ true }
+        requires own { owns chunk self.old.book.sheet ≡ true }
         ensures ends { EndsLinked chunk result self.old.book self.new.book }
         ensures flow { IfSome result (λ from. self.new.flow ≡ noted (Some (place_of from, Dying)) self.old.flow) }
         ensures stays { IfNone result (self.new.flow ≡ self.old.flow) }

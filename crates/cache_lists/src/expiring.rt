@@ -5,8 +5,8 @@ ghost use Rattle.cache_lists.specs.Expiring.{EndsExpired};
 
 use crate::counted::CountedBook;
 use bump_heads::Name;
+use bump_rules::has_expired;
 use bump_steps::RowLaw;
-use entry_times::has_expired;
 
 impl<N: Name, L: RowLaw> CountedBook<N, L> {
     /// Ends the item that is linked at a chunk of the class where it has expired at `now`, in the caller's ticks, and
@@ -14,7 +14,7 @@ impl<N: Name, L: RowLaw> CountedBook<N, L> {
     /// and by the mark that a look just behind the item's end found. Where it ends none, nothing changes but the steps
     /// that the class's seat notes.
     pub fn end_expired(&mut self, chunk: u32, now: u64) -> bool
-        requires own { owns chunk self.old.book.part ≡ true }
+        requires own { owns chunk self.old.book.sheet ≡ true }
         ensures ends { EndsExpired chunk now result self.old self.new }
     {
         let expires = self.label(chunk);

@@ -41,8 +41,8 @@ pub(crate) fn look_at<N: Name, L: RowLaw>(book: &mut Book<N, L>, from: Tail) -> 
     ensures pulls { Pulls book.old from result book.new }
     ensures told { may_tell from result ≡ true }
     ensures item { option_map (λ (id : TheItemId). id.chunk) (item_told result) ≡ last_pulled from book.old.lists }
-    ensures linked { IfSome (item_told result) (λ id. linked_at book.new.part id.chunk ≡ Some id.generation) }
-    ensures own { IfSome (item_told result) (λ id. owns id.chunk book.new.part ≡ true) }
+    ensures linked { IfSome (item_told result) (λ id. linked_at book.new.sheet id.chunk ≡ Some id.generation) }
+    ensures own { IfSome (item_told result) (λ id. owns id.chunk book.new.sheet ≡ true) }
     ensures none { IfNone (item_told result) (book.new ≡ book.old) }
     ensures flows { Flows (way_of_pull from result) book.old book.new }
     ensures others { IfSome (item_told result) (λ id. SameSegments (all_without id.chunk book.old.lists)
@@ -88,9 +88,9 @@ pub(crate) fn look_past<N: Name, L: RowLaw>(
 // The label of a chunk whose item ended, and then the marks: when it expires, whether it was hit, and whether it was
 // ACTIVE.
 fn see_ended<N: Name, L: RowLaw>(book: &mut Book<N, L>, chunk: u32) -> (u64, bool, bool)
-    requires own { owns chunk book.old.part ≡ true }
-    requires ended { linked_at book.old.part chunk ≡ None }
-    ensures expires { result.0 ≡ last_label book.old.part chunk }
+    requires own { owns chunk book.old.sheet ≡ true }
+    requires ended { linked_at book.old.sheet chunk ≡ None }
+    ensures expires { result.0 ≡ last_label book.old.sheet chunk }
     ensures marks { ShowsMarks chunk result.1 result.2 book.new }
     ensures looks { LooksOnly book.old book.new }
 {
@@ -189,7 +189,7 @@ fn end_temp<N: Name, L: RowLaw>(book: &mut Book<N, L>) -> Option<Victim>
 
 // The item ends that is linked at a chunk; and tells the list in which it was, or None where none is.
 pub(crate) fn end<N: Name, L: RowLaw>(book: &mut Book<N, L>, chunk: u32) -> Option<Segment>
-    requires own { owns chunk book.old.part ≡ true }
+    requires own { owns chunk book.old.sheet ≡ true }
     ensures ends { EndsLinked chunk result book.old book.new }
     ensures flows { IfSome result (λ from. Flows (Some (place_of from, Dying)) book.old book.new) }
     ensures stays { IfNone result (Flows None book.old book.new) }
@@ -239,9 +239,9 @@ fn link<N: Name, L: RowLaw>(
     requires law { MayHave L.law label words.now }
     ensures item { result ≡ linked_item book.old }
     ensures linked { IfOk result (λ id. book.new ≡ book_with_words start id label words.now now book.old) }
-    ensures label { IfOk result (λ id. label_of_life id 0 book.new.part.labels ≡ Some label) }
+    ensures label { IfOk result (λ id. label_of_life id 0 book.new.sheet.labels ≡ Some label) }
     ensures words { IfOk result (λ id. (j : ℕ) → j < length words.now
-        → label_of_life id 0 (of_word j book.new.part.words) ≡ Some (slice_index words.now j)) }
+        → label_of_life id 0 (of_word j book.new.sheet.words) ≡ Some (slice_index words.now j)) }
     ensures unchanged { OnErr result (book.new ≡ book.old) }
 {
     match start {
@@ -264,9 +264,9 @@ pub(crate) fn begin<N: Name, L: RowLaw>(
     ensures free { IfNone result (first_of book.old.lists.unused ≡ None) }
     ensures none { IfNone result (book.new ≡ book.old) }
     ensures linked { IfSome result (λ id. book.new ≡ book_with_words start id label words.now now book.old) }
-    ensures label { IfSome result (λ id. label_of_life id 0 book.new.part.labels ≡ Some label) }
+    ensures label { IfSome result (λ id. label_of_life id 0 book.new.sheet.labels ≡ Some label) }
     ensures words { IfSome result (λ id. (j : ℕ) → j < length words.now
-        → label_of_life id 0 (of_word j book.new.part.words) ≡ Some (slice_index words.now j)) }
+        → label_of_life id 0 (of_word j book.new.sheet.words) ≡ Some (slice_index words.now j)) }
     ensures begins { IfSome result (λ id. BeginsAt id book.old book.new) }
     ensures first { IfSome result (λ id. first_of book.old.lists.unused ≡ Some id.chunk) }
     ensures row { IfSome result (λ id. HasRow id.chunk label words.now book.new) }

@@ -19,7 +19,7 @@ pub use bump_heads::Name;
 pub use bump_rules::{Applied, ItemId, Place, Pulled, Segment, Start, Tail};
 pub use bump_steps::{AnyRow, RowLaw};
 pub use counted::CountedBook;
-pub use evictions::Evictions;
+pub use evictions::{Evictions, STATISTICS, Statistic};
 pub use flow::Flow;
 pub use freeing::MOST_FREED;
 pub use rescues::RESCUES;

@@ -9,9 +9,8 @@ ghost use Rattle.cache_lists.specs.Rescues.{most_rescues, RescuesUpTo, LooksAtCo
 use crate::counted::CountedBook;
 use crate::victims::Victim;
 use bump_heads::Name;
-use bump_rules::{Place, Tail};
+use bump_rules::{Place, Tail, has_expired};
 use bump_steps::RowLaw;
-use entry_times::has_expired;
 
 /// An evict rescues at most so many items of COLD: a bound of what one evict does, however many there are ACTIVE.
 pub const RESCUES: u32 = 8;
@@ -63,7 +62,7 @@ impl<N: Name, L: RowLaw> CountedBook<N, L> {
     pub fn evict(&mut self, now: u64) -> Option<Victim>
         ensures evicts { IfSome result (λ it. Evicts now it self.old self.new) }
         ensures ends { IfSome result (λ it. EndsAt it.chunk self.old.book self.new.book) }
-        ensures expires { IfSome result (λ it. it.expires ≡ last_label self.old.book.part it.chunk) }
+        ensures expires { IfSome result (λ it. it.expires ≡ last_label self.old.book.sheet it.chunk) }
         ensures some { IfSome result (λ it. victim self.old.book.lists ≢ None) }
         ensures empty { IfNone result (victim self.old.book.lists ≡ None) }
         ensures none { IfNone result (self.new ≡ self.old) }

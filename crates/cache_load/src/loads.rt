@@ -1,5 +1,6 @@
 //! The load of a cache.
-ghost use Rattle.std.specs.Prelude.{◌≡◌, ◌<◌, ◌≤◌};
+ghost use Rattle.std.specs.Prelude.{◌<◌, ◌≤◌};
+ghost use Rattle.bump_cache.specs.Opening.{IsNamed};
 
 use crate::changers::{Changer, some_of};
 use crate::readers::{Part, Seen, read};
@@ -136,10 +137,7 @@ pub fn run<N: Name + LogName + Send + Sync, R: Threads + Wait + Sync>(
     blank: CacheBlank<u64, Value>,
     load: Load,
 ) -> Result<Report, AllocError>
-    requires table { blank.table ≡ N.table }
-    requires book { blank.log.book ≡ N.book }
-    requires name { blank.log.name ≡ N.name }
-    requires parts { blank.log.parts ≡ N.parts }
+    requires { IsNamed N.table N.book N.name N.parts blank }
 {
     let Opened {
         cache,

@@ -1,7 +1,7 @@
 -- An index that agrees with what is linked, and what changes of both leave of that.
 use Rattle.std.proofs.Common.{◌≡◌, ◌≢◌, ℕ, zero, suc, ◌<◌, Bool, true, false, ◌==◌, List, [], ◌∷◌, Option, Some, None, IsSome, is_some, if◌then◌else◌, length, slice_set, refl, sym, ap, ◌∙◌, subst, eqb-true, eq-eqb, arith}
 use Rattle.std.proofs.lemmas.List.{get_or-set_same, get_or-set_other}
-use Rattle.cache_nests.specs.Views.{Led, led_at}
+use Rattle.cache_index.specs.Views.{Led, led_at}
 use Rattle.keyed_hash.specs.declared.seed.Seed.{Seed}
 use Rattle.keyed_hash.specs.Hashes.{hash_of}
 use Rattle.cache_part.specs.Parts.{generation_led, Agrees}

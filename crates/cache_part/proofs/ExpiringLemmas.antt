@@ -7,15 +7,15 @@ use Rattle.cache_lists.specs.Counts.{CountedView}
 use Rattle.cache_lists.specs.Expiring.{expired_at, EndsExpired, EndsFound}
 use Rattle.cache_lists.specs.Items.{IsSameClass, KeepsItems, EndsAt}
 use Rattle.cache_lists.specs.Linked.{linked_at}
-use Rattle.entry_times.specs.Times.{has_expired}
+use Rattle.bump_rules.specs.Expiry.{has_expired}
 use Rattle.cache_part.specs.Expiring.{HasNoneExpired, EndedExpired, KeepsUnexpired, IsInTurn, IsNumberInTurn, LooksAt, LooksAround, number_behind}
 use Rattle.cache_part.proofs.PartLemmas.{class_then}
 use Rattle.cache_part.proofs.TurnLemmas.{in_turn_more}
 
 -- where the words stay, an item expires when it did
 label_same : (now : ℕ) (before after : BookView) (c : ℕ)
-    → ((i c : ℕ) → last_word i after.part c ≡ last_word i before.part c)
-    → expired_at now after.part c ≡ expired_at now before.part c
+    → ((i c : ℕ) → last_word i after.sheet c ≡ last_word i before.sheet c)
+    → expired_at now after.sheet c ≡ expired_at now before.sheet c
 label_same now before after c words = ap (λ label. has_expired label now) (words 0 c)
 
 -- where all items stay, what hasn't expired does
@@ -35,9 +35,9 @@ unexpired_then now before between after one other = record {
   words = λ i c. other.words i c ∙ one.words i c;
 }
   where
-    by : (c : ℕ) → (linked_at between.part c ≡ linked_at before.part c) ⊎ EndedExpired now c before between
-        → (linked_at after.part c ≡ linked_at between.part c) ⊎ EndedExpired now c between after
-        → (linked_at after.part c ≡ linked_at before.part c) ⊎ EndedExpired now c before after
+    by : (c : ℕ) → (linked_at between.sheet c ≡ linked_at before.sheet c) ⊎ EndedExpired now c before between
+        → (linked_at after.sheet c ≡ linked_at between.sheet c) ⊎ EndedExpired now c between after
+        → (linked_at after.sheet c ≡ linked_at before.sheet c) ⊎ EndedExpired now c before after
     by c (inl same) (inl still) = inl (still ∙ same)
     by c (inl same) (inr ended) = inr (record {
       was = subst IsSome same ended.was;
@@ -54,7 +54,7 @@ unexpired_then now before between after one other = record {
 
 -- the end of an item that has expired leaves what hasn't
 pub ended_unexpired : (now chunk : ℕ) (before after : BookView) → EndsAt chunk before after
-    → expired_at now before.part chunk ≡ true → KeepsUnexpired now before after
+    → expired_at now before.sheet chunk ≡ true → KeepsUnexpired now before after
 ended_unexpired now chunk before after ends expired = record {
   class = ends.class;
   linked = λ c. by c (chunk == c) refl;
@@ -62,14 +62,14 @@ ended_unexpired now chunk before after ends expired = record {
 }
   where
     by : (c : ℕ) (b : Bool) → (chunk == c) ≡ b
-        → (linked_at after.part c ≡ linked_at before.part c) ⊎ EndedExpired now c before after
+        → (linked_at after.sheet c ≡ linked_at before.sheet c) ⊎ EndedExpired now c before after
     by c true e =
         let same : chunk ≡ c = eqb-true chunk c e in inr (record {
-          was = subst IsSome (sym ends.was.1 ∙ ap (linked_at before.part) same) refl;
-          expired = ap (expired_at now before.part) (sym same) ∙ expired;
-          gone = ends.linked c ∙ ap (λ b. if b then None else linked_at before.part c) e;
+          was = subst IsSome (sym ends.was.1 ∙ ap (linked_at before.sheet) same) refl;
+          expired = ap (expired_at now before.sheet) (sym same) ∙ expired;
+          gone = ends.linked c ∙ ap (λ b. if b then None else linked_at before.sheet c) e;
         })
-    by c false e = inl (ends.linked c ∙ ap (λ b. if b then None else linked_at before.part c) e)
+    by c false e = inl (ends.linked c ∙ ap (λ b. if b then None else linked_at before.sheet c) e)
 
 -- a chunk that has no expired item has none then
 pub none_kept : (now chunk : ℕ) (before after : BookView) → KeepsUnexpired now before after
@@ -77,27 +77,27 @@ pub none_kept : (now chunk : ℕ) (before after : BookView) → KeepsUnexpired n
 none_kept now chunk before after keeps none some =
     label_same now before after chunk keeps.words ∙ by (keeps.linked chunk)
   where
-    by : (linked_at after.part chunk ≡ linked_at before.part chunk) ⊎ EndedExpired now chunk before after
-        → expired_at now before.part chunk ≡ false
+    by : (linked_at after.sheet chunk ≡ linked_at before.sheet chunk) ⊎ EndedExpired now chunk before after
+        → expired_at now before.sheet chunk ≡ false
     by (inl same) = none (subst IsSome same some)
     by (inr ended) = let no : IsSome {T = ℕ} None = subst IsSome ended.gone some in absurd (cc no)
 
 -- where an item is linked that has expired, it ended
 pub found_expired : (chunk now : ℕ) (did : Bool) (before after : CountedView) → EndsExpired chunk now did before after
-    → IsSome (linked_at before.book.part chunk) → expired_at now before.book.part chunk ≡ true
+    → IsSome (linked_at before.book.sheet chunk) → expired_at now before.book.sheet chunk ≡ true
     → (did ≡ true) × EndsFound chunk now before after
 found_expired chunk now true before after ends some expired = (refl, ends)
 found_expired chunk now false before after finds some expired = absurd (by finds.none)
   where
-    by : (linked_at before.book.part chunk ≡ None) ⊎ (expired_at now before.book.part chunk ≡ false) → ⊥
+    by : (linked_at before.book.sheet chunk ≡ None) ⊎ (expired_at now before.book.sheet chunk ≡ false) → ⊥
     by (inl none) = let no : IsSome {T = ℕ} None = subst IsSome none some in cc no
     by (inr unexpired) = cc (sym unexpired ∙ expired)
 
-module _ (from count now : ℕ) (first : CountedView) (counts : first.book.part.count ≡ count) where
+module _ (from count now : ℕ) (first : CountedView) (counts : first.book.sheet.count ≡ count) where
   -- one chunk more was looked at
   pub around_more : (looks ended so_far : ℕ) (did : Bool) (between after : CountedView)
       → LooksAround looks from now so_far first between
-      → LooksAt (first.book.part.first + number_behind from looks count) now did between after
+      → LooksAt (first.book.sheet.first + number_behind from looks count) now did between after
       → ended ≡ so_far + bit did → LooksAround (looks + 1) from now ended first after
   around_more looks ended so_far did between after around looked sums =
       let one_more : suc looks ≡ looks + 1 = omega arith in
@@ -106,33 +106,33 @@ module _ (from count now : ℕ) (first : CountedView) (counts : first.book.part.
         so_far,
         did,
         around,
-        subst (λ n. LooksAt (first.book.part.first + number_behind from looks n) now did between after) (sym counts) looked,
+        subst (λ n. LooksAt (first.book.sheet.first + number_behind from looks n) now did between after) (sym counts) looked,
         sums,
       )
 
   -- and none of those that were has an expired item
   pub none_in_turn : (looks : ℕ) (between after : BookView)
-      → ((n : ℕ) → IsNumberInTurn from looks count n → HasNoneExpired now (first.book.part.first + n) between)
-      → HasNoneExpired now (first.book.part.first + number_behind from looks count) after
+      → ((n : ℕ) → IsNumberInTurn from looks count n → HasNoneExpired now (first.book.sheet.first + n) between)
+      → HasNoneExpired now (first.book.sheet.first + number_behind from looks count) after
       → KeepsUnexpired now between after
-      → (n : ℕ) → IsNumberInTurn from (looks + 1) count n → HasNoneExpired now (first.book.part.first + n) after
+      → (n : ℕ) → IsNumberInTurn from (looks + 1) count n → HasNoneExpired now (first.book.sheet.first + n) after
   none_in_turn looks between after none here keeps n turn = by (in_turn_more from looks count n turn)
     where
       by : IsNumberInTurn from looks count n ⊎ (number_behind from looks count ≡ n)
-          → HasNoneExpired now (first.book.part.first + n) after
-      by (inl before) = none_kept now (first.book.part.first + n) between after keeps (none n before)
-      by (inr this) = subst (λ m. HasNoneExpired now (first.book.part.first + m) after) this here
+          → HasNoneExpired now (first.book.sheet.first + n) after
+      by (inl before) = none_kept now (first.book.sheet.first + n) between after keeps (none n before)
+      by (inr this) = subst (λ m. HasNoneExpired now (first.book.sheet.first + m) after) this here
 
 -- what holds of the class's chunks by their numbers holds of those in turn
 pub none_of_class : (now from looks : ℕ) (book after : BookView)
-    → ((n : ℕ) → IsNumberInTurn from looks book.part.count n → HasNoneExpired now (book.part.first + n) after)
-    → (chunk : ℕ) → IsInTurn from looks book.part chunk → HasNoneExpired now chunk after
+    → ((n : ℕ) → IsNumberInTurn from looks book.sheet.count n → HasNoneExpired now (book.sheet.first + n) after)
+    → (chunk : ℕ) → IsInTurn from looks book.sheet chunk → HasNoneExpired now chunk after
 none_of_class now from looks book after none chunk (number, is, turn) =
     subst (λ c. HasNoneExpired now c after) (sym is) (none number turn)
 
 -- chunks in turn of a class stay so where its chunks stay
 pub in_turn_same : (from most : ℕ) (book left : BookView) → IsSameClass book left → (chunk : ℕ)
-    → IsInTurn from (min most book.part.count) book.part chunk → IsInTurn from (min most left.part.count) left.part chunk
+    → IsInTurn from (min most book.sheet.count) book.sheet chunk → IsInTurn from (min most left.sheet.count) left.sheet chunk
 in_turn_same from most book left class chunk (number, is, turn) = (
   number,
   is ∙ ap (λ f. f + number) (sym class.first),

@@ -1,9 +1,9 @@
 -- The search for a key.
 use Rattle.std.proofs.Common.{◌≡◌, ℕ, Bool, true, false, ◌==◌, ◌||◌, List, Option, Some, None, IsSome, IfSome, IsSomeAnd, refl, sym, ap, ◌∙◌, subst, eqb-true}
-use Rattle.bump_steps.specs.declared.views.ClassPart.{ClassPart}
+use Rattle.bump_steps.specs.declared.views.ClassSheet.{ClassSheet}
 use Rattle.bump_steps.specs.Views.{owns}
 use Rattle.cache_lists.specs.Linked.{linked_at}
-use Rattle.cache_nests.specs.Views.{Led, led_at}
+use Rattle.cache_index.specs.Views.{Led, led_at}
 use Rattle.keyed_hash.specs.declared.seed.Seed.{Seed}
 use Rattle.keyed_hash.specs.Hashes.{hash_of}
 use Rattle.cache_part.specs.Keys.{key_at, HasKey}
@@ -16,7 +16,7 @@ some_and None P h = absurd h
 some_and (Some led) P h = refl
 
 -- where the index leads to a chunk its item is linked
-pub led_linked : (seed : Seed) (key_words : ℕ) (class : ClassPart) (table : List (Option Led))
+pub led_linked : (seed : Seed) (key_words : ℕ) (class : ClassSheet) (table : List (Option Led))
     → IsPart seed key_words class table → (chunk : ℕ) → IsSome (led_at table chunk) → IsSome (linked_at class chunk)
 led_linked seed key_words class table is chunk some = by (led_at table chunk) refl some
   where
@@ -25,13 +25,13 @@ led_linked seed key_words class table is chunk some = by (led_at table chunk) re
     by (Some led) e so = subst IsSome (ap generation_led (sym e) ∙ is.agrees.leads chunk) refl
 
 -- and it is one of the class
-pub led_owned : (seed : Seed) (key_words : ℕ) (class : ClassPart) (table : List (Option Led))
+pub led_owned : (seed : Seed) (key_words : ℕ) (class : ClassSheet) (table : List (Option Led))
     → IsPart seed key_words class table → (chunk : ℕ) → IsSome (led_at table chunk) → owns chunk class ≡ true
 led_owned seed key_words class table is chunk some =
     is.own chunk (led_linked seed key_words class table is chunk some)
 
 -- one chunk more that was answered hasn't the key
-pub none_more : (class : ClassPart) (key_words : ℕ) (key : List ℕ) (before after : ℕ → Bool) (at : ℕ)
+pub none_more : (class : ClassSheet) (key_words : ℕ) (key : List ℕ) (before after : ℕ → Bool) (at : ℕ)
     → ((c : ℕ) → after c ≡ (before c || (c == at)))
     → ((c : ℕ) → before c ≡ true → key_at key_words class c ≡ key → ⊥)
     → (key_at key_words class at ≡ key → ⊥)
@@ -45,7 +45,7 @@ none_more class key_words key before after at more none here c so same =
     by false false e f h = absurd (cc h)
 
 -- where each chunk with the key's hash was answered, and none of them has the key, no item has it
-pub unknown_all : (seed : Seed) (key_words : ℕ) (class : ClassPart) (table : List (Option Led))
+pub unknown_all : (seed : Seed) (key_words : ℕ) (class : ClassSheet) (table : List (Option Led))
     → IsPart seed key_words class table → (key : List ℕ) (hash : ℕ) (answered : ℕ → Bool) → hash ≡ hash_of seed key
     → ((chunk : ℕ) → IfSome (led_at table chunk) (λ led. led.hash ≡ hash → answered chunk ≡ true))
     → ((c : ℕ) → answered c ≡ true → key_at key_words class c ≡ key → ⊥)

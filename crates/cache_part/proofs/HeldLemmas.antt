@@ -94,17 +94,17 @@ some_refs head held = by head.refs refl
 
 -- what a sweep of DYING leaves there was looked at, and found held
 pub left_held : (drained after : BookView) (freed : ℕ) (heads : ℕ → Head) → IsBook drained → Sweeps drained freed after heads
-    → (chunk : ℕ) → owns chunk after.part ≡ true → place_of_chunk after.part chunk ≡ Dying
+    → (chunk : ℕ) → owns chunk after.sheet ≡ true → place_of_chunk after.sheet chunk ≡ Dying
     → IsFoundHeld drained heads chunk
 left_held drained after freed heads is sweeps chunk own dying =
     let swept = swept_book heads drained.lists.dying drained in
-    let owned : owns chunk drained.part ≡ true =
-    subst (λ (b : BookView). owns chunk b.part ≡ true) sweeps.after own in
-    let there : place_of_chunk swept.part chunk ≡ Dying =
-    subst (λ (b : BookView). place_of_chunk b.part chunk ≡ Dying) sweeps.after dying in
+    let owned : owns chunk drained.sheet ≡ true =
+    subst (λ (b : BookView). owns chunk b.sheet ≡ true) sweeps.after own in
+    let there : place_of_chunk swept.sheet chunk ≡ Dying =
+    subst (λ (b : BookView). place_of_chunk b.sheet chunk ≡ Dying) sweeps.after dying in
     let both = stays_held heads drained.lists.dying chunk
-    (standing_in drained.part.fresh drained.part.history chunk)
-    (sym (ap (λ (s : Standing). s.0) (standing_goes_on chunk (Unused, drained.part.fresh) drained.part.history
+    (standing_in drained.sheet.fresh drained.sheet.history chunk)
+    (sym (ap (λ (s : Standing). s.0) (standing_goes_on chunk (Unused, drained.sheet.fresh) drained.sheet.history
     (swept_of heads drained.lists.dying))) ∙ there) in
     let once : times chunk drained.lists.dying ≡ 1 = times_in drained chunk Dying is
     ∙ ap₂ (λ a p. bit (a && is_place p Dying)) owned both.0 in
@@ -118,16 +118,16 @@ none_there c (x ∷ xs) none = absurd (let no : ⊥ = cc none in no)
 
 -- where no chunk is free each one that has no item has had its last generation, or is in DYING
 pub retired_or_dying : (after : BookView) → IsBook after → first_of after.lists.unused ≡ None → (chunk : ℕ)
-    → owns chunk after.part ≡ true → linked_at after.part chunk ≡ None
-    → (place_of_chunk after.part chunk ≡ Retired) ⊎ (place_of_chunk after.part chunk ≡ Dying)
-retired_or_dying after is full chunk own unlinked = by (place_of_chunk after.part chunk) refl
+    → owns chunk after.sheet ≡ true → linked_at after.sheet chunk ≡ None
+    → (place_of_chunk after.sheet chunk ≡ Retired) ⊎ (place_of_chunk after.sheet chunk ≡ Dying)
+retired_or_dying after is full chunk own unlinked = by (place_of_chunk after.sheet chunk) refl
   where
-    linked : (p : Place) → place_of_chunk after.part chunk ≡ p
-        → linked_standing (p, (standing_in after.part.fresh after.part.history chunk).1) ≡ None
-    linked p at = sym (ap (λ q. linked_standing (q, (standing_in after.part.fresh after.part.history chunk).1)) at) ∙ unlinked
+    linked : (p : Place) → place_of_chunk after.sheet chunk ≡ p
+        → linked_standing (p, (standing_in after.sheet.fresh after.sheet.history chunk).1) ≡ None
+    linked p at = sym (ap (λ q. linked_standing (q, (standing_in after.sheet.fresh after.sheet.history chunk).1)) at) ∙ unlinked
 
-    by : (p : Place) → place_of_chunk after.part chunk ≡ p
-        → (place_of_chunk after.part chunk ≡ Retired) ⊎ (place_of_chunk after.part chunk ≡ Dying)
+    by : (p : Place) → place_of_chunk after.sheet chunk ≡ p
+        → (place_of_chunk after.sheet chunk ≡ Retired) ⊎ (place_of_chunk after.sheet chunk ≡ Dying)
     by Hot at = absurd (let no : ⊥ = cc (linked Hot at) in no)
     by Warm at = absurd (let no : ⊥ = cc (linked Warm at) in no)
     by Cold at = absurd (let no : ⊥ = cc (linked Cold at) in no)
@@ -180,9 +180,9 @@ finds_none items now old evicted most before from after to room full is = by roo
       each = λ chunk own unlinked. held chunk own (retired_or_dying after.book is full chunk own unlinked);
     }
       where
-        held : (chunk : ℕ) → owns chunk after.book.part ≡ true
-            → (place_of_chunk after.book.part chunk ≡ Retired) ⊎ (place_of_chunk after.book.part chunk ≡ Dying)
-            → (place_of_chunk after.book.part chunk ≡ Retired)
+        held : (chunk : ℕ) → owns chunk after.book.sheet ≡ true
+            → (place_of_chunk after.book.sheet chunk ≡ Retired) ⊎ (place_of_chunk after.book.sheet chunk ≡ Dying)
+            → (place_of_chunk after.book.sheet chunk ≡ Retired)
             ⊎ IsFoundHeld ended.1.drained.book ended.1.heads chunk
         held chunk own (inl retired) = inl retired
         held chunk own (inr dying) = inr (ended.1.held chunk own dying)

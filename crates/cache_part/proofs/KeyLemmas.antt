@@ -1,15 +1,16 @@
 -- Keys and values as lists of words.
-use Rattle.std.proofs.Common.{◌≡◌, ℕ, zero, suc, ◌+◌, ◌-◌, ◌<◌, ◌≤◌, List, [], ◌∷◌, ◌++◌, length, get_or, take, drop, slice_set, refl, sym, ap, ap₂, ◌∙◌, arith}
+use Rattle.std.proofs.Common.{◌≡◌, ℕ, zero, suc, ◌+◌, ◌-◌, ◌<◌, ◌≤◌, List, [], ◌∷◌, ◌++◌, Option, None, Some, length, get_or, take, drop, slice_set, refl, sym, ap, ap₂, ◌∙◌, arith}
 use Rattle.std.proofs.lemmas.List.{append-nil, drop_all, get_or-take, get_or-drop, length-take-le, length-drop}
 use borrow.Rule.Slice.PartMut.{put_mid, mid_of}
-use Rattle.bump_steps.specs.declared.views.ClassPart.{ClassPart}
+use Rattle.bump_steps.specs.declared.views.ClassSheet.{ClassSheet}
 use Rattle.bump_steps.specs.Views.{last_word}
 use Rattle.bump_class.specs.Books.{BookView}
 use Rattle.cache_lists.specs.Items.{HasRow}
 use Rattle.cache_part.specs.Keys.{words_from, row_of, key_at, value_at}
+use Rattle.cache_part.specs.Putting.{TellsOldWords}
 
 -- words of a chunk that are these one by one are these
-pub words_read : (class : ClassPart) (chunk index : ℕ) (words : List ℕ)
+pub words_read : (class : ClassSheet) (chunk index : ℕ) (words : List ℕ)
     → ((j : ℕ) → j < length words → last_word (suc (index + j)) class chunk ≡ get_or words j 0)
     → words_from index (length words) class chunk ≡ words
 words_read class chunk index [] each = refl
@@ -22,7 +23,7 @@ words_read class chunk index (word ∷ words) each =
     ap (λ n. last_word (suc n) class chunk) next ∙ each (suc j) (omega (arith, low))))
 
 -- and each of them is the chunk's
-pub word_read : (class : ClassPart) (chunk index count j : ℕ) → j < count
+pub word_read : (class : ClassSheet) (chunk index count j : ℕ) → j < count
     → get_or (words_from index count class chunk) j 0 ≡ last_word (suc (index + j)) class chunk
 word_read class chunk index zero j low = absurd (omega (arith, low))
 word_read class chunk index (suc count) zero low =
@@ -32,7 +33,7 @@ word_read class chunk index (suc count) (suc j) low =
     word_read class chunk (suc index) count j (omega (arith, low)) ∙ ap (λ n. last_word (suc n) class chunk) next
 
 -- where a chunk's words stay, so do its key and its value
-pub words_same : (class left : ClassPart) (chunk index count : ℕ)
+pub words_same : (class left : ClassSheet) (chunk index count : ℕ)
     → ((i : ℕ) → last_word i left chunk ≡ last_word i class chunk)
     → words_from index count left chunk ≡ words_from index count class chunk
 words_same class left chunk index zero same = refl
@@ -40,10 +41,18 @@ words_same class left chunk index (suc count) same =
     ap₂ (λ x xs. x ∷ xs) (same (suc index)) (words_same class left chunk (suc index) count same)
 
 -- and its row
-pub row_same : (class left : ClassPart) (chunk count : ℕ)
+pub row_same : (class left : ClassSheet) (chunk count : ℕ)
     → ((i : ℕ) → last_word i left chunk ≡ last_word i class chunk)
     → row_of count left chunk ≡ row_of count class chunk
 row_same class left chunk count same = ap₂ (λ x xs. x ∷ xs) (same 0) (words_same class left chunk 0 count same)
+
+-- and what is told of its item's time and value
+pub old_told_same : (key_words value_words : ℕ) (old : Option ℕ) (from to : List ℕ) (class left : ClassSheet)
+    → ((i c : ℕ) → last_word i left c ≡ last_word i class c) → TellsOldWords key_words value_words old from to left
+    → TellsOldWords key_words value_words old from to class
+old_told_same key_words value_words None from to class left same told = told
+old_told_same key_words value_words (Some chunk) from to class left same told = told
+    ∙ ap₂ (λ x xs. x ∷ xs) (same 0 chunk) (words_same class left chunk key_words value_words (λ i. same i chunk))
 
 -- a label and the words behind it are a row
 pub row_put : (label : ℕ) (stored words : List ℕ) → 0 < length stored
@@ -64,21 +73,21 @@ rest_length label (x ∷ stored) some =
 
 -- the key of a row is its first words
 pub key_of_row : (book : BookView) (chunk label key_words : ℕ) (row : List ℕ) → HasRow chunk label row book
-    → key_words ≤ length row → key_at key_words book.part chunk ≡ take key_words row
+    → key_words ≤ length row → key_at key_words book.sheet chunk ≡ take key_words row
 key_of_row book chunk label key_words row has few =
     let size : length (take key_words row) ≡ key_words = length-take-le key_words row few in
-    ap (λ n. words_from 0 n book.part chunk) (sym size)
-    ∙ words_read book.part chunk 0 (take key_words row) (λ j low.
+    ap (λ n. words_from 0 n book.sheet chunk) (sym size)
+    ∙ words_read book.sheet chunk 0 (take key_words row) (λ j low.
     let here : 0 + j ≡ j = omega arith in
     let below : j < key_words = omega (arith, low, size) in
-    ap (λ n. last_word (suc n) book.part chunk) here
+    ap (λ n. last_word (suc n) book.sheet chunk) here
     ∙ (has.1 j (omega (arith, below, few)) ∙ sym (get_or-take key_words row j 0 below)))
 
 -- and its value is those behind them
 pub value_of_row : (book : BookView) (chunk label key_words value_words : ℕ) (row : List ℕ) → HasRow chunk label row book
-    → length row ≡ key_words + value_words → value_at key_words value_words book.part chunk ≡ drop key_words row
+    → length row ≡ key_words + value_words → value_at key_words value_words book.sheet chunk ≡ drop key_words row
 value_of_row book chunk label key_words value_words row has all =
     let size : length (drop key_words row) ≡ value_words = omega (arith, length-drop key_words row, all) in
-    ap (λ n. words_from key_words n book.part chunk) (sym size)
-    ∙ words_read book.part chunk key_words (drop key_words row) (λ j low.
+    ap (λ n. words_from key_words n book.sheet chunk) (sym size)
+    ∙ words_read book.sheet chunk key_words (drop key_words row) (λ j low.
     has.1 (key_words + j) (omega (arith, low, size, all)) ∙ sym (get_or-drop key_words row j 0))

@@ -7,7 +7,7 @@ use Rattle.bump_class.specs.Books.{BookView}
 use Rattle.cache_lists.specs.Items.{IsSameClass, EndsAt, BeginsAt, HasRow}
 use Rattle.cache_lists.specs.Linked.{linked_at}
 use Rattle.cache_lists.proofs.Standings.{begun_linked}
-use Rattle.cache_nests.specs.Views.{Led, led_at, with_generation}
+use Rattle.cache_index.specs.Views.{Led, led_at, with_generation}
 use Rattle.keyed_hash.specs.declared.seed.Seed.{Seed}
 use Rattle.keyed_hash.specs.Hashes.{hash_of}
 use Rattle.cache_part.specs.Keys.{key_at, value_at, HasKey, IsItemOf}
@@ -24,22 +24,22 @@ ended_class (Some chunk) begun after ends = ends.0.class
 
 -- and all words
 ended_words : (old : Option ℕ) (begun after : BookView) → EndsOld old begun after
-    → (i c : ℕ) → last_word i after.part c ≡ last_word i begun.part c
-ended_words None begun after ends i c = ap (λ (b : BookView). last_word i b.part c) ends
+    → (i c : ℕ) → last_word i after.sheet c ≡ last_word i begun.sheet c
+ended_words None begun after ends i c = ap (λ (b : BookView). last_word i b.sheet c) ends
 ended_words (Some chunk) begun after ends i c = ends.0.words i c
 
 -- and each other item
 ended_stay : (old : Option ℕ) (begun after : BookView) → EndsOld old begun after → (c : ℕ) → old ≢ Some c
-    → linked_at after.part c ≡ linked_at begun.part c
-ended_stay None begun after ends c other = ap (λ (b : BookView). linked_at b.part c) ends
+    → linked_at after.sheet c ≡ linked_at begun.sheet c
+ended_stay None begun after ends c other = ap (λ (b : BookView). linked_at b.sheet c) ends
 ended_stay (Some chunk) begun after ends c other = ends.0.linked c
-    ∙ ap (λ b. if b then None else linked_at begun.part c) (ne_eqb chunk c (λ same. other (ap Some same)))
+    ∙ ap (λ b. if b then None else linked_at begun.sheet c) (ne_eqb chunk c (λ same. other (ap Some same)))
 
 -- the chunk of a new item isn't that of one that is linked
 pub begun_elsewhere : (before begun : BookView) (item : ItemId) (chunk : ℕ) → BeginsAt item before begun
-    → IsSome (linked_at before.part chunk) → item.chunk ≢ chunk
+    → IsSome (linked_at before.sheet chunk) → item.chunk ≢ chunk
 begun_elsewhere before begun item chunk begins some same =
-    let none : IsSome {T = ℕ} None = subst IsSome (ap (linked_at before.part) (sym same) ∙ begins.free) some in
+    let none : IsSome {T = ℕ} None = subst IsSome (ap (linked_at before.sheet) (sym same) ∙ begins.free) some in
     absurd (cc none)
 
 -- what is linked behind the beginning of an item and the end of another
@@ -69,51 +69,51 @@ led_nothing None linked e none = refl
 led_nothing (Some led) linked e none = absurd (cc (e ∙ none))
 
 module _ (seed : Seed) (key_words : ℕ) (before after : BookView) (index : List (Option Led))
-    (is : IsPart seed key_words before.part index) (row : List ℕ) (expires : ℕ) (few : key_words ≤ length row) where
+    (is : IsPart seed key_words before.sheet index) (row : List ℕ) (expires : ℕ) (few : key_words ≤ length row) where
   -- it stays a part where an item is linked under a key that had none, and the index leads to it
   part_begun : (item : ItemId) (hash : ℕ) → BeginsAt item before after → HasRow item.chunk expires row after
-      → hash ≡ hash_of seed (take key_words row) → IsItemOf key_words (take key_words row) None before.part
-      → IsPart seed key_words after.part (leads_anew hash None item index)
+      → hash ≡ hash_of seed (take key_words row) → IsItemOf key_words (take key_words row) None before.sheet
+      → IsPart seed key_words after.sheet (leads_anew hash None item index)
   part_begun item hash begins has hashed unknown = record {
     count = ap₂ (λ f n. f + n) begins.class.first begins.class.count
         ∙ (is.count ∙ sym (length-set index item.chunk (Some (record { hash = hash; generation = item.generation }))));
     own = own_begun item before after begins is.own;
-    agrees = agrees_same seed (λ c. if item.chunk == c then Some item.generation else linked_at before.part c)
-        (λ c. if item.chunk == c then take key_words row else key_at key_words before.part c)
+    agrees = agrees_same seed (λ c. if item.chunk == c then Some item.generation else linked_at before.sheet c)
+        (λ c. if item.chunk == c then take key_words row else key_at key_words before.sheet c)
         (leads_anew hash None item index)
-        (agrees_with seed (linked_at before.part) (key_at key_words before.part) index is.agrees item.chunk
+        (agrees_with seed (linked_at before.sheet) (key_at key_words before.sheet) index is.agrees item.chunk
         item.generation hash (take key_words row)
-        (owned_within before.part index is.count item.chunk begins.own) hashed
+        (owned_within before.sheet index is.count item.chunk begins.own) hashed
         (λ c some same. unknown c (record { linked = some; key = same })))
-        (linked_at after.part) (key_at key_words after.part) begins.linked
+        (linked_at after.sheet) (key_at key_words after.sheet) begins.linked
         (key_begun before after item.chunk expires key_words row begins.words has few);
   }
 
   -- and where it is linked in place of the key's old item, which then ends
   part_replaced : (begun : BookView) (item : ItemId) (hash chunk : ℕ) → BeginsAt item before begun
       → HasRow item.chunk expires row begun → EndsAt chunk begun after
-      → HasKey key_words (take key_words row) before.part chunk
-      → IsPart seed key_words after.part (leads_anew hash (Some chunk) item index)
+      → HasKey key_words (take key_words row) before.sheet chunk
+      → IsPart seed key_words after.sheet (leads_anew hash (Some chunk) item index)
   part_replaced begun item hash chunk begins has ends had = record {
     count = ap₂ (λ f n. f + n) (ends.class.first ∙ begins.class.first) (ends.class.count ∙ begins.class.count)
         ∙ (is.count ∙ sym (length-set left item.chunk now ∙ length-set index chunk None));
     own = own_ended chunk begun after ends (own_begun item before begun begins is.own);
-    agrees = subst (λ at. Agrees seed (linked_at after.part) (key_at key_words after.part) (slice_set left item.chunk at))
+    agrees = subst (λ at. Agrees seed (linked_at after.sheet) (key_at key_words after.sheet) (slice_set left item.chunk at))
         (sym there.2)
         (agrees_same seed (λ c. if item.chunk == c then Some item.generation else without c)
-        (λ c. if item.chunk == c then take key_words row else key_at key_words before.part c)
+        (λ c. if item.chunk == c then take key_words row else key_at key_words before.sheet c)
         (slice_set left item.chunk (Some (record { hash = there.0.hash; generation = item.generation })))
-        (agrees_with seed without (key_at key_words before.part) left
-        (agrees_without seed (linked_at before.part) (key_at key_words before.part) index is.agrees chunk within)
+        (agrees_with seed without (key_at key_words before.sheet) left
+        (agrees_without seed (linked_at before.sheet) (key_at key_words before.sheet) index is.agrees chunk within)
         item.chunk item.generation there.0.hash (take key_words row)
         (subst (λ n. item.chunk < n) (sym (length-set index chunk None))
-        (owned_within before.part index is.count item.chunk begins.own))
+        (owned_within before.sheet index is.count item.chunk begins.own))
         (is.agrees.hashes chunk there.0 there.1 ∙ ap (hash_of seed) had.key) unknown)
-        (linked_at after.part) (key_at key_words after.part)
+        (linked_at after.sheet) (key_at key_words after.sheet)
         (λ c. ends.linked c ∙ (ap (λ (l : Option ℕ). if chunk == c then None else l) (begins.linked c)
-        ∙ both_linked (linked_at before.part c) item.generation chunk item.chunk c
+        ∙ both_linked (linked_at before.sheet c) item.generation chunk item.chunk c
         (begun_elsewhere before begun item chunk begins had.linked)))
-        (λ c. words_same begun.part after.part c 0 key_words (λ i. ends.words i c)
+        (λ c. words_same begun.sheet after.sheet c 0 key_words (λ i. ends.words i c)
         ∙ key_begun before begun item.chunk expires key_words row begins.words has few c));
   }
     where
@@ -124,20 +124,20 @@ module _ (seed : Seed) (key_words : ℕ) (before after : BookView) (index : List
       now = with_generation item.generation (led_at index chunk)
 
       without : ℕ → Option ℕ
-      without c = if chunk == c then None else linked_at before.part c
+      without c = if chunk == c then None else linked_at before.sheet c
 
       within : chunk < length index
       within = linked_within seed key_words before before index is chunk had.linked
 
       there : (led : Led) × (led_at index chunk ≡ Some led)
           × (now ≡ Some (record { hash = led.hash; generation = item.generation }))
-      there = led_anew (led_at index chunk) (linked_at before.part chunk) item.generation (is.agrees.leads chunk)
+      there = led_anew (led_at index chunk) (linked_at before.sheet chunk) item.generation (is.agrees.leads chunk)
           had.linked
 
-      unknown : (c : ℕ) → IsSome (without c) → key_at key_words before.part c ≡ take key_words row → ⊥
+      unknown : (c : ℕ) → IsSome (without c) → key_at key_words before.sheet c ≡ take key_words row → ⊥
       unknown c some same = by (chunk == c) refl some
         where
-          by : (b : Bool) → (chunk == c) ≡ b → IsSome (if b then None else linked_at before.part c) → ⊥
+          by : (b : Bool) → (chunk == c) ≡ b → IsSome (if b then None else linked_at before.sheet c) → ⊥
           by true e none = absurd (cc none)
           by false e linked = absurd (cc (sym e ∙ eq-eqb chunk c
               (sym (is.agrees.once c chunk linked had.linked (same ∙ sym had.key)))))
@@ -145,8 +145,8 @@ module _ (seed : Seed) (key_words : ℕ) (before after : BookView) (index : List
   -- so it does whichever way the key is put
   pub part_linked : (temporary old : Option ℕ) (item : ItemId) (hash now : ℕ)
       → Links temporary old row expires now item before after
-      → hash ≡ hash_of seed (take key_words row) → IsItemOf key_words (take key_words row) old before.part
-      → IsPart seed key_words after.part (leads_anew hash old item index)
+      → hash ≡ hash_of seed (take key_words row) → IsItemOf key_words (take key_words row) old before.sheet
+      → IsPart seed key_words after.sheet (leads_anew hash old item index)
   part_linked temporary None item hash now links hashed unknown = part_begun item hash
       (subst (BeginsAt item before) (sym links.ends) links.begins)
       (subst (HasRow item.chunk expires row) (sym links.ends) links.has_row) hashed unknown
@@ -163,7 +163,7 @@ module _ (temporary old : Option ℕ) (row : List ℕ) (expires now : ℕ) (item
   pub links_stay : OthersStay (Some item.chunk) old None before after
   links_stay = record {
     linked = λ c anew other none. ended_stay old links.begun after links.ends c other
-        ∙ (links.begins.linked c ∙ ap (λ b. if b then Some item.generation else linked_at before.part c)
+        ∙ (links.begins.linked c ∙ ap (λ b. if b then Some item.generation else linked_at before.sheet c)
         (ne_eqb item.chunk c (λ same. anew (ap Some same))));
     words = λ i c anew. ended_words old links.begun after links.ends i c
         ∙ links.begins.words i c (ne_eqb item.chunk c (λ same. anew (ap Some same)));
@@ -171,13 +171,13 @@ module _ (temporary old : Option ℕ) (row : List ℕ) (expires now : ℕ) (item
 
   -- the new item is under its key, where the key's old one was linked
   pub links_under : (key_words : ℕ) → key_words ≤ length row
-      → ((chunk : ℕ) → old ≡ Some chunk → IsSome (linked_at before.part chunk))
-      → HasKey key_words (take key_words row) after.part item.chunk
+      → ((chunk : ℕ) → old ≡ Some chunk → IsSome (linked_at before.sheet chunk))
+      → HasKey key_words (take key_words row) after.sheet item.chunk
   links_under key_words few was = record {
     linked = subst IsSome (sym (ended_stay old links.begun after links.ends item.chunk
         (λ same. begun_elsewhere before links.begun item item.chunk links.begins (was item.chunk same) refl)
         ∙ begun_linked before links.begun item links.begins)) refl;
-    key = words_same links.begun.part after.part item.chunk 0 key_words
+    key = words_same links.begun.sheet after.sheet item.chunk 0 key_words
         (λ i. ended_words old links.begun after links.ends i item.chunk)
         ∙ key_of_row links.begun item.chunk expires key_words row links.has_row few;
   }
@@ -191,18 +191,18 @@ module _ (temporary old : Option ℕ) (row : List ℕ) (expires now : ℕ) (item
 
   -- so it has the row's value
   pub links_value : (key_words value_words : ℕ) → length row ≡ key_words + value_words
-      → value_at key_words value_words after.part item.chunk ≡ drop key_words row
+      → value_at key_words value_words after.sheet item.chunk ≡ drop key_words row
   links_value key_words value_words all =
-      words_same links.begun.part after.part item.chunk key_words value_words
+      words_same links.begun.sheet after.sheet item.chunk key_words value_words
       (λ i. ended_words old links.begun after links.ends i item.chunk)
       ∙ value_of_row links.begun item.chunk expires key_words value_words row links.has_row all
 
 -- the old item is linked no more
 pub links_ended : (temporary old : Option ℕ) (row : List ℕ) (expires now : ℕ) (item : ItemId) (before after : BookView)
-    → Links temporary old row expires now item before after → IfSome old (λ chunk. linked_at after.part chunk ≡ None)
+    → Links temporary old row expires now item before after → IfSome old (λ chunk. linked_at after.sheet chunk ≡ None)
 links_ended temporary None row expires now item before after links = tt
 links_ended temporary (Some chunk) row expires now item before after links = links.ends.0.linked chunk
-    ∙ ap (λ b. if b then None else linked_at links.begun.part chunk) (eq-eqb chunk chunk refl)
+    ∙ ap (λ b. if b then None else linked_at links.begun.sheet chunk) (eq-eqb chunk chunk refl)
 
 -- what stays while room is made, and then while an item is linked
 pub stay_then : (chunk old evicted : Option ℕ) (before between after : BookView)
@@ -217,9 +217,9 @@ stay_then chunk old evicted before between after one other = record {
 -- what was evicted is linked no more but where the new item is linked in its chunk
 pub gone_then : (chunk : ℕ) (old evicted : Option ℕ) (before between after : BookView)
     → OthersStay (Some chunk) old None between after
-    → IfSome evicted (λ c. IsSome (linked_at before.part c) × (old ≡ None))
-    → IfSome evicted (λ c. linked_at between.part c ≡ None)
-    → IfSome evicted (λ c. c ≢ chunk → linked_at after.part c ≡ None)
+    → IfSome evicted (λ c. IsSome (linked_at before.sheet c) × (old ≡ None))
+    → IfSome evicted (λ c. linked_at between.sheet c ≡ None)
+    → IfSome evicted (λ c. c ≢ chunk → linked_at after.sheet c ≡ None)
 gone_then chunk old None before between after stay another gone = tt
 gone_then chunk old (Some c) before between after stay another gone = λ other.
     stay.linked c (λ same. let one : chunk ≡ c = cc same in other (sym one))

@@ -9,7 +9,7 @@ use Rattle.cache_lists.specs.Linked.{linked_at}
 use Rattle.cache_lists.specs.Looks.{LooksOnly}
 use Rattle.cache_lists.specs.Segments.{SameSegments}
 use Rattle.cache_lists.proofs.Standings.{kept_ends}
-use Rattle.cache_nests.specs.Views.{IndexView}
+use Rattle.cache_index.specs.Views.{IndexView}
 use Rattle.cache_part.specs.Expiring.{EndsBehindLook, HasNoneExpired}
 use Rattle.cache_part.specs.Parts.{PartView, counted}
 use Rattle.cache_part.specs.Taking.{EndsTaken, HasExpired}
@@ -25,16 +25,16 @@ none_before now chunk before seen looks none = subst (HasNoneExpired now chunk) 
 pub has_before : (now chunk : ℕ) (before seen : BookView) → LooksOnly before seen → HasExpired now chunk seen
     → HasExpired now chunk before
 has_before now chunk before seen looks has = record {
-  linked = subst (λ (b : BookView). IsSome (linked_at b.part chunk)) looks has.linked;
-  expired = subst (λ (b : BookView). expired_at now b.part chunk ≡ true) looks has.expired;
+  linked = subst (λ (b : BookView). IsSome (linked_at b.sheet chunk)) looks has.linked;
+  expired = subst (λ (b : BookView). expired_at now b.sheet chunk ≡ true) looks has.expired;
 }
 
 -- and has it still
 pub has_behind : (now chunk : ℕ) (before seen : BookView) → LooksOnly before seen → HasExpired now chunk before
     → HasExpired now chunk seen
 has_behind now chunk before seen looks has = record {
-  linked = subst (λ (b : BookView). IsSome (linked_at b.part chunk)) (sym looks) has.linked;
-  expired = subst (λ (b : BookView). expired_at now b.part chunk ≡ true) (sym looks) has.expired;
+  linked = subst (λ (b : BookView). IsSome (linked_at b.sheet chunk)) (sym looks) has.linked;
+  expired = subst (λ (b : BookView). expired_at now b.sheet chunk ≡ true) (sym looks) has.expired;
 }
 
 -- an item that ends behind loads ends

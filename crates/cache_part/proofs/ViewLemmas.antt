@@ -1,9 +1,14 @@
 -- What of a part's view stays.
-use Rattle.std.proofs.Common.{◌≡◌, ℕ, List, Option, None, Some, IfNone, ap, ap₂, ◌∙◌}
+use Rattle.std.proofs.Common.{◌≡◌, ℕ, List, Option, None, Some, IfNone, IfSome, ap, ap₂, ◌∙◌, subst}
+use Rattle.bump_rules.specs.Lists.{all_without}
 use Rattle.cache_lists.specs.declared.evictions.Evictions.{Evictions}
 use Rattle.cache_lists.specs.Counts.{CountedView}
-use Rattle.cache_nests.specs.Views.{Led, IndexView}
-use Rattle.cache_part.specs.Parts.{PartView, counted}
+use Rattle.cache_lists.specs.Items.{EndsAt}
+use Rattle.cache_lists.specs.Segments.{SameSegments}
+use Rattle.cache_index.specs.Views.{Led, IndexView}
+use Rattle.cache_part.specs.Looks.{LooksOnly}
+use Rattle.cache_part.specs.Parts.{PartView, IsUnder, IsUnknown, counted}
+use Rattle.cache_part.specs.Putting.{Removes}
 
 -- a part with other lists and another index
 abbrev pub with_both : PartView → CountedView → List (Option Led) → PartView
@@ -66,3 +71,18 @@ pub none_changes : (told : Option ℕ) (part now : PartView) (left : CountedView
 none_changes None part now left from to is rest same at =
     book_alone part now left to.table is rest (ap (λ (i : IndexView). i.table) same ∙ at)
 none_changes (Some chunk) part now left from to is rest same at = tt
+
+-- what is told of a removal's answer, both ways
+pub removes_item : (told : Option ℕ) (key : List ℕ) (before after : PartView)
+    → IfSome told (λ chunk. IsUnder key chunk before) → IfSome told (λ chunk. EndsAt chunk before.book after.book)
+    → IfSome told (λ chunk. SameSegments (all_without chunk before.book.lists) after.book.lists)
+    → IfNone told (IsUnknown key before) → IfNone told (LooksOnly before.book after.book)
+    → IfNone told (after ≡ record before { book = after.book }) → Removes key told before after
+removes_item None key before after found ends lists none looks rest = (none, record { looks = looks; rest = rest })
+removes_item (Some chunk) key before after found ends lists none looks rest =
+    record { under = found; ends = ends; lists = lists }
+
+-- a fact of a part before a call and behind it is one of what was seen of it before
+pub seen_from : (Fact : PartView → PartView → Type 0) (part now after : PartView) → part ≡ now → Fact part after
+    → Fact now after
+seen_from Fact part now after is fact = subst (λ v. Fact v after) is fact

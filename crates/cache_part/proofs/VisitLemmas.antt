@@ -3,12 +3,12 @@ use Rattle.std.proofs.Common.{◌≡◌, ℕ, zero, suc, ◌+◌, Bool, true, fa
 use Rattle.std.specs.List.{range_with_len}
 use Rattle.std.proofs.lemmas.Bool.{and_parts}
 use Rattle.std.proofs.lemmas.List.Elements.{filter-append}
-use Rattle.bump_steps.specs.declared.views.ClassPart.{ClassPart}
+use Rattle.bump_steps.specs.declared.views.ClassSheet.{ClassSheet}
 use Rattle.cache_lists.specs.Expiring.{expired_at}
 use Rattle.cache_lists.specs.Linked.{linked_at}
 use Rattle.cache_part.specs.Visiting.{has_unexpired, unexpired_among}
 
-module _ (now : ℕ) (class : ClassPart) (chunk : ℕ) where
+module _ (now : ℕ) (class : ClassSheet) (chunk : ℕ) where
   -- it has one that is linked and hasn't expired
   pub linked_fresh : IsSome (linked_at class chunk) → expired_at now class chunk ≡ false
       → has_unexpired now class chunk ≡ true
@@ -36,13 +36,13 @@ range_more first (suc count) =
     ∙ ap (λ n. range_with_len (first + 1) count ++ n ∷ []) same)
 
 -- the next chunk is among them where it has one
-pub among_more : (now : ℕ) (class : ClassPart) (first count : ℕ) → unexpired_among now class first (suc count)
+pub among_more : (now : ℕ) (class : ClassSheet) (first count : ℕ) → unexpired_among now class first (suc count)
     ≡ unexpired_among now class first count
     ++ cond (has_unexpired now class (first + count)) ((first + count) ∷ []) []
 among_more now class first count = ap (filter (has_unexpired now class)) (range_more first count)
     ∙ filter-append (has_unexpired now class) (range_with_len first count) ((first + count) ∷ [])
 
 -- what has one is linked
-pub linked_where : (now : ℕ) (class : ClassPart) (chunk : ℕ) → has_unexpired now class chunk ≡ true
+pub linked_where : (now : ℕ) (class : ClassSheet) (chunk : ℕ) → has_unexpired now class chunk ≡ true
     → IsSome (linked_at class chunk)
 linked_where now class chunk so = (and_parts (is_some (linked_at class chunk)) (not (expired_at now class chunk)) so).0

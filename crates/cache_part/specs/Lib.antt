@@ -25,6 +25,6 @@ pub use Rattle.cache_lists.specs.Linked
 pub use Rattle.cache_lists.specs.Looks as ListsLooks
 pub use Rattle.cache_lists.specs.Rescues
 pub use Rattle.cache_lists.specs.Segments
-pub use Rattle.cache_nests.specs.Views as NestsViews
+pub use Rattle.cache_index.specs.Views as NestsViews
 pub use Rattle.keyed_hash.specs.Hashes
-pub use Rattle.entry_times.specs.Times
+pub use Rattle.bump_rules.specs.Expiry

@@ -1,5 +1,5 @@
 -- What a put comes to.
-use Rattle.std.specs.Prelude.{◌≡◌, ◌≢◌, ℕ, ◌+◌, ◌<◌, ◌≤◌, ◌⊎◌, if◌then◌else◌, true, List, length, Option, None, Some, IsSome, IfSome, slice_set}
+use Rattle.std.specs.Prelude.{◌≡◌, ◌≢◌, ℕ, ◌+◌, ◌<◌, ◌≤◌, ◌⊎◌, if◌then◌else◌, true, List, ◌∷◌, length, take, drop, Option, None, Some, IsSome, IfSome, slice_set}
 use Rattle.bump_links.specs.Lists.{first_of, times}
 use Rattle.bump_rules.specs.declared.items.Head.{Head}
 use Rattle.bump_rules.specs.declared.items.ItemId.{ItemId}
@@ -7,8 +7,8 @@ use Rattle.bump_rules.specs.declared.places.Place.TheVariants.{Dying, Retired}
 use Rattle.bump_rules.specs.declared.places.Start.{Start}
 use Rattle.bump_rules.specs.declared.places.Start.TheVariants as start
 use Rattle.bump_rules.specs.Lists.{Lists, all_without}
-use Rattle.bump_steps.specs.declared.views.ClassPart.{ClassPart}
-use Rattle.bump_steps.specs.Views.{last_word, owns}
+use Rattle.bump_steps.specs.declared.views.ClassSheet.{ClassSheet}
+use Rattle.bump_steps.specs.Views.{last_label, last_word, owns}
 use Rattle.bump_heads.specs.Linking.{place_of_chunk}
 use Rattle.bump_class.specs.Books.{BookView}
 use Rattle.bump_class.specs.Changes.{book_with_words}
@@ -21,11 +21,13 @@ use Rattle.cache_lists.specs.Items.{victim, EndsAt, BeginsAt, HasRow}
 use Rattle.cache_lists.specs.Linked.{linked_at}
 use Rattle.cache_lists.specs.Rescues.{Evicts}
 use Rattle.cache_lists.specs.Segments.{SameSegments}
-use Rattle.cache_nests.specs.Views.{Led, led_at, with_generation}
-use Rattle.entry_times.specs.Times.{expires_within}
-use Rattle.cache_part.specs.Keys.{row_of}
+use Rattle.cache_index.specs.Views.{Led, led_at, with_generation}
+use Rattle.bump_rules.specs.Expiry.{expires_within}
+use Rattle.cache_part.specs.declared.putting.NoChunk.{NoChunk}
+use Rattle.cache_part.specs.declared.putting.PutItem.{PutItem}
+use Rattle.cache_part.specs.Keys.{row_of, value_at}
 use Rattle.cache_part.specs.Looks.{LooksOnly}
-use Rattle.cache_part.specs.Parts.{PartView}
+use Rattle.cache_part.specs.Parts.{PartView, IsItem, IsUnder, IsUnknown, OnlyReads, counted}
 use Rattle.cache_part.specs.Tending.{DrainsEach}
 
 -- how many items are linked
@@ -70,7 +72,7 @@ pub record DrainsAndSweeps (most now : ℕ) (before : CountedView) (from : List 
   pub heads : ℕ → Head
   pub sweeps : Sweeps drained.book freed after.book heads
   pub same : after ≡ record drained { book = after.book }
-  pub held : (chunk : ℕ) → owns chunk after.book.part ≡ true → place_of_chunk after.book.part chunk ≡ Dying
+  pub held : (chunk : ℕ) → owns chunk after.book.sheet ≡ true → place_of_chunk after.book.sheet chunk ≡ Dying
       → IsFoundHeld drained.book heads chunk
 
 -- Some chunks of ended items come free that nobody holds any more.
@@ -118,8 +120,8 @@ pub record FindsNone (items now : ℕ) (old evicted : Option ℕ) (most : ℕ) (
   pub swept : CountedView
   pub frees : FreesSome room.left swept
   pub all : DrainsAndSweeps most now swept from after to
-  pub each : (chunk : ℕ) → owns chunk after.book.part ≡ true → linked_at after.book.part chunk ≡ None
-      → (place_of_chunk after.book.part chunk ≡ Retired) ⊎ IsFoundHeld all.drained.book all.heads chunk
+  pub each : (chunk : ℕ) → owns chunk after.book.sheet ≡ true → linked_at after.book.sheet chunk ≡ None
+      → (place_of_chunk after.book.sheet chunk ≡ Retired) ⊎ IsFoundHeld all.drained.book all.heads chunk
 
 -- the key's old item ended, where it had one
 abbrev pub EndsOld : Option ℕ → BookView → BookView → Type 0
@@ -150,40 +152,105 @@ leads_anew hash (Some chunk) item index =
     slice_set (slice_set index chunk None) item.chunk (with_generation item.generation (led_at index chunk))
 
 -- What a put comes to: room was made, and then the item was linked.
-pub record Puts (items : ℕ) (temporary old evicted : Option ℕ) (row : List ℕ) (expires now chunk most : ℕ)
-    (before : CountedView) (from : List LaneView) (after : CountedView) (to : List LaneView) : Type 0 where
+pub record Puts (old evicted : Option ℕ) (row : List ℕ) (expires now chunk most : ℕ) (before : PartView)
+    (from : List LaneView) (after : PartView) (to : List LaneView) : Type 0 where
   pub between : CountedView
-  pub room : MakesRoom items now old evicted most before from between to
+  pub room : MakesRoom before.items now old evicted most (counted before) from between to
   pub item : ItemId
   pub at : item.chunk ≡ chunk
-  pub links : Links temporary old row expires now item between.book after.book
+  pub links : Links before.temporary old row expires now item between.book after.book
   pub evictions : after.evictions ≡ between.evictions
 
 -- An item that is none of these stays linked as it is, and its words stay.
 pub record OthersStay (chunk old evicted : Option ℕ) (before after : BookView) : Type 0 where
   pub linked : (c : ℕ) → chunk ≢ Some c → old ≢ Some c → evicted ≢ Some c
-      → linked_at after.part c ≡ linked_at before.part c
-  pub words : (i c : ℕ) → chunk ≢ Some c → last_word i after.part c ≡ last_word i before.part c
+      → linked_at after.sheet c ≡ linked_at before.sheet c
+  pub words : (i c : ℕ) → chunk ≢ Some c → last_word i after.sheet c ≡ last_word i before.sheet c
 
 -- the row of a chunk: its label, the words of its key, and then those of its value
 abbrev pub row_at : PartView → ℕ → List ℕ
-row_at part chunk = row_of (part.key_words + part.value_words) part.book.part chunk
+row_at part chunk = row_of (part.key_words + part.value_words) part.book.sheet chunk
 
 -- the label of the item that was evicted is told, and so many further words of it; where none was, what was there
 -- before stays
-abbrev pub TellsWords : ℕ → Option ℕ → List ℕ → List ℕ → ClassPart → Type 0
+abbrev pub TellsWords : ℕ → Option ℕ → List ℕ → List ℕ → ClassSheet → Type 0
 TellsWords count None before after class = after ≡ before
 TellsWords count (Some chunk) before after class = after ≡ row_of count class chunk
 
 -- so its row is
 abbrev pub TellsRow : Option ℕ → List ℕ → List ℕ → PartView → Type 0
 TellsRow evicted before after part =
-    TellsWords (part.key_words + part.value_words) evicted before after part.book.part
+    TellsWords (part.key_words + part.value_words) evicted before after part.book.sheet
 
 -- no item was linked at the chunk of the new item, but where it is that of the one that was evicted
 abbrev pub IsFresh : ℕ → Option ℕ → PartView → Type 0
-IsFresh chunk evicted part = evicted ≢ Some chunk → linked_at part.book.part chunk ≡ None
+IsFresh chunk evicted part = evicted ≢ Some chunk → linked_at part.book.sheet chunk ≡ None
 
 -- where one was evicted it was linked, and the key had none
 abbrev pub WasAnother : Option ℕ → Option ℕ → PartView → Type 0
-WasAnother old evicted part = IfSome evicted (λ chunk. IsSome (linked_at part.book.part chunk) × (old ≡ None))
+WasAnother old evicted part = IfSome evicted (λ chunk. IsSome (linked_at part.book.sheet chunk) × (old ≡ None))
+
+-- when the item of this chunk expires is told, and then its value; where there is none, what was there before stays
+abbrev pub TellsOldWords : ℕ → ℕ → Option ℕ → List ℕ → List ℕ → ClassSheet → Type 0
+TellsOldWords key_words value_words None before after class = after ≡ before
+TellsOldWords key_words value_words (Some chunk) before after class =
+    after ≡ last_label class chunk ∷ value_at key_words value_words class chunk
+
+-- so it is of a part
+abbrev pub TellsOld : Option ℕ → List ℕ → List ℕ → PartView → Type 0
+TellsOld old before after part = TellsOldWords part.key_words part.value_words old before after part.book.sheet
+
+-- What is told of a put: of the item that the key had, in words that were there before; and of the one that was evicted.
+pub record Told : Type 0 where
+  pub old : List ℕ
+  pub evicted : List ℕ
+
+-- A row was put at a chunk. The key's item was the old one, or it had none, and that is told; the new one is under the
+-- key, with its value, and the old one is linked no more. Each item that is none of these stays. One was evicted only
+-- where the key had none: it was linked, its row is told, and it is linked no more, but that the new one may be at its
+-- chunk; else nothing was linked at the new one's chunk.
+pub record PutsItem (did : PutItem) (row : List ℕ) (expires now most : ℕ) (was told : Told) (before : PartView)
+    (from : List LaneView) (after : PartView) (to : List LaneView) : Type 0 where
+  pub item : IsItem (take before.key_words row) did.old before
+  pub had : TellsOld did.old was.old told.old before
+  pub under : IsUnder (take before.key_words row) did.chunk after
+  pub value : value_at before.key_words before.value_words after.book.sheet did.chunk ≡ drop before.key_words row
+  pub has_row : HasRow did.chunk expires row after.book
+  pub ended : IfSome did.old (λ chunk. linked_at after.book.sheet chunk ≡ None)
+  pub others : OthersStay (Some did.chunk) did.old did.evicted before.book after.book
+  pub was_another : WasAnother did.old did.evicted before
+  pub evicted : TellsRow did.evicted was.evicted told.evicted before
+  pub gone : IfSome did.evicted (λ c. c ≢ did.chunk → linked_at after.book.sheet c ≡ None)
+  pub fresh : IsFresh did.chunk did.evicted before
+  pub puts : Puts did.old did.evicted row expires now did.chunk most before from after to
+
+-- Room was made for an item with this key, for which this one was evicted, and at most so many bumps of each lane were
+-- applied; and no chunk is free.
+pub record FindsNoRoom (key : List ℕ) (evicted : Option ℕ) (now most : ℕ) (before : PartView) (from : List LaneView)
+    (after : PartView) (to : List LaneView) : Type 0 where
+  pub old : Option ℕ
+  pub item : IsItem key old before
+  pub none : FindsNone before.items now old evicted most (counted before) from (counted after) to
+
+-- A row wasn't put, since no chunk was free. Each item stays but the one that was evicted, if one was: it was linked, its
+-- row is told, and it is linked no more.
+pub record RefusesItem (why : NoChunk) (row : List ℕ) (now most : ℕ) (was told : Told) (before : PartView)
+    (from : List LaneView) (after : PartView) (to : List LaneView) : Type 0 where
+  pub had : told.old ≡ was.old
+  pub others : OthersStay None None why.evicted before.book after.book
+  pub was_linked : IfSome why.evicted (λ c. IsSome (linked_at before.book.sheet c))
+  pub evicted : TellsRow why.evicted was.evicted told.evicted before
+  pub gone : IfSome why.evicted (λ c. linked_at after.book.sheet c ≡ None)
+  pub room : FindsNoRoom (take before.key_words row) why.evicted now most before from after to
+
+-- The key's item ended, which is that of this chunk, and the others stay in their lists, in their order.
+pub record EndsUnder (key : List ℕ) (chunk : ℕ) (before after : PartView) : Type 0 where
+  pub under : IsUnder key chunk before
+  pub ends : EndsAt chunk before.book after.book
+  pub lists : SameSegments (all_without chunk before.book.lists) after.book.lists
+
+-- the item of a key ended, which is that of this chunk; or the key had none, and nothing changed but what the class's seat
+-- notes of its loads
+abbrev pub Removes : List ℕ → Option ℕ → PartView → PartView → Type 0
+Removes key None before after = IsUnknown key before × OnlyReads before after
+Removes key (Some chunk) before after = EndsUnder key chunk before after

@@ -14,12 +14,6 @@ stats_of part = record {
   moves_to_cold = capped (part.flow.hot_to_cold + part.flow.warm_to_cold);
   moves_to_warm = capped (part.flow.hot_to_warm + part.flow.cold_to_warm);
   moves_within_lru = part.flow.warm_to_warm;
-  evicted = part.evictions.evicted;
-  evicted_unfetched = part.evictions.unfetched;
-  evicted_active = part.evictions.active;
-  direct_reclaims = part.evictions.evicted;
-  reclaimed = part.evictions.reclaimed;
-  expired_unfetched = part.evictions.expired_unfetched;
-  crawler_reclaimed = part.evictions.crawler_reclaimed;
+  evictions = part.evictions;
   flow = part.flow;
 }

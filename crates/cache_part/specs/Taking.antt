@@ -9,17 +9,17 @@ use Rattle.cache_part.specs.Parts.{PartView, counted}
 
 -- An item is linked at this chunk that has expired at this time.
 pub record HasExpired (now chunk : ℕ) (book : BookView) : Type 0 where
-  pub linked : IsSome (linked_at book.part chunk)
-  pub expired : expired_at now book.part chunk ≡ true
+  pub linked : IsSome (linked_at book.sheet chunk)
+  pub expired : expired_at now book.sheet chunk ≡ true
 
 -- of so many chunks of the class in turn, from that with this number on, none has an item that has expired
 abbrev pub NoneInTurn : ℕ → ℕ → ℕ → BookView → Type 0
-NoneInTurn from looks now book = (chunk : ℕ) → IsInTurn from looks book.part chunk → HasNoneExpired now chunk book
+NoneInTurn from looks now book = (chunk : ℕ) → IsInTurn from looks book.sheet chunk → HasNoneExpired now chunk book
 
 -- None of so many chunks in turn has such an item, and the next turn begins behind them.
 pub record PassesAll (looks from now cursor : ℕ) (book : BookView) : Type 0 where
   pub none : NoneInTurn from looks now book
-  pub behind : cursor ≡ number_behind from looks book.part.count
+  pub behind : cursor ≡ number_behind from looks book.sheet.count
 
 -- Of so many chunks in turn this is the first that has such an item: none of those that were passed before it has one,
 -- and the next turn begins behind it.
@@ -27,9 +27,9 @@ pub record PassesUntil (looks from now chunk cursor : ℕ) (book : BookView) : T
   pub passed : ℕ
   pub few : passed < looks
   pub none : NoneInTurn from passed now book
-  pub at : chunk ≡ book.part.first + number_behind from passed book.part.count
+  pub at : chunk ≡ book.sheet.first + number_behind from passed book.sheet.count
   pub has : HasExpired now chunk book
-  pub behind : cursor ≡ number_behind from (passed + 1) book.part.count
+  pub behind : cursor ≡ number_behind from (passed + 1) book.sheet.count
 
 -- the next one is this chunk, or there is none
 abbrev pub FindsNext : ℕ → ℕ → ℕ → Option ℕ → ℕ → BookView → Type 0

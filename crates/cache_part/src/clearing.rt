@@ -9,8 +9,8 @@ use crate::ending;
 use crate::putting::Settings;
 use bump_heads::Name;
 use bump_steps::RowLaw;
+use cache_index::Index;
 use cache_lists::CountedBook;
-use cache_nests::Index;
 
 // Each item ends to which the index leads: there is no other that is linked.
 pub(crate) fn clear<N: Name, L: RowLaw>(
@@ -18,11 +18,11 @@ pub(crate) fn clear<N: Name, L: RowLaw>(
     index: &mut Index,
     _settings: Settings,
 )
-    requires part { IsPart _settings.seed _settings.key_words lists.old.book.part index.old.table }
-    requires first { index.old.first ≡ lists.old.book.part.first }
-    ensures part { IsPart _settings.seed _settings.key_words lists.new.book.part index.new.table }
-    ensures empty { (chunk : ℕ) → linked_at lists.new.book.part chunk ≡ None }
-    ensures words { (i c : ℕ) → last_word i lists.new.book.part c ≡ last_word i lists.old.book.part c }
+    requires part { IsPart _settings.seed _settings.key_words lists.old.book.sheet index.old.table }
+    requires first { index.old.first ≡ lists.old.book.sheet.first }
+    ensures part { IsPart _settings.seed _settings.key_words lists.new.book.sheet index.new.table }
+    ensures empty { (chunk : ℕ) → linked_at lists.new.book.sheet chunk ≡ None }
+    ensures words { (i c : ℕ) → last_word i lists.new.book.sheet c ≡ last_word i lists.old.book.sheet c }
     ensures class { IsSameClass lists.old.book lists.new.book }
     ensures evictions { lists.new.evictions ≡ lists.old.evictions }
     ensures first { index.new.first ≡ index.old.first }

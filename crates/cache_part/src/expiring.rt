@@ -6,10 +6,10 @@ ghost use Rattle.cache_part.specs.Parts.{IsPart};
 
 use crate::putting::Settings;
 use bump_heads::Name;
+use bump_rules::has_expired;
 use bump_steps::RowLaw;
+use cache_index::Index;
 use cache_lists::CountedBook;
-use cache_nests::Index;
-use entry_times::has_expired;
 
 // Ends the item of a chunk, where it has one that has expired, and tells whether it did.
 fn end_where_expired<N: Name, L: RowLaw>(
@@ -19,11 +19,11 @@ fn end_where_expired<N: Name, L: RowLaw>(
     chunk: u32,
     now: u64,
 ) -> bool
-    requires part { IsPart _settings.seed _settings.key_words lists.old.book.part index.old.table }
-    requires first { index.old.first ≡ lists.old.book.part.first }
-    requires from { lists.old.book.part.first ≤ chunk }
+    requires part { IsPart _settings.seed _settings.key_words lists.old.book.sheet index.old.table }
+    requires first { index.old.first ≡ lists.old.book.sheet.first }
+    requires from { lists.old.book.sheet.first ≤ chunk }
     requires within { chunk < length index.old.table }
-    ensures part { IsPart _settings.seed _settings.key_words lists.new.book.part index.new.table }
+    ensures part { IsPart _settings.seed _settings.key_words lists.new.book.sheet index.new.table }
     ensures first { index.new.first ≡ index.old.first }
     ensures looks { LooksAt chunk now result lists.old lists.new }
     ensures ended { HasNoneExpired now chunk lists.new.book }
@@ -66,18 +66,18 @@ pub(crate) fn end_expired<N: Name, L: RowLaw>(
     most: u32,
     now: u64,
 ) -> Turn
-    requires part { IsPart settings.seed settings.key_words lists.old.book.part index.old.table }
-    requires first { index.old.first ≡ lists.old.book.part.first }
-    requires cursor { cursor ≤ lists.old.book.part.count - 1 }
-    ensures part { IsPart settings.seed settings.key_words lists.new.book.part index.new.table }
+    requires part { IsPart settings.seed settings.key_words lists.old.book.sheet index.old.table }
+    requires first { index.old.first ≡ lists.old.book.sheet.first }
+    requires cursor { cursor ≤ lists.old.book.sheet.count - 1 }
+    ensures part { IsPart settings.seed settings.key_words lists.new.book.sheet index.new.table }
     ensures first { index.new.first ≡ index.old.first }
     ensures looks { LooksAround (looks_of most lists.old.book) cursor now result.ended lists.old lists.new }
-    ensures ended { (chunk : ℕ) → IsInTurn cursor (looks_of most lists.old.book) lists.old.book.part chunk
+    ensures ended { (chunk : ℕ) → IsInTurn cursor (looks_of most lists.old.book) lists.old.book.sheet chunk
         → HasNoneExpired now chunk lists.new.book }
     ensures kept { KeepsUnexpired now lists.old.book lists.new.book }
     ensures cursor { result.cursor
-        ≡ number_behind cursor (looks_of most lists.old.book) lists.old.book.part.count }
-    ensures within { result.cursor ≤ lists.new.book.part.count - 1 }
+        ≡ number_behind cursor (looks_of most lists.old.book) lists.old.book.sheet.count }
+    ensures within { result.cursor ≤ lists.new.book.sheet.count - 1 }
 {
     let chunks = index.range();
     let count = chunks.end - chunks.start;

@@ -1,15 +1,18 @@
 //! The item of a key is found.
-ghost use Rattle.std.specs.Prelude.{◌≡◌, ◌≢◌, ◌≤◌, true, false, length};
+ghost use Rattle.std.specs.Prelude.{◌≡◌, ◌≢◌, ◌+◌, ◌≤◌, true, false, suc, length};
 ghost use Rattle.bump_steps.specs.Views.{owns};
 ghost use Rattle.keyed_hash.specs.Hashes.{hash_of};
 ghost use Rattle.cache_part.specs.Keys.{key_at, IsItemOf};
 ghost use Rattle.cache_part.specs.Looks.{LooksOnly};
 ghost use Rattle.cache_part.specs.Parts.{IsPart};
+ghost use Rattle.cache_part.specs.Putting.{TellsOldWords};
 
+use crate::putting::Settings;
+use crate::reading;
 use bump_heads::Name;
 use bump_steps::RowLaw;
+use cache_index::Index;
 use cache_lists::CountedBook;
-use cache_nests::Index;
 use keyed_hash::Seed;
 
 // What the search for a key found.
@@ -29,11 +32,11 @@ fn has_key<N: Name, L: RowLaw>(
     key_words: u32,
     key: &[u64],
 ) -> bool
-    requires own { owns chunk lists.old.book.part ≡ true }
+    requires own { owns chunk lists.old.book.sheet ≡ true }
     requires words { length key.now ≡ key_words }
     requires few { key_words ≤ N.table.slots }
-    ensures same { result ≡ true → key_at key_words lists.old.book.part chunk ≡ key.now }
-    ensures other { result ≡ false → key_at key_words lists.old.book.part chunk ≢ key.now }
+    ensures same { result ≡ true → key_at key_words lists.old.book.sheet chunk ≡ key.now }
+    ensures other { result ≡ false → key_at key_words lists.old.book.sheet chunk ≢ key.now }
     ensures looks { LooksOnly lists.old.book lists.new.book }
     ensures rest { lists.new ≡ record lists.old { book = lists.new.book } }
 {
@@ -53,11 +56,11 @@ pub(crate) fn find<N: Name, L: RowLaw>(
     key_words: u32,
     key: &[u64],
 ) -> Found
-    requires part { IsPart seed key_words lists.old.book.part index.old.table }
+    requires part { IsPart seed key_words lists.old.book.sheet index.old.table }
     requires words { length key.now ≡ key_words }
     requires few { key_words ≤ N.table.slots }
     ensures hash { result.hash ≡ hash_of seed key.now }
-    ensures item { IsItemOf key_words key.now result.chunk lists.old.book.part }
+    ensures item { IsItemOf key_words key.now result.chunk lists.old.book.sheet }
     ensures looks { LooksOnly lists.old.book lists.new.book }
     ensures rest { lists.new ≡ record lists.old { book = lists.new.book } }
     ensures index { index.new ≡ index.old }
@@ -73,4 +76,33 @@ pub(crate) fn find<N: Name, L: RowLaw>(
         }
     }
     Found { hash, chunk: None }
+}
+
+// The chunk of the item of a key; and when it expires is told, and its value.
+pub(crate) fn look<N: Name, L: RowLaw>(
+    lists: &mut CountedBook<N, L>,
+    index: &mut Index,
+    settings: Settings,
+    key: &[u64],
+    told: &mut [u64],
+) -> Option<u32>
+    requires part { IsPart settings.seed settings.key_words lists.old.book.sheet index.old.table }
+    requires words { length key.now ≡ settings.key_words }
+    requires told { length told.old ≡ suc settings.value_words }
+    requires few { settings.key_words + settings.value_words ≤ N.table.slots }
+    ensures item { IsItemOf settings.key_words key.now result lists.old.book.sheet }
+    ensures told { TellsOldWords settings.key_words settings.value_words result told.old told.new lists.old.book.sheet }
+    ensures looks { LooksOnly lists.old.book lists.new.book }
+    ensures rest { lists.new ≡ record lists.old { book = lists.new.book } }
+    ensures index { index.new ≡ index.old }
+{
+    let found = find(lists, index, settings.seed, settings.key_words, key);
+    reading::read_value(
+        lists,
+        found.chunk,
+        settings.key_words,
+        settings.value_words,
+        told,
+    );
+    found.chunk
 }

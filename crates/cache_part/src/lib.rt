@@ -16,8 +16,8 @@ mod taking;
 mod tending;
 mod visiting;
 
+pub use cache_index::{Index, IndexReader};
 pub use cache_lists::{Book, Bound, Bounds, CountedBook, Evictions, Flow, Name, RawLane, RowLaw};
-pub use cache_nests::{Index, IndexReader};
 pub use keyed_hash::Seed;
 pub use parts::Part;
 pub use putting::{NoChunk, PutItem};

@@ -1,19 +1,18 @@
 //! A part: the lists of items, the index of their keys, and what is done with both.
-ghost use Rattle.std.specs.Prelude.{◌≡◌, ◌≢◌, ℕ, ◌+◌, ◌-◌, ◌<◌, ◌≤◌, IsSome, IfSome, IfNone, IfOk, IfErr, Option, Some, None, true, false, [], suc, length, replicate, take, drop};
+ghost use Rattle.std.specs.Prelude.{◌≡◌, ℕ, ◌+◌, ◌-◌, ◌<◌, ◌≤◌, IfSome, IfNone, IfOk, IfErr, None, true, false, [], suc, length, replicate};
 ghost use Rattle.bump_class.specs.Books.{IsBook};
 ghost use Rattle.bump_class.specs.Links.{MayHave};
-ghost use Rattle.bump_links.specs.Lists.{first_of};
 ghost use Rattle.bump_rules.specs.Lists.{all_without};
 ghost use Rattle.bump_steps.specs.Views.{owns, last_label, last_word};
 ghost use Rattle.cache_lists.specs.Counts.{IsFlow, SegmentsAddUp, no_flow, no_evictions};
-ghost use Rattle.cache_lists.specs.Items.{EndsAt, KeepsItems, HasRow, IsSameClass};
+ghost use Rattle.cache_lists.specs.Items.{EndsAt, KeepsItems, IsSameClass};
 ghost use Rattle.cache_lists.specs.Linked.{linked_at};
 ghost use Rattle.cache_lists.specs.Segments.{SameSegments};
 ghost use Rattle.cache_part.specs.Expiring.{KeepsUnexpired, LooksAround, LooksInTurn, looks_of};
-ghost use Rattle.cache_part.specs.Keys.{value_at, words_from};
+ghost use Rattle.cache_part.specs.Keys.{words_from};
 ghost use Rattle.cache_part.specs.Looks.{LooksOnly};
-ghost use Rattle.cache_part.specs.Parts.{PartView as ThePartView, IsPart, IsUnder, IsUnknown, IsItem, counted};
-ghost use Rattle.cache_part.specs.Putting.{FindsNone, Puts, IsFresh, OthersStay, TellsRow, WasAnother, row_at};
+ghost use Rattle.cache_part.specs.Parts.{PartView as ThePartView, IsItem, IsPart, IsUnder, IsUnknown, OnlyReads, counted};
+ghost use Rattle.cache_part.specs.Putting.{PutsItem, RefusesItem, Removes, TellsOld, TellsRow, row_at};
 ghost use Rattle.cache_part.specs.Taking.{TakesNext};
 ghost use Rattle.cache_part.specs.Tending.{BalancesByAge, DrainsEach, Tends};
 ghost use Rattle.cache_part.specs.Visiting.{has_unexpired};
@@ -23,8 +22,8 @@ use crate::{clearing, ending, expiring, finding, reading, replacing, taking, ten
 use bump_class::{Book, RawLane};
 use bump_heads::Name;
 use bump_steps::{AnyRow, RowLaw};
+use cache_index::Index;
 use cache_lists::{Bounds, CountedBook};
-use cache_nests::Index;
 use keyed_hash::Seed;
 use std::marker::Model;
 use std::ops::Range;
@@ -58,9 +57,9 @@ impl<N: Name, L: RowLaw> Model for Part<N, L> {
       cursor = p.cursor;
     } };
 
-    ghost invariant = { λ p. IsPart p.settings.seed p.settings.key_words p.lists.book.part p.index.table
+    ghost invariant = { λ p. IsPart p.settings.seed p.settings.key_words p.lists.book.sheet p.index.table
         × (p.settings.key_words + p.settings.value_words ≤ N.table.slots)
-        × (p.cursor ≤ p.lists.book.part.count - 1) × (p.index.first ≡ p.lists.book.part.first) };
+        × (p.cursor ≤ p.lists.book.sheet.count - 1) × (p.index.first ≡ p.lists.book.sheet.first) };
 }
 
 impl<N: Name, L: RowLaw> Part<N, L> {
@@ -77,9 +76,9 @@ impl<N: Name, L: RowLaw> Part<N, L> {
         items: u32,
         temporary: Option<u64>,
     ) -> Part<N, L>
-        requires first { index.first ≡ book.part.first }
-        requires history { book.part.history ≡ [] }
-        requires index { index.table ≡ replicate (book.part.first + book.part.count) None }
+        requires first { index.first ≡ book.sheet.first }
+        requires history { book.sheet.history ≡ [] }
+        requires index { index.table ≡ replicate (book.sheet.first + book.sheet.count) None }
         requires words { key_words + value_words ≤ N.table.slots }
         ensures { result ≡ record {
           book = book;
@@ -112,13 +111,13 @@ impl<N: Name, L: RowLaw> Part<N, L> {
     /// are those of a Book that counts how its items go, and the next turn of looks begins at one of its chunks, if it
     /// has any.
     pub fn promise(&self)
-        ensures part { IsPart self.now.seed self.now.key_words self.now.book.part self.now.index }
+        ensures part { IsPart self.now.seed self.now.key_words self.now.book.sheet self.now.index }
         ensures words { self.now.key_words + self.now.value_words ≤ N.table.slots }
         ensures book { IsBook self.now.book }
-        ensures flow { IsFlow self.now.flow self.now.book.part }
+        ensures flow { IsFlow self.now.flow self.now.book.sheet }
         ensures sums { SegmentsAddUp (length self.now.book.lists.hot) (length self.now.book.lists.warm)
-            (length self.now.book.lists.cold) (length self.now.book.lists.temp) self.now.book.part }
-        ensures cursor { self.now.cursor ≤ self.now.book.part.count - 1 }
+            (length self.now.book.lists.cold) (length self.now.book.lists.temp) self.now.book.sheet }
+        ensures cursor { self.now.cursor ≤ self.now.book.sheet.count - 1 }
     {
         self.lists.promise();
     }
@@ -133,9 +132,9 @@ impl<N: Name, L: RowLaw> Part<N, L> {
     /// A further word of a chunk of the class, as it was stored last: the key's from 0 on, and behind them the value's.
     /// `index` is below the number of further words. A chunk's words stay until an item is linked there.
     pub fn word(&mut self, chunk: u32, index: u32) -> u64
-        requires own { owns chunk self.old.book.part ≡ true }
+        requires own { owns chunk self.old.book.sheet ≡ true }
         requires index { index < N.table.slots }
-        ensures stored { result ≡ last_word (suc index) self.old.book.part chunk }
+        ensures stored { result ≡ last_word (suc index) self.old.book.sheet chunk }
         ensures looks { LooksOnly self.old.book self.new.book }
         ensures rest { self.new ≡ record self.old { book = self.new.book } }
     {
@@ -145,8 +144,8 @@ impl<N: Name, L: RowLaw> Part<N, L> {
     /// The label of a chunk of the class, as it was stored last: when its item expires, in the caller's ticks, or 0
     /// where it never does. It stays until an item is linked there.
     pub fn expires(&mut self, chunk: u32) -> u64
-        requires own { owns chunk self.old.book.part ≡ true }
-        ensures stored { result ≡ last_label self.old.book.part chunk }
+        requires own { owns chunk self.old.book.sheet ≡ true }
+        ensures stored { result ≡ last_label self.old.book.sheet chunk }
         ensures looks { LooksOnly self.old.book self.new.book }
         ensures rest { self.new ≡ record self.old { book = self.new.book } }
     {
@@ -158,9 +157,9 @@ impl<N: Name, L: RowLaw> Part<N, L> {
     /// together at most the number of further words that a chunk has. A chunk's words stay until an item is linked
     /// there.
     pub fn read(&mut self, chunk: u32, from: u32, words: &mut [u64])
-        requires own { owns chunk self.old.book.part ≡ true }
+        requires own { owns chunk self.old.book.sheet ≡ true }
         requires few { from + length words.old ≤ N.table.slots }
-        ensures read { words.new ≡ words_from from (length words.old) self.old.book.part chunk }
+        ensures read { words.new ≡ words_from from (length words.old) self.old.book.sheet chunk }
         ensures looks { LooksOnly self.old.book self.new.book }
         ensures rest { self.new ≡ record self.old { book = self.new.book } }
     {
@@ -187,32 +186,38 @@ impl<N: Name, L: RowLaw> Part<N, L> {
         .chunk
     }
 
-    /// Ends the item of this key, and tells its chunk; or None exactly where no item has the key, and then nothing
-    /// changes but what the class's seat notes of its loads. The index leads to it no more before it ends. Its words
-    /// can still be read, by `word`, until an item is linked at its chunk.
-    pub fn remove(&mut self, key: &[u64]) -> Option<u32>
-        requires { length key.now ≡ self.old.key_words }
-        ensures found { IfSome result (λ chunk. IsUnder key.now chunk self.old) }
-        ensures ends { IfSome result (λ chunk. EndsAt chunk self.old.book self.new.book) }
-        ensures others { IfSome result (λ chunk. SameSegments (all_without chunk self.old.book.lists)
-            self.new.book.lists) }
-        ensures none { IfNone result (IsUnknown key.now self.old) }
-        ensures looks { IfNone result (LooksOnly self.old.book self.new.book) }
-        ensures unchanged { IfNone result (self.new ≡ record self.old { book = self.new.book }) }
+    /// Looks for the item of this key, and tells its chunk, and when it expires and its value in `told`, which has one
+    /// word more than a value; or None exactly where no item has the key, and then the words of `told` stay. Nothing
+    /// changes, but what the class's seat notes of its loads.
+    pub fn look(&mut self, key: &[u64], told: &mut [u64]) -> Option<u32>
+        requires key { length key.now ≡ self.old.key_words }
+        requires told { length told.old ≡ suc self.old.value_words }
+        ensures item { IsItem key.now result self.old }
+        ensures told { TellsOld result told.old told.new self.old }
+        ensures length { length told.new ≡ length told.old }
+        ensures reads { OnlyReads self.old self.new }
+    {
+        finding::look(&mut self.lists, &mut self.index, self.settings, key, told)
+    }
+
+    /// Ends the item of this key, and tells its chunk, and when it expires and its value in `old`, which has one word
+    /// more than a value; or None exactly where no item has the key, and then the words of `old` stay, and nothing
+    /// changes but what the class's seat notes of its loads. The index leads to it no more before it ends. The other
+    /// items stay in their lists, in their order. Its words can still be read, by `word`, until an item is linked at
+    /// its chunk.
+    pub fn remove(&mut self, key: &[u64], old: &mut [u64]) -> Option<u32>
+        requires key { length key.now ≡ self.old.key_words }
+        requires old { length old.old ≡ suc self.old.value_words }
+        ensures removes { Removes key.now result self.old self.new }
+        ensures told { TellsOld result old.old old.new self.old }
+        ensures length { length old.new ≡ length old.old }
         ensures rest { self.new ≡ record self.old {
           book = self.new.book;
           flow = self.new.flow;
           index = self.new.index;
         } }
     {
-        let settings = self.settings;
-        ending::remove(
-            &mut self.lists,
-            &mut self.index,
-            settings.seed,
-            settings.key_words,
-            key,
-        )
+        ending::remove(&mut self.lists, &mut self.index, self.settings, key, old)
     }
 
     /// Ends each item that is linked, whatever its marks. The index leads to none of them any more, and to each no more
@@ -220,8 +225,8 @@ impl<N: Name, L: RowLaw> Part<N, L> {
     /// evicted. It looks at each chunk of the class once, also where few items are linked: its time is in proportion to
     /// the number of chunks.
     pub fn clear(&mut self)
-        ensures empty { (chunk : ℕ) → linked_at self.new.book.part chunk ≡ None }
-        ensures words { (i c : ℕ) → last_word i self.new.book.part c ≡ last_word i self.old.book.part c }
+        ensures empty { (chunk : ℕ) → linked_at self.new.book.sheet chunk ≡ None }
+        ensures words { (i c : ℕ) → last_word i self.new.book.sheet c ≡ last_word i self.old.book.sheet c }
         ensures class { IsSameClass self.old.book self.new.book }
         ensures rest { self.new ≡ record self.old {
           book = self.new.book;
@@ -243,6 +248,9 @@ impl<N: Name, L: RowLaw> Part<N, L> {
     /// expired already, and else in HOT; the index leads to it, and behind that the key's old item ends, whether it had
     /// expired or not. The table's law holds of whatever row begins with the label `expires` and these words.
     ///
+    /// When the key's old item expires is told in `old`, and then its value: it has one word more than a value. Where
+    /// the key has none, or the put is refused, its words stay.
+    ///
     /// `evicted` has room for a label and a row. Where an item is evicted, also where the put is refused then, its
     /// label is written there, which says when it expires, and then the words of its key and of its value. They are
     /// read before chunks come free, since the new item may be linked in its chunk. Where none is evicted `evicted`
@@ -251,38 +259,23 @@ impl<N: Name, L: RowLaw> Part<N, L> {
         &mut self,
         row: &[u64],
         expires: u64,
+        old: &mut [u64],
         evicted: &mut [u64],
         lanes: &mut [RawLane<N, L>],
         most: u32,
         now: u64,
     ) -> Result<PutItem, NoChunk>
         requires words { length row.now ≡ self.old.key_words + self.old.value_words }
+        requires old { length old.old ≡ suc self.old.value_words }
         requires evicted { length evicted.old ≡ suc (self.old.key_words + self.old.value_words) }
         requires law { MayHave L.law expires row.now }
-        ensures old { IfOk result (λ did. IsItem (take self.old.key_words row.now) did.old self.old) }
-        ensures under { IfOk result (λ did. IsUnder (take self.old.key_words row.now) did.chunk self.new) }
-        ensures value { IfOk result (λ did. value_at self.old.key_words self.old.value_words self.new.book.part did.chunk
-            ≡ drop self.old.key_words row.now) }
-        ensures ended { IfOk result (λ did. IfSome did.old (λ chunk. linked_at self.new.book.part chunk ≡ None)) }
-        ensures others { IfOk result (λ did. OthersStay (Some did.chunk) did.old did.evicted self.old.book
-            self.new.book) }
-        ensures puts { IfOk result (λ did. Puts self.old.items self.old.temporary did.old did.evicted row.now expires now
-            did.chunk most (counted self.old) lanes.old (counted self.new) lanes.new) }
-        ensures row { IfOk result (λ did. HasRow did.chunk expires row.now self.new.book) }
-        ensures length { length evicted.new ≡ length evicted.old }
-        ensures told { IfOk result (λ did. TellsRow did.evicted evicted.old evicted.new self.old) }
-        ensures was { IfOk result (λ did. WasAnother did.old did.evicted self.old) }
-        ensures gone { IfOk result (λ did. IfSome did.evicted (λ c. c ≢ did.chunk
-            → linked_at self.new.book.part c ≡ None)) }
-        ensures fresh { IfOk result (λ did. IsFresh did.chunk did.evicted self.old) }
-        ensures no_room { IfErr result (λ why. first_of self.new.book.lists.unused ≡ None) }
-        ensures room { IfErr result (λ why. (old : Option ℕ) × IsItem (take self.old.key_words row.now) old self.old
-            × FindsNone self.old.items now old why.evicted most (counted self.old) lanes.old (counted self.new)
-            lanes.new) }
-        ensures stay { IfErr result (λ why. OthersStay None None why.evicted self.old.book self.new.book) }
-        ensures told_refused { IfErr result (λ why. TellsRow why.evicted evicted.old evicted.new self.old) }
-        ensures was_refused { IfErr result (λ why. IfSome why.evicted (λ c. IsSome (linked_at self.old.book.part c))) }
-        ensures gone_refused { IfErr result (λ why. IfSome why.evicted (λ c. linked_at self.new.book.part c ≡ None)) }
+        ensures puts { IfOk result (λ did. PutsItem did row.now expires now most
+            (record { old = old.old; evicted = evicted.old }) (record { old = old.new; evicted = evicted.new }) self.old
+            lanes.old self.new lanes.new) }
+        ensures refuses { IfErr result (λ why. RefusesItem why row.now now most
+            (record { old = old.old; evicted = evicted.old }) (record { old = old.new; evicted = evicted.new }) self.old
+            lanes.old self.new lanes.new) }
+        ensures lengths { (length old.new ≡ length old.old) × (length evicted.new ≡ length evicted.old) }
         ensures rest { self.new ≡ record self.old {
           book = self.new.book;
           flow = self.new.flow;
@@ -304,10 +297,11 @@ impl<N: Name, L: RowLaw> Part<N, L> {
         let Some(id) = replacing::link(
             &mut self.lists,
             &mut self.index,
-            settings.temporary,
+            settings,
             room.found,
             row,
             expires,
+            old,
             now,
         ) else {
             self.lists.promise();
@@ -415,8 +409,8 @@ impl<N: Name, L: RowLaw> Part<N, L> {
 
     /// The chunks of the class: from its first one up to that behind its last one.
     pub fn chunks(&self) -> Range<u32>
-        ensures start { result.start ≡ self.now.book.part.first }
-        ensures end { result.end ≡ self.now.book.part.first + self.now.book.part.count }
+        ensures start { result.start ≡ self.now.book.sheet.first }
+        ensures end { result.end ≡ self.now.book.sheet.first + self.now.book.sheet.count }
     {
         self.index.range()
     }
@@ -426,9 +420,9 @@ impl<N: Name, L: RowLaw> Part<N, L> {
     /// and of its value. Where none is `row` stays, which has room for a label and a row. The item isn't touched, and
     /// nothing changes but what the class's seat notes of its loads.
     pub fn read_unexpired(&mut self, chunk: u32, now: u64, row: &mut [u64]) -> bool
-        requires own { owns chunk self.old.book.part ≡ true }
+        requires own { owns chunk self.old.book.sheet ≡ true }
         requires row { length row.old ≡ suc (self.old.key_words + self.old.value_words) }
-        ensures told { result ≡ has_unexpired now self.old.book.part chunk }
+        ensures told { result ≡ has_unexpired now self.old.book.sheet chunk }
         ensures read { result ≡ true → row.new ≡ row_at self.old chunk }
         ensures stays { result ≡ false → row.new ≡ row.old }
         ensures looks { LooksOnly self.old.book self.new.book }

@@ -13,8 +13,8 @@ use crate::room;
 use bump_class::RawLane;
 use bump_heads::Name;
 use bump_steps::RowLaw;
+use cache_index::Index;
 use cache_lists::CountedBook;
-use cache_nests::Index;
 use keyed_hash::Seed;
 
 /// What a put came to.
@@ -64,11 +64,11 @@ fn find_key_of<N: Name, L: RowLaw>(
     settings: Settings,
     row: &[u64],
 ) -> Found
-    requires part { IsPart settings.seed settings.key_words lists.old.book.part index.old.table }
+    requires part { IsPart settings.seed settings.key_words lists.old.book.sheet index.old.table }
     requires words { settings.key_words ≤ length row.now }
     requires few { settings.key_words ≤ N.table.slots }
     ensures hash { result.hash ≡ hash_of settings.seed (take settings.key_words row.now) }
-    ensures item { IsItemOf settings.key_words (take settings.key_words row.now) result.chunk lists.old.book.part }
+    ensures item { IsItemOf settings.key_words (take settings.key_words row.now) result.chunk lists.old.book.sheet }
     ensures looks { LooksOnly lists.old.book lists.new.book }
     ensures rest { lists.new ≡ record lists.old { book = lists.new.book } }
     ensures index { index.new ≡ index.old }
@@ -99,24 +99,24 @@ pub(crate) fn make_room<N: Name, L: RowLaw>(
     most: u32,
     now: u64,
 ) -> Room
-    requires part { IsPart settings.seed settings.key_words lists.old.book.part index.old.table }
+    requires part { IsPart settings.seed settings.key_words lists.old.book.sheet index.old.table }
     requires words { length row.now ≡ settings.key_words + settings.value_words }
     requires told { length told.old ≡ suc (settings.key_words + settings.value_words) }
     requires few { length row.now ≤ N.table.slots }
-    ensures part { IsPart settings.seed settings.key_words lists.new.book.part index.new.table }
+    ensures part { IsPart settings.seed settings.key_words lists.new.book.sheet index.new.table }
     ensures class { IsSameClass lists.old.book lists.new.book }
     ensures hash { result.found.hash ≡ hash_of settings.seed (take settings.key_words row.now) }
-    ensures was { IsItemOf settings.key_words (take settings.key_words row.now) result.found.chunk lists.old.book.part }
+    ensures was { IsItemOf settings.key_words (take settings.key_words row.now) result.found.chunk lists.old.book.sheet }
     ensures item { IsItemOf settings.key_words (take settings.key_words row.now) result.found.chunk
-        lists.new.book.part }
+        lists.new.book.sheet }
     ensures room { MakesRoom settings.items now result.found.chunk result.evicted most lists.old lanes.old lists.new
         lanes.new }
     ensures stay { OthersStay None None result.evicted lists.old.book lists.new.book }
     ensures told { TellsWords (settings.key_words + settings.value_words) result.evicted told.old told.new
-        lists.old.book.part }
-    ensures another { IfSome result.evicted (λ c. IsSome (linked_at lists.old.book.part c)
+        lists.old.book.sheet }
+    ensures another { IfSome result.evicted (λ c. IsSome (linked_at lists.old.book.sheet c)
         × (result.found.chunk ≡ None)) }
-    ensures gone { IfSome result.evicted (λ c. linked_at lists.new.book.part c ≡ None) }
+    ensures gone { IfSome result.evicted (λ c. linked_at lists.new.book.sheet c ≡ None) }
     ensures first { index.new.first ≡ index.old.first }
 {
     let found = find_key_of(lists, index, settings, row);

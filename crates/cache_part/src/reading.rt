@@ -1,8 +1,9 @@
 //! The label and the further words of a chunk are read.
-ghost use Rattle.std.specs.Prelude.{◌≡◌, suc, ◌+◌, ◌-◌, ◌<◌, ◌≤◌, true, length};
-ghost use Rattle.bump_steps.specs.Views.{owns};
+ghost use Rattle.std.specs.Prelude.{◌≡◌, suc, ◌+◌, ◌-◌, ◌∷◌, ◌<◌, ◌≤◌, IfSome, Option, true, length};
+ghost use Rattle.bump_steps.specs.Views.{last_label, owns};
 ghost use Rattle.cache_part.specs.Keys.{words_from, row_of};
 ghost use Rattle.cache_part.specs.Looks.{LooksOnly};
+ghost use Rattle.cache_part.specs.Putting.{TellsOldWords};
 
 use bump_heads::Name;
 use bump_steps::RowLaw;
@@ -15,9 +16,9 @@ pub(crate) fn read<N: Name, L: RowLaw>(
     from: u32,
     words: &mut [u64],
 )
-    requires own { owns chunk lists.old.book.part ≡ true }
+    requires own { owns chunk lists.old.book.sheet ≡ true }
     requires few { from + length words.old ≤ N.table.slots }
-    ensures read { words.new ≡ words_from from (length words.old) lists.old.book.part chunk }
+    ensures read { words.new ≡ words_from from (length words.old) lists.old.book.sheet chunk }
     ensures looks { LooksOnly lists.old.book lists.new.book }
     ensures rest { lists.new ≡ record lists.old { book = lists.new.book } }
 {
@@ -28,19 +29,57 @@ pub(crate) fn read<N: Name, L: RowLaw>(
     }
 }
 
+// Reads the label of a chunk, and then its further words from this number on, as many as there is room for.
+pub(crate) fn read_from<N: Name, L: RowLaw>(
+    lists: &mut CountedBook<N, L>,
+    chunk: u32,
+    from: u32,
+    told: &mut [u64],
+)
+    requires own { owns chunk lists.old.book.sheet ≡ true }
+    requires some { 0 < length told.old }
+    requires few { from + length told.old ≤ suc N.table.slots }
+    ensures read { told.new ≡ last_label lists.old.book.sheet chunk
+        ∷ words_from from (length told.old - 1) lists.old.book.sheet chunk }
+    ensures looks { LooksOnly lists.old.book lists.new.book }
+    ensures rest { lists.new ≡ record lists.old { book = lists.new.book } }
+{
+    told[0] = lists.label(chunk);
+    read(lists, chunk, from, &mut told[1..]);
+}
+
+// So it reads when the item of a chunk expires, and then its value, where there is one.
+pub(crate) fn read_value<N: Name, L: RowLaw>(
+    lists: &mut CountedBook<N, L>,
+    chunk: Option<u32>,
+    key_words: u32,
+    _value_words: u32,
+    told: &mut [u64],
+)
+    requires own { IfSome chunk (λ c. owns c lists.old.book.sheet ≡ true) }
+    requires told { length told.old ≡ suc _value_words }
+    requires few { key_words + _value_words ≤ N.table.slots }
+    ensures told { TellsOldWords key_words _value_words chunk told.old told.new lists.old.book.sheet }
+    ensures looks { LooksOnly lists.old.book lists.new.book }
+    ensures rest { lists.new ≡ record lists.old { book = lists.new.book } }
+{
+    if let Some(chunk) = chunk {
+        read_from(lists, chunk, key_words, told);
+    }
+}
+
 // Reads the row of a chunk: its label, and then as many of its further words as there is room for.
 pub(crate) fn read_row<N: Name, L: RowLaw>(
     lists: &mut CountedBook<N, L>,
     chunk: u32,
     row: &mut [u64],
 )
-    requires own { owns chunk lists.old.book.part ≡ true }
+    requires own { owns chunk lists.old.book.sheet ≡ true }
     requires some { 0 < length row.old }
     requires few { length row.old ≤ suc N.table.slots }
-    ensures read { row.new ≡ row_of (length row.old - 1) lists.old.book.part chunk }
+    ensures read { row.new ≡ row_of (length row.old - 1) lists.old.book.sheet chunk }
     ensures looks { LooksOnly lists.old.book lists.new.book }
     ensures rest { lists.new ≡ record lists.old { book = lists.new.book } }
 {
-    row[0] = lists.label(chunk);
-    read(lists, chunk, 0, &mut row[1..]);
+    read_from(lists, chunk, 0, row);
 }

@@ -1,45 +1,61 @@
 //! An item is linked, and the index leads to it in place of the key's old one.
-ghost use Rattle.std.specs.Prelude.{◌≡◌, ℕ, ◌+◌, ◌<◌, ◌≤◌, IfSome, IfNone, IsSome, None, true, length};
+ghost use Rattle.std.specs.Prelude.{◌≡◌, ℕ, suc, ◌+◌, ◌∷◌, ◌<◌, ◌≤◌, IfSome, IfNone, IsSome, None, true, length};
 ghost use Rattle.bump_class.specs.Links.{MayHave};
 ghost use Rattle.bump_links.specs.Lists.{first_of};
 ghost use Rattle.bump_rules.specs.Lists.{all_without};
-ghost use Rattle.bump_steps.specs.Views.{owns};
+ghost use Rattle.bump_steps.specs.Views.{last_label, owns};
 ghost use Rattle.cache_lists.specs.Items.{EndsAt};
 ghost use Rattle.cache_lists.specs.Linked.{linked_at};
 ghost use Rattle.cache_lists.specs.Segments.{SameSegments};
-ghost use Rattle.cache_nests.specs.Views.{led_at};
+ghost use Rattle.cache_index.specs.Views.{led_at};
+ghost use Rattle.cache_part.specs.Keys.{value_at};
 ghost use Rattle.cache_part.specs.Parts.{generation_led};
-ghost use Rattle.cache_part.specs.Putting.{Links, leads_anew, start_of};
+ghost use Rattle.cache_part.specs.Putting.{Links, TellsOldWords, leads_anew, start_of};
 
 use crate::ending::end_unled;
 use crate::finding::Found;
+use crate::putting::Settings;
+use crate::reading;
 use bump_heads::Name;
-use bump_rules::{ItemId, Start};
+use bump_rules::{ItemId, Start, expires_within};
 use bump_steps::RowLaw;
+use cache_index::Index;
 use cache_lists::CountedBook;
-use cache_nests::Index;
-use entry_times::expires_within;
 
-// The index leads to a new item in place of that of a chunk, by one store, and then the old one ends.
+// The index leads to a new item in place of that of a chunk, by one store, and then the old one ends. When that expires,
+// and its value, are read before.
 fn replace<N: Name, L: RowLaw>(
     lists: &mut CountedBook<N, L>,
     index: &mut Index,
     old: u32,
     id: ItemId,
+    settings: Settings,
+    told: &mut [u64],
 )
     requires within { old < length index.old.table }
-    requires own { owns old lists.old.book.part ≡ true }
-    requires linked { IsSome (linked_at lists.old.book.part old) }
-    requires led { generation_led (led_at index.old.table old) ≡ linked_at lists.old.book.part old }
+    requires own { owns old lists.old.book.sheet ≡ true }
+    requires linked { IsSome (linked_at lists.old.book.sheet old) }
+    requires led { generation_led (led_at index.old.table old) ≡ linked_at lists.old.book.sheet old }
     requires first { index.old.first ≤ id.chunk }
     requires chunk { id.chunk < length index.old.table }
     requires anew { led_at index.old.table id.chunk ≡ None }
+    requires told { length told.old ≡ suc settings.value_words }
+    requires slots { settings.key_words + settings.value_words ≤ N.table.slots }
     ensures ends { EndsAt old lists.old.book lists.new.book }
     ensures others { SameSegments (all_without old lists.old.book.lists) lists.new.book.lists }
     ensures evictions { lists.new.evictions ≡ lists.old.evictions }
     ensures table { (hash : ℕ) → index.new.table ≡ leads_anew hash (Some old) id index.old.table }
     ensures first { index.new.first ≡ index.old.first }
+    ensures told { told.new ≡ last_label lists.old.book.sheet old
+        ∷ value_at settings.key_words settings.value_words lists.old.book.sheet old }
 {
+    reading::read_value(
+        lists,
+        Some(old),
+        settings.key_words,
+        settings.value_words,
+        told,
+    );
     // First the index leads to the new item: a reader that comes by finds the one or the other.
     index.lead(old, id);
     end_unled(lists, index, old);
@@ -57,25 +73,31 @@ fn start(temporary: Option<u64>, expires: u64, now: u64) -> Start
 }
 
 // Links an item with this row, which expires then, and tells it; or None where no chunk is free. The index leads to it,
-// in place of the key's old item where it has one, which then ends.
+// in place of the key's old item where it has one, which then ends; when that expires is told, and its value.
 pub(crate) fn link<N: Name, L: RowLaw>(
     lists: &mut CountedBook<N, L>,
     index: &mut Index,
-    temporary: Option<u64>,
+    settings: Settings,
     found: Found,
     row: &[u64],
     expires: u64,
+    told: &mut [u64],
     now: u64,
 ) -> Option<ItemId>
-    requires first { index.old.first ≡ lists.old.book.part.first }
-    requires count { lists.old.book.part.first + lists.old.book.part.count ≡ length index.old.table }
-    requires own { (chunk : ℕ) → IsSome (linked_at lists.old.book.part chunk) → owns chunk lists.old.book.part ≡ true }
-    requires leads { (chunk : ℕ) → generation_led (led_at index.old.table chunk) ≡ linked_at lists.old.book.part chunk }
-    requires old { (chunk : ℕ) → found.chunk ≡ Some chunk → IsSome (linked_at lists.old.book.part chunk) }
+    requires first { index.old.first ≡ lists.old.book.sheet.first }
+    requires count { lists.old.book.sheet.first + lists.old.book.sheet.count ≡ length index.old.table }
+    requires own { (chunk : ℕ) → IsSome (linked_at lists.old.book.sheet chunk) → owns chunk lists.old.book.sheet ≡ true }
+    requires leads { (chunk : ℕ) → generation_led (led_at index.old.table chunk) ≡ linked_at lists.old.book.sheet chunk }
+    requires old { (chunk : ℕ) → found.chunk ≡ Some chunk → IsSome (linked_at lists.old.book.sheet chunk) }
     requires few { length row.now ≤ N.table.slots }
     requires law { MayHave L.law expires row.now }
-    ensures links { IfSome result (λ id. Links temporary found.chunk row.now expires now id lists.old.book
+    requires told { length told.old ≡ suc settings.value_words }
+    requires slots { settings.key_words + settings.value_words ≤ N.table.slots }
+    ensures links { IfSome result (λ id. Links settings.temporary found.chunk row.now expires now id lists.old.book
         lists.new.book) }
+    ensures told { IfSome result (λ id. TellsOldWords settings.key_words settings.value_words found.chunk told.old
+        told.new lists.old.book.sheet) }
+    ensures stays { IfNone result (told.new ≡ told.old) }
     ensures table { IfSome result (λ id. index.new.table ≡ leads_anew found.hash found.chunk id index.old.table) }
     ensures evictions { lists.new.evictions ≡ lists.old.evictions }
     ensures free { IfNone result (first_of lists.old.book.lists.unused ≡ None) }
@@ -83,13 +105,13 @@ pub(crate) fn link<N: Name, L: RowLaw>(
     ensures index { IfNone result (index.new ≡ index.old) }
     ensures first { index.new.first ≡ index.old.first }
 {
-    let start = start(temporary, expires, now);
+    let start = start(settings.temporary, expires, now);
     let Some(id) = lists.begin(start, expires, row, now) else {
         return None;
     };
     match found.chunk {
         Some(old) => {
-            replace(lists, index, old, id);
+            replace(lists, index, old, id, settings, told);
             Some(id)
         }
         None => {

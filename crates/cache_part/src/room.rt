@@ -2,7 +2,7 @@
 ghost use Rattle.std.specs.Prelude.{◌≡◌, ℕ, suc, ◌+◌, ◌≤◌, None, length, slice_set, IfSome, IfNone};
 ghost use Rattle.cache_lists.specs.Items.{KeepsItems};
 ghost use Rattle.cache_lists.specs.Linked.{linked_at};
-ghost use Rattle.cache_nests.specs.Views.{led_at};
+ghost use Rattle.cache_index.specs.Views.{led_at};
 ghost use Rattle.cache_part.specs.Parts.{generation_led};
 ghost use Rattle.cache_part.specs.Putting.{linked_count, DrainsAndSweeps, EvictsWhereFull, FreesAtLast, FreesWhereNone, TellsWords};
 
@@ -12,8 +12,8 @@ use bump_class::RawLane;
 use bump_heads::Name;
 use bump_rules::Place;
 use bump_steps::RowLaw;
+use cache_index::Index;
 use cache_lists::{CountedBook, MOST_FREED};
-use cache_nests::Index;
 
 // How many items are linked.
 fn count<N: Name, L: RowLaw>(lists: &CountedBook<N, L>) -> u64
@@ -35,7 +35,7 @@ pub(crate) fn evict_where_full<N: Name, L: RowLaw>(
     told: &mut [u64],
     now: u64,
 ) -> Option<u32>
-    requires leads { (chunk : ℕ) → generation_led (led_at index.old.table chunk) ≡ linked_at lists.old.book.part chunk }
+    requires leads { (chunk : ℕ) → generation_led (led_at index.old.table chunk) ≡ linked_at lists.old.book.sheet chunk }
     requires told { length told.old ≡ suc (settings.key_words + settings.value_words) }
     requires few { settings.key_words + settings.value_words ≤ N.table.slots }
     ensures evicts { EvictsWhereFull settings.items now old result lists.old lists.new }
@@ -43,7 +43,7 @@ pub(crate) fn evict_where_full<N: Name, L: RowLaw>(
     ensures index { IfNone result (index.new ≡ index.old) }
     ensures first { index.new.first ≡ index.old.first }
     ensures told { TellsWords (settings.key_words + settings.value_words) result told.old told.new
-        lists.old.book.part }
+        lists.old.book.sheet }
 {
     if old.is_some() {
         return None;

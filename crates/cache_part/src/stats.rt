@@ -1,12 +1,13 @@
 //! The statistics of a part.
 ghost use Rattle.std.specs.Prelude.{◌≡◌};
+ghost use Rattle.cache_lists.specs.Counts.{count_of};
 ghost use Rattle.cache_part.specs.Stats.{stats_of};
 
 use crate::parts::Part;
 use bump_heads::Name;
 use bump_rules::Place;
 use bump_steps::RowLaw;
-use cache_lists::Flow;
+use cache_lists::{Evictions, Flow, Statistic};
 
 /// Statistics by memcached's names. Sizes are of now; all else is counted since the part was made, and stops at
 /// 2^64 - 1.
@@ -33,29 +34,62 @@ pub struct Stats {
     /// Moves from WARM to its front.
     pub moves_within_lru: u64,
 
-    /// Items that were evicted which hadn't expired.
-    pub evicted: u64,
-
-    /// Those of them that were never hit.
-    pub evicted_unfetched: u64,
-
-    /// Those of them that were ACTIVE when they ended.
-    pub evicted_active: u64,
-
-    /// Items that a put's own thread evicted. These are all of them: nobody else evicts.
-    pub direct_reclaims: u64,
-
-    /// Items that ended in the same way to make room, and had expired.
-    pub reclaimed: u64,
-
-    /// Items that ended since they had expired, to make room or by `Part::end_expired`, and were never hit.
-    pub expired_unfetched: u64,
-
-    /// Items that `Part::end_expired` ended.
-    pub crawler_reclaimed: u64,
+    /// What was counted of items that ended, by names.
+    pub evictions: Evictions,
 
     /// Each way of items by itself.
     pub flow: Flow,
+}
+
+impl Stats {
+    /// Items that were evicted which hadn't expired.
+    pub fn evicted(&self) -> u64
+        ensures { result ≡ count_of Statistic.Evicted self.now.evictions }
+    {
+        self.evictions.of(Statistic::Evicted)
+    }
+
+    /// Those of them that were never hit.
+    pub fn evicted_unfetched(&self) -> u64
+        ensures { result ≡ count_of Statistic.EvictedUnfetched self.now.evictions }
+    {
+        self.evictions.of(Statistic::EvictedUnfetched)
+    }
+
+    /// Those of them that were ACTIVE when they ended.
+    pub fn evicted_active(&self) -> u64
+        ensures { result ≡ count_of Statistic.EvictedActive self.now.evictions }
+    {
+        self.evictions.of(Statistic::EvictedActive)
+    }
+
+    /// Items that a put's own thread evicted. These are all of them: nobody else evicts.
+    pub fn direct_reclaims(&self) -> u64
+        ensures { result ≡ count_of Statistic.Evicted self.now.evictions }
+    {
+        self.evictions.of(Statistic::Evicted)
+    }
+
+    /// Items that ended in the same way to make room, and had expired.
+    pub fn reclaimed(&self) -> u64
+        ensures { result ≡ count_of Statistic.Reclaimed self.now.evictions }
+    {
+        self.evictions.of(Statistic::Reclaimed)
+    }
+
+    /// Items that ended since they had expired, to make room or by `Part::end_expired`, and were never hit.
+    pub fn expired_unfetched(&self) -> u64
+        ensures { result ≡ count_of Statistic.ExpiredUnfetched self.now.evictions }
+    {
+        self.evictions.of(Statistic::ExpiredUnfetched)
+    }
+
+    /// Items that `Part::end_expired` ended.
+    pub fn crawler_reclaimed(&self) -> u64
+        ensures { result ≡ count_of Statistic.CrawlerReclaimed self.now.evictions }
+    {
+        self.evictions.of(Statistic::CrawlerReclaimed)
+    }
 }
 
 impl<N: Name, L: RowLaw> Part<N, L> {
@@ -66,7 +100,6 @@ impl<N: Name, L: RowLaw> Part<N, L> {
         ensures { result ≡ stats_of self.now }
     {
         let flow = self.lists.flow();
-        let evictions = self.lists.evictions();
         Stats {
             number_hot: self.lists.size(Place::Hot),
             number_warm: self.lists.size(Place::Warm),
@@ -75,13 +108,7 @@ impl<N: Name, L: RowLaw> Part<N, L> {
             moves_to_cold: flow.hot_to_cold.saturating_add(flow.warm_to_cold),
             moves_to_warm: flow.hot_to_warm.saturating_add(flow.cold_to_warm),
             moves_within_lru: flow.warm_to_warm,
-            evicted: evictions.evicted,
-            evicted_unfetched: evictions.unfetched,
-            evicted_active: evictions.active,
-            direct_reclaims: evictions.evicted,
-            reclaimed: evictions.reclaimed,
-            expired_unfetched: evictions.expired_unfetched,
-            crawler_reclaimed: evictions.crawler_reclaimed,
+            evictions: self.lists.evictions(),
             flow,
         }
     }

@@ -10,10 +10,10 @@ use crate::expiring::next_number;
 use crate::putting::Settings;
 use crate::reading;
 use bump_heads::Name;
+use bump_rules::has_expired;
 use bump_steps::RowLaw;
+use cache_index::Index;
 use cache_lists::CountedBook;
-use cache_nests::Index;
-use entry_times::has_expired;
 
 // Whether a chunk has an item that has expired.
 fn is_expired<N: Name, L: RowLaw>(
@@ -23,9 +23,9 @@ fn is_expired<N: Name, L: RowLaw>(
     chunk: u32,
     now: u64,
 ) -> bool
-    requires part { IsPart _settings.seed _settings.key_words lists.old.book.part index.now.table }
-    requires first { index.now.first ≡ lists.old.book.part.first }
-    requires from { lists.old.book.part.first ≤ chunk }
+    requires part { IsPart _settings.seed _settings.key_words lists.old.book.sheet index.now.table }
+    requires first { index.now.first ≡ lists.old.book.sheet.first }
+    requires from { lists.old.book.sheet.first ≤ chunk }
     requires within { chunk < length index.now.table }
     ensures has { result ≡ true → HasExpired now chunk lists.old.book }
     ensures none { result ≡ false → HasNoneExpired now chunk lists.old.book }
@@ -57,13 +57,13 @@ fn find_next<N: Name, L: RowLaw>(
     most: u32,
     now: u64,
 ) -> Next
-    requires part { IsPart settings.seed settings.key_words lists.old.book.part index.now.table }
-    requires first { index.now.first ≡ lists.old.book.part.first }
-    requires cursor { cursor ≤ lists.old.book.part.count - 1 }
+    requires part { IsPart settings.seed settings.key_words lists.old.book.sheet index.now.table }
+    requires first { index.now.first ≡ lists.old.book.sheet.first }
+    requires cursor { cursor ≤ lists.old.book.sheet.count - 1 }
     ensures finds { FindsNext (looks_of most lists.old.book) cursor now result.chunk result.cursor lists.old.book }
     ensures looks { LooksOnly lists.old.book lists.new.book }
     ensures rest { lists.new ≡ record lists.old { book = lists.new.book } }
-    ensures within { result.cursor ≤ lists.old.book.part.count - 1 }
+    ensures within { result.cursor ≤ lists.old.book.sheet.count - 1 }
 {
     let chunks = index.range();
     let count = chunks.end - chunks.start;
@@ -94,21 +94,21 @@ pub(crate) fn take_expired<N: Name, L: RowLaw>(
     told: &mut [u64],
     now: u64,
 ) -> Next
-    requires part { IsPart settings.seed settings.key_words lists.old.book.part index.old.table }
-    requires first { index.old.first ≡ lists.old.book.part.first }
-    requires cursor { cursor ≤ lists.old.book.part.count - 1 }
+    requires part { IsPart settings.seed settings.key_words lists.old.book.sheet index.old.table }
+    requires first { index.old.first ≡ lists.old.book.sheet.first }
+    requires cursor { cursor ≤ lists.old.book.sheet.count - 1 }
     requires told { length told.old ≡ suc (settings.key_words + settings.value_words) }
     requires few { settings.key_words + settings.value_words ≤ N.table.slots }
-    ensures part { IsPart settings.seed settings.key_words lists.new.book.part index.new.table }
-    ensures first { index.new.first ≡ lists.new.book.part.first }
+    ensures part { IsPart settings.seed settings.key_words lists.new.book.sheet index.new.table }
+    ensures first { index.new.first ≡ lists.new.book.sheet.first }
     ensures finds { FindsNext (looks_of most lists.old.book) cursor now result.chunk result.cursor lists.old.book }
     ensures ends { IfSome result.chunk (λ chunk. EndsBehindLook chunk now lists.old lists.new) }
     ensures looks { IfNone result.chunk (LooksOnly lists.old.book lists.new.book) }
     ensures rest { IfNone result.chunk (lists.new ≡ record lists.old { book = lists.new.book }) }
     ensures index { IfNone result.chunk (index.new ≡ index.old) }
     ensures told { TellsWords (settings.key_words + settings.value_words) result.chunk told.old told.new
-        lists.old.book.part }
-    ensures within { result.cursor ≤ lists.new.book.part.count - 1 }
+        lists.old.book.sheet }
+    ensures within { result.cursor ≤ lists.new.book.sheet.count - 1 }
 {
     let next = find_next(lists, index, settings, cursor, most, now);
     let Some(chunk) = next.chunk else {

@@ -11,8 +11,8 @@ use bump_class::RawLane;
 use bump_heads::Name;
 use bump_rules::LOOKS;
 use bump_steps::RowLaw;
+use cache_index::Index;
 use cache_lists::{Bound, Bounds, CountedBook};
-use cache_nests::Index;
 
 // Applies the bumps that wait in the lanes, lane by lane, at most `most` of each.
 pub(crate) fn drain<N: Name, L: RowLaw>(
@@ -85,17 +85,17 @@ pub(crate) fn tend<N: Name, L: RowLaw>(
     looks: u32,
     cursor: u32,
 ) -> u32
-    requires part { IsPart settings.seed settings.key_words lists.old.book.part index.old.table }
-    requires first { index.old.first ≡ lists.old.book.part.first }
-    requires cursor { cursor ≤ lists.old.book.part.count - 1 }
-    ensures part { IsPart settings.seed settings.key_words lists.new.book.part index.new.table }
+    requires part { IsPart settings.seed settings.key_words lists.old.book.sheet index.old.table }
+    requires first { index.old.first ≡ lists.old.book.sheet.first }
+    requires cursor { cursor ≤ lists.old.book.sheet.count - 1 }
+    ensures part { IsPart settings.seed settings.key_words lists.new.book.sheet index.new.table }
     ensures first { index.new.first ≡ index.old.first }
     ensures tends { Tends most now bounds looks cursor lists.old lanes.old lists.new lanes.new }
-    ensures ended { (chunk : ℕ) → IsInTurn cursor (looks_of looks lists.old.book) lists.old.book.part chunk
+    ensures ended { (chunk : ℕ) → IsInTurn cursor (looks_of looks lists.old.book) lists.old.book.sheet chunk
         → HasNoneExpired now chunk lists.new.book }
     ensures kept { KeepsUnexpired now lists.old.book lists.new.book }
-    ensures cursor { result ≡ number_behind cursor (looks_of looks lists.old.book) lists.old.book.part.count }
-    ensures within { result ≤ lists.new.book.part.count - 1 }
+    ensures cursor { result ≡ number_behind cursor (looks_of looks lists.old.book) lists.old.book.sheet.count }
+    ensures within { result ≤ lists.new.book.sheet.count - 1 }
 {
     drain(lists, lanes, most, now);
     // What ended now is swept at once, where nobody holds it.

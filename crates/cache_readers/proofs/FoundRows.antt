@@ -3,7 +3,7 @@ use Rattle.std.proofs.Common.{ℕ, List, length, inl, inr}
 use Rattle.bump_rules.specs.declared.configs.Config.{Config}
 use Rattle.bump_steps.specs.References.{words_in}
 use Rattle.bump_steps.specs.Rule.{RowPredicate}
-use Rattle.bump_parts.specs.Workers.{WorkerState}
+use Rattle.bump_unlocked.specs.Workers.{WorkerState}
 use Rattle.cache_readers.specs.Looks.{Finds, GlancesKey, HasWords, Peeks}
 
 -- the table's law holds of it, and it has the key, and behind it the value

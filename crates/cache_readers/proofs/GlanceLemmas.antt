@@ -6,49 +6,49 @@ use mathlib.Core.Logic.{dite}
 use native.Mathlib.Decide.{ℕ_discrete}
 use Rattle.bump_rules.specs.declared.items.Head.{Head}
 use Rattle.bump_rules.specs.declared.items.ItemId.{ItemId}
-use Rattle.bump_steps.specs.declared.views.GlancePart.{GlancePart}
+use Rattle.bump_steps.specs.declared.views.GlanceSheet.{GlanceSheet}
 use Rattle.bump_steps.specs.declared.views.OwnStep.{OwnStep}
 use Rattle.bump_steps.specs.Glances.{glance_after_load, new_glance, worker_after_glance_load}
 use Rattle.bump_steps.specs.Plays.{behind, on_first}
 use Rattle.bump_steps.specs.References.{label_of_row, word_of_row}
 use Rattle.bump_steps.specs.Rule.{RowPredicate}
 use Rattle.bump_readers.specs.Glances.{IsGlancing, IsLinkedLife, looked_at}
-use Rattle.bump_parts.specs.Glances.{FindsNoLife, Glances}
-use Rattle.bump_parts.specs.Workers.{WorkerState}
-use Rattle.entry_times.specs.Times.{has_expired}
+use Rattle.bump_unlocked.specs.Glances.{FindsNoLife, Glances}
+use Rattle.bump_unlocked.specs.Workers.{WorkerState}
+use Rattle.bump_rules.specs.Expiry.{has_expired}
 use Rattle.cache_readers.specs.Glances.{GlanceFinds, GlancesInVain, HasWords, Reads, glanced, head_loads}
 
 -- the worker with this last glance
-abbrev pub at : GlancePart → WorkerState → WorkerState
-at glance worker = record worker { part = record worker.part { glances = glance ∷ behind worker.part.glances } }
+abbrev pub at : GlanceSheet → WorkerState → WorkerState
+at glance worker = record worker { sheet = record worker.sheet { glances = glance ∷ behind worker.sheet.glances } }
 
 -- two firsts of one list are one
-one_first : (one other : GlancePart) (all more rest : List GlancePart) → all ≡ one ∷ more → all ≡ other ∷ rest
+one_first : (one other : GlanceSheet) (all more rest : List GlanceSheet) → all ≡ one ∷ more → all ≡ other ∷ rest
     → one ≡ other
 one_first one other all more rest is too = let both : one ∷ more ≡ other ∷ rest = sym is ∙ too in cc both
 
 -- the worker is as it was
-pub reads_none : (Holds : List ℕ → Type 0) (item : ItemId) (before : WorkerState) → IsGlancing item before.part
+pub reads_none : (Holds : List ℕ → Type 0) (item : ItemId) (before : WorkerState) → IsGlancing item before.sheet
     → ((row : List ℕ) → Holds row) → Reads Holds before before
 reads_none Holds item before glancing each = record {
   glance = glancing.glance;
   agrees = glancing.glance.agrees;
   was = glancing.first;
-  is = ap (λ (gs : List GlancePart). record before { part = record before.part { glances = gs } }) glancing.first;
+  is = ap (λ (gs : List GlanceSheet). record before { sheet = record before.sheet { glances = gs } }) glancing.first;
   stricter = λ e. e;
   holds = λ _. each glancing.glance.row;
 }
 
 -- one load
-pub reads_one : (i word : ℕ) (item : ItemId) (before after : WorkerState) → IsGlancing item before.part
-    → after ≡ record before { part = worker_after_glance_load i word before.part }
+pub reads_one : (i word : ℕ) (item : ItemId) (before after : WorkerState) → IsGlancing item before.sheet
+    → after ≡ record before { sheet = worker_after_glance_load i word before.sheet }
     → Reads (λ (row : List ℕ). slice_index row i ≡ word) before after
 reads_one i word item before after glancing loaded = record {
   glance = glancing.glance;
   agrees = (glance_after_load i word glancing.glance).agrees;
   was = glancing.first;
-  is = loaded ∙ ap (λ (gs : List GlancePart). record before {
-    part = record before.part { glances = on_first (glance_after_load i word) gs };
+  is = loaded ∙ ap (λ (gs : List GlanceSheet). record before {
+    sheet = record before.sheet { glances = on_first (glance_after_load i word) gs };
   }) glancing.first;
   stricter = λ e. (and_parts _ _ e).0;
   holds = λ e. eqb-true _ _ (and_parts _ _ e).1;
@@ -61,18 +61,18 @@ reads_then One Other before between after one other = record {
   glance = one.glance;
   agrees = other.agrees;
   was = one.was;
-  is = other.is ∙ ap (λ (g : GlancePart). at (record g { agrees = other.agrees }) between) same
+  is = other.is ∙ ap (λ (g : GlanceSheet). at (record g { agrees = other.agrees }) between) same
       ∙ ap (λ (w : WorkerState). at (record one.glance { agrees = other.agrees }) w) one.is;
   stricter = λ e. one.stricter (agreed e);
-  holds = λ e. (one.holds (agreed e), subst (λ (g : GlancePart). Other g.row) same (other.holds e));
+  holds = λ e. (one.holds (agreed e), subst (λ (g : GlanceSheet). Other g.row) same (other.holds e));
 }
   where
     same : other.glance ≡ record one.glance { agrees = one.agrees }
-    same = one_first other.glance (record one.glance { agrees = one.agrees }) between.part.glances _ _ other.was
-        (ap (λ (w : WorkerState). w.part.glances) one.is)
+    same = one_first other.glance (record one.glance { agrees = one.agrees }) between.sheet.glances _ _ other.was
+        (ap (λ (w : WorkerState). w.sheet.glances) one.is)
 
     agreed : other.agrees ≡ true → one.agrees ≡ true
-    agreed e = ap (λ (g : GlancePart). g.agrees) (sym same) ∙ other.stricter e
+    agreed e = ap (λ (g : GlanceSheet). g.agrees) (sym same) ∙ other.stricter e
 
 -- what follows of the row holds too
 pub reads_as : (One Other : List ℕ → Type 0) (before after : WorkerState) → ((row : List ℕ) → One row → Other row)
@@ -88,23 +88,23 @@ reads_as One Other before after more reads = record {
 
 -- the worker still glances at the life
 pub still_glancing : (Holds : List ℕ → Type 0) (item : ItemId) (before after : WorkerState)
-    → IsGlancing item before.part → Reads Holds before after → IsGlancing item after.part
+    → IsGlancing item before.sheet → Reads Holds before after → IsGlancing item after.sheet
 still_glancing Holds item before after glancing reads = record {
   glance = record reads.glance { agrees = reads.agrees };
-  first = now ∙ ap (λ (gs : List GlancePart). record reads.glance { agrees = reads.agrees } ∷ gs) (sym (ap behind now));
-  of = ap (λ (g : GlancePart). g.life)
-      (one_first reads.glance glancing.glance before.part.glances _ _ reads.was glancing.first) ∙ glancing.of;
+  first = now ∙ ap (λ (gs : List GlanceSheet). record reads.glance { agrees = reads.agrees } ∷ gs) (sym (ap behind now));
+  of = ap (λ (g : GlanceSheet). g.life)
+      (one_first reads.glance glancing.glance before.sheet.glances _ _ reads.was glancing.first) ∙ glancing.of;
 }
   where
-    now : after.part.glances ≡ record reads.glance { agrees = reads.agrees } ∷ behind before.part.glances
-    now = ap (λ (w : WorkerState). w.part.glances) reads.is
+    now : after.sheet.glances ≡ record reads.glance { agrees = reads.agrees } ∷ behind before.sheet.glances
+    now = ap (λ (w : WorkerState). w.sheet.glances) reads.is
 
 -- it glances at this life, also behind one more load of the head
-pub led_to : (item id : ItemId) (last : Head) (before after : WorkerState) → IsGlancing item before.part
-    → after ≡ record before { part = looked_at item.chunk last before.part } → item.chunk ≡ id.chunk
-    → item.generation ≡ id.generation → IsGlancing id after.part
+pub led_to : (item id : ItemId) (last : Head) (before after : WorkerState) → IsGlancing item before.sheet
+    → after ≡ record before { sheet = looked_at item.chunk last before.sheet } → item.chunk ≡ id.chunk
+    → item.generation ≡ id.generation → IsGlancing id after.sheet
 led_to item id last before after glancing looked chunk generation =
-    subst (λ (w : WorkerState). IsGlancing id w.part) (sym looked) (record {
+    subst (λ (w : WorkerState). IsGlancing id w.sheet) (sym looked) (record {
       glance = glancing.glance;
       first = glancing.first;
       of = glancing.of ∙ same;
@@ -145,8 +145,8 @@ vain_none chunk before after same = record {
   glances = [];
   few = omega arith;
   one = omega arith;
-  is = same ∙ ap (λ (ss : List OwnStep). record before { part = record before.part { steps = ss } })
-      (sym (append-nil before.part.steps));
+  is = same ∙ ap (λ (ss : List OwnStep). record before { sheet = record before.sheet { steps = ss } })
+      (sym (append-nil before.sheet.steps));
 }
 
 -- no life was found, or there is no such chunk
@@ -169,15 +169,15 @@ vain_gone chunk all None_is before after missing gone = by (nat_lt chunk all) re
 module _ (law : RowPredicate) (slots : ℕ) (item : ItemId) (found : Head) (before between : WorkerState)
     (glances : Glances law slots item found before between) where
   -- a glance has begun
-  pub begun : IsGlancing item between.part
+  pub begun : IsGlancing item between.sheet
   begun = record {
     glance = new_glance item glances.row;
-    first = now ∙ ap (λ (gs : List GlancePart). new_glance item glances.row ∷ gs) (sym (ap behind now));
+    first = now ∙ ap (λ (gs : List GlanceSheet). new_glance item glances.row ∷ gs) (sym (ap behind now));
     of = refl;
   }
     where
-      now : between.part.glances ≡ new_glance item glances.row ∷ before.part.glances
-      now = ap (λ (w : WorkerState). w.part.glances) glances.glances
+      now : between.sheet.glances ≡ new_glance item glances.row ∷ before.sheet.glances
+      now = ap (λ (w : WorkerState). w.sheet.glances) glances.glances
 
   -- and served no more
   pub vain_begun : (chunk : ℕ) → item.chunk ≡ chunk → GlancesInVain chunk before between
@@ -191,15 +191,15 @@ module _ (law : RowPredicate) (slots : ℕ) (item : ItemId) (found : Head) (befo
 
   module _ (Holds : List ℕ → Type 0) (after : WorkerState) (reads : Reads Holds between after) where
     -- the glance, behind its loads
-    abbrev read : GlancePart
+    abbrev read : GlanceSheet
     read = record (new_glance item glances.row) { agrees = reads.agrees }
 
     begun_same : reads.glance ≡ new_glance item glances.row
-    begun_same = one_first reads.glance (new_glance item glances.row) between.part.glances _ _ reads.was
-        (ap (λ (w : WorkerState). w.part.glances) glances.glances)
+    begun_same = one_first reads.glance (new_glance item glances.row) between.sheet.glances _ _ reads.was
+        (ap (λ (w : WorkerState). w.sheet.glances) glances.glances)
 
     read_is : after ≡ glanced item.chunk (found ∷ []) (read ∷ []) before
-    read_is = reads.is ∙ ap (λ (g : GlancePart). at (record g { agrees = reads.agrees }) between) begun_same
+    read_is = reads.is ∙ ap (λ (g : GlanceSheet). at (record g { agrees = reads.agrees }) between) begun_same
         ∙ ap (λ (w : WorkerState). at read w) glances.glances
 
     pub vain_read : (chunk : ℕ) → item.chunk ≡ chunk → GlancesInVain chunk before after
@@ -211,13 +211,13 @@ module _ (law : RowPredicate) (slots : ℕ) (item : ItemId) (found : Head) (befo
       is = read_is;
     })
 
-    module _ (last : Head) (ended : WorkerState) (looked : ended ≡ record after { part = looked_at item.chunk last after.part })
+    module _ (last : Head) (ended : WorkerState) (looked : ended ≡ record after { sheet = looked_at item.chunk last after.sheet })
       where
         ended_is : ended ≡ glanced item.chunk (found ∷ last ∷ []) (read ∷ []) before
-        ended_is = looked ∙ ap (λ (w : WorkerState). record w { part = looked_at item.chunk last w.part }) read_is
+        ended_is = looked ∙ ap (λ (w : WorkerState). record w { sheet = looked_at item.chunk last w.sheet }) read_is
             ∙ ap (λ (ss : List OwnStep). record before {
-              part = record before.part { steps = ss; glances = read ∷ before.part.glances };
-            }) (append_assoc before.part.steps (head_loads item.chunk (found ∷ [])) (head_loads item.chunk (last ∷ [])))
+              sheet = record before.sheet { steps = ss; glances = read ∷ before.sheet.glances };
+            }) (append_assoc before.sheet.steps (head_loads item.chunk (found ∷ [])) (head_loads item.chunk (last ∷ [])))
 
         pub vain_ended : (chunk : ℕ) → item.chunk ≡ chunk → GlancesInVain chunk before ended
         vain_ended chunk there = subst (λ (k : ℕ). GlancesInVain k before ended) there (record {
@@ -233,7 +233,7 @@ module _ (law : RowPredicate) (slots : ℕ) (item : ItemId) (found : Head) (befo
             → ((row : List ℕ) → Holds row → HasWords key 0 row) → ((row : List ℕ) → Holds row → HasWords value (length key) row)
             → ((row : List ℕ) → Holds row → label ≡ label_of_row row) → has_expired label now ≡ false
             → IsLinkedLife item last
-            → ((at_end : IsGlancing item after.part) → IsLinkedLife item last → at_end.glance.agrees ≡ true)
+            → ((at_end : IsGlancing item after.sheet) → IsLinkedLife item last → at_end.glance.agrees ≡ true)
             → GlanceFinds law key value now before ended
         unfolding still_glancing
         glance_finds key value label now marked keyed valued labelled stays lasts faithful = record {
@@ -255,4 +255,4 @@ module _ (law : RowPredicate) (slots : ℕ) (item : ItemId) (found : Head) (befo
             agreed = faithful (still_glancing Holds item between after begun reads) lasts
 
             has : Holds glances.row
-            has = subst (λ (g : GlancePart). Holds g.row) begun_same (reads.holds agreed)
+            has = subst (λ (g : GlanceSheet). Holds g.row) begun_same (reads.holds agreed)

@@ -7,14 +7,14 @@ use Rattle.bump_rules.specs.declared.configs.Config.{Config}
 use Rattle.bump_rules.specs.declared.items.Head.{Head}
 use Rattle.bump_rules.specs.declared.items.ItemId.{ItemId}
 use Rattle.bump_steps.specs.declared.refusals.TakeRefusal.{TakeRefusal}
-use Rattle.bump_steps.specs.declared.views.GlancePart.{GlancePart}
-use Rattle.bump_steps.specs.declared.views.HoldPart.{HoldPart}
+use Rattle.bump_steps.specs.declared.views.GlanceSheet.{GlanceSheet}
+use Rattle.bump_steps.specs.declared.views.HoldSheet.{HoldSheet}
 use Rattle.bump_steps.specs.References.{new_hold}
 use Rattle.bump_steps.specs.Rule.{RowPredicate, chunks as all_chunks}
 use Rattle.bump_steps.specs.Tries.{of_any, asked_life, asked_refusal, held_by}
-use Rattle.bump_parts.specs.declared.refusals.GetAnyRefusal.{GetAnyRefusal}
-use Rattle.bump_parts.specs.Gets.{GotAny}
-use Rattle.bump_parts.specs.Workers.{WorkerState}
+use Rattle.bump_unlocked.specs.declared.refusals.GetAnyRefusal.{GetAnyRefusal}
+use Rattle.bump_unlocked.specs.Gets.{GotAny}
+use Rattle.bump_unlocked.specs.Workers.{WorkerState}
 use Rattle.cache_readers.specs.declared.vain.Vain.{Vain}
 use Rattle.cache_readers.specs.declared.vain.Vain.TheVariants as vain
 use Rattle.cache_readers.specs.Glances.{GlanceFinds, glanced}
@@ -34,43 +34,43 @@ behind_then before between after one other = (
 
 -- the worker took holds and glanced, or did not, and has all holds and glances that it had before
 pub record TookMore (before after : WorkerState) : Type 0 where
-  pub taken : HasBehind before.part.taken after.part.taken
-  pub glances : HasBehind before.part.glances after.part.glances
+  pub taken : HasBehind before.sheet.taken after.sheet.taken
+  pub glances : HasBehind before.sheet.glances after.sheet.glances
 
 -- nothing was done
 pub took_none : (before after : WorkerState) → after ≡ before → TookMore before after
 took_none before after same = record {
-  taken = ([], ap (λ (w : WorkerState). w.part.taken) same);
-  glances = ([], ap (λ (w : WorkerState). w.part.glances) same);
+  taken = ([], ap (λ (w : WorkerState). w.sheet.taken) same);
+  glances = ([], ap (λ (w : WorkerState). w.sheet.glances) same);
 }
 
 -- more was, and then more
 pub took_then : (before between after : WorkerState) → TookMore before between → TookMore between after
     → TookMore before after
 took_then before between after one other = record {
-  taken = behind_then before.part.taken between.part.taken after.part.taken one.taken other.taken;
-  glances = behind_then before.part.glances between.part.glances after.part.glances one.glances other.glances;
+  taken = behind_then before.sheet.taken between.sheet.taken after.sheet.taken one.taken other.taken;
+  glances = behind_then before.sheet.glances between.sheet.glances after.sheet.glances one.glances other.glances;
 }
 
 -- a hold that a call answers is a new one, and a refusal is none
-held_more : (o : Option TakeRefusal) (item : ItemId) (row : List ℕ) (taken : List HoldPart)
+held_more : (o : Option TakeRefusal) (item : ItemId) (row : List ℕ) (taken : List HoldSheet)
     → HasBehind taken (held_by o item row taken)
 held_more None item row taken = (new_hold item row ∷ [], refl)
 held_more (Some why) item row taken = ([], refl)
 
 -- a get of whatever item is linked
 gets_more : (config : Config) (chunk : ℕ) (before after : WorkerState)
-    (took : Result (HoldPart × Head) GetAnyRefusal) → WorkerGetsAny config chunk before after took
+    (took : Result (HoldSheet × Head) GetAnyRefusal) → WorkerGetsAny config chunk before after took
     → TookMore before after
 gets_more config chunk before after took gets = by (nat_lt chunk (all_chunks config)) refl
   where
     of_got : (first : Head) (more : List Head) → GotAny config.refs_limit chunk before after took first more
         → TookMore before after
     of_got first more got = record {
-      taken = subst (HasBehind before.part.taken) (sym (ap (λ (w : WorkerState). w.part.taken) got.steps))
+      taken = subst (HasBehind before.sheet.taken) (sym (ap (λ (w : WorkerState). w.sheet.taken) got.steps))
           (held_more (asked_refusal config.refs_limit of_any first more) (asked_life of_any chunk first more) got.row
-          before.part.taken);
-      glances = ([], ap (λ (w : WorkerState). w.part.glances) got.steps);
+          before.sheet.taken);
+      glances = ([], ap (λ (w : WorkerState). w.sheet.glances) got.steps);
     }
 
     by : (near : Bool) → nat_lt chunk (all_chunks config) ≡ near → TookMore before after
@@ -79,16 +79,16 @@ gets_more config chunk before after took gets = by (nat_lt chunk (all_chunks con
         took_none before after (gets.missing (omega (arith, far))).1
 
 -- glances and loads
-glanced_more : (chunk : ℕ) (heads : List Head) (glances : List GlancePart) (before after : WorkerState)
+glanced_more : (chunk : ℕ) (heads : List Head) (glances : List GlanceSheet) (before after : WorkerState)
     → after ≡ glanced chunk heads glances before → TookMore before after
 glanced_more chunk heads glances before after is = record {
-  taken = ([], ap (λ (w : WorkerState). w.part.taken) is);
-  glances = (glances, ap (λ (w : WorkerState). w.part.glances) is);
+  taken = ([], ap (λ (w : WorkerState). w.sheet.taken) is);
+  glances = (glances, ap (λ (w : WorkerState). w.sheet.glances) is);
 }
 
 -- a look
 pub look_more : (config : Config) (chunk : ℕ) (before after : WorkerState)
-    (took : Result (HoldPart × Head) GetAnyRefusal) → LooksAt config chunk before after took → TookMore before after
+    (took : Result (HoldSheet × Head) GetAnyRefusal) → LooksAt config chunk before after took → TookMore before after
 look_more config chunk before after took look = took_then before look.between after
     (glanced_more chunk look.glances.heads look.glances.glances before look.between look.glances.is)
     (gets_more config chunk look.between after took look.gets)
@@ -179,16 +179,16 @@ noted_since row_of key value before between after more one = record {
 }
 
 -- the rows of holds, and of glances
-abbrev pub held_row : HoldPart → List ℕ
+abbrev pub held_row : HoldSheet → List ℕ
 held_row hold = hold.row
 
-abbrev pub glanced_row : GlancePart → List ℕ
+abbrev pub glanced_row : GlanceSheet → List ℕ
 glanced_row glance = glance.row
 
 -- one of the holds that the worker took between two states, or of its glances, has the key, and behind it the value
 abbrev pub TookBetween : List ℕ → List ℕ → WorkerState → WorkerState → Type 0
-TookBetween key value before after = NotedBetween held_row key value before.part.taken after.part.taken
-    ⊎ NotedBetween glanced_row key value before.part.glances after.part.glances
+TookBetween key value before after = NotedBetween held_row key value before.sheet.taken after.sheet.taken
+    ⊎ NotedBetween glanced_row key value before.sheet.glances after.sheet.glances
 
 -- A get that found a value took a hold that has it behind the key, or glanced at it: that is the first in the worker's
 -- list.
@@ -202,7 +202,7 @@ finds_took law config key value now from to before after (inl finds) =
       newer = [];
       older = older.taken.0;
       noted = hits_first law config key now from to before after finds.hold finds.hits
-          ∙ ap (λ (t : List HoldPart). finds.hold ∷ t) older.taken.1;
+          ∙ ap (λ (t : List HoldSheet). finds.hold ∷ t) older.taken.1;
       has_key = takes.search.ends.has_key;
       has_value = finds.has_value;
     })
@@ -213,8 +213,8 @@ finds_took law config key value now from to before after (inr found) =
       it = ends.glance;
       newer = [];
       older = older.glances.0;
-      noted = ap (λ (w : WorkerState). w.part.glances) ends.is
-          ∙ ap (λ (t : List GlancePart). ends.glance ∷ t) older.glances.1;
+      noted = ap (λ (w : WorkerState). w.sheet.glances) ends.is
+          ∙ ap (λ (t : List GlanceSheet). ends.glance ∷ t) older.glances.1;
       has_key = ends.has_key;
       has_value = ends.has_value;
     })
@@ -222,21 +222,21 @@ finds_took law config key value now from to before after (inr found) =
 -- It is still there when more came,
 pub took_still : (key value : List ℕ) (before between after : WorkerState) → TookBetween key value before between
     → TookMore between after → TookBetween key value before after
-took_still key value before between after (inl took) more = inl (noted_still held_row key value before.part.taken
-    between.part.taken after.part.taken took more.taken)
+took_still key value before between after (inl took) more = inl (noted_still held_row key value before.sheet.taken
+    between.sheet.taken after.sheet.taken took more.taken)
 took_still key value before between after (inr glanced) more = inr (noted_still glanced_row key value
-    before.part.glances between.part.glances after.part.glances glanced more.glances)
+    before.sheet.glances between.sheet.glances after.sheet.glances glanced more.glances)
 
 -- and also where others came before
 pub took_since : (key value : List ℕ) (before between after : WorkerState) → TookMore before between
     → TookBetween key value between after → TookBetween key value before after
-took_since key value before between after more (inl took) = inl (noted_since held_row key value before.part.taken
-    between.part.taken after.part.taken more.taken took)
+took_since key value before between after more (inl took) = inl (noted_since held_row key value before.sheet.taken
+    between.sheet.taken after.sheet.taken more.taken took)
 took_since key value before between after more (inr glanced) = inr (noted_since glanced_row key value
-    before.part.glances between.part.glances after.part.glances more.glances glanced)
+    before.sheet.glances between.sheet.glances after.sheet.glances more.glances glanced)
 
 -- a touch takes no hold, and doesn't glance
-touch_more : (config : Config) (hold : HoldPart) (found : Head) (now : ℕ) (before after : WorkerState)
+touch_more : (config : Config) (hold : HoldSheet) (found : Head) (now : ℕ) (before after : WorkerState)
     → TouchesUnmarked config hold found now before after → TookMore before after
 touch_more config hold found now before after touches =
     record { taken = ([], touches.taken); glances = ([], touches.glances) }

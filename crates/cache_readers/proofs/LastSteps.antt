@@ -8,13 +8,13 @@ use Rattle.bump_rules.specs.declared.items.Head.{Head}
 use Rattle.bump_rules.specs.declared.items.ItemId.{ItemId}
 use Rattle.bump_rules.specs.Totals.{how_many}
 use Rattle.bump_steps.specs.declared.refusals.TakeRefusal.{TakeRefusal}
-use Rattle.bump_steps.specs.declared.views.HoldPart.{HoldPart}
+use Rattle.bump_steps.specs.declared.views.HoldSheet.{HoldSheet}
 use Rattle.bump_steps.specs.declared.views.OwnStep.{OwnStep}
 use Rattle.bump_steps.specs.Rule.{chunks as all_chunks}
 use Rattle.bump_steps.specs.Tries.{asked_life, asked_refusal, last_found, load_and_failures, of_any, takes}
-use Rattle.bump_parts.specs.Gets.{GotAny, get_any_answer}
-use Rattle.bump_parts.specs.StepCounts.{MakesAtMost, is_load}
-use Rattle.bump_parts.specs.Workers.{WorkerState}
+use Rattle.bump_unlocked.specs.Gets.{GotAny, get_any_answer}
+use Rattle.bump_unlocked.specs.StepCounts.{MakesAtMost, is_load}
+use Rattle.bump_unlocked.specs.Workers.{WorkerState}
 use Rattle.cache_readers.specs.Looks.{WorkerGetsAny}
 
 -- whether the last two steps are loads of a head
@@ -63,27 +63,27 @@ behind_another (a ∷ b ∷ []) x more another few = behind_another (b ∷ []) x
 behind_another (a ∷ b ∷ c ∷ before) x more another few = behind_another (b ∷ c ∷ before) x more another few
 
 -- the exchange that takes a hold is the last step of a get
-took_last : (config : Config) (chunk : ℕ) (before after : WorkerState) (hold : HoldPart) (found : Head)
+took_last : (config : Config) (chunk : ℕ) (before after : WorkerState) (hold : HoldSheet) (found : Head)
     → WorkerGetsAny config chunk before after (Ok (hold, found))
-    → (earlier : List OwnStep) × (last : OwnStep) × (after.part.steps ≡ earlier ++ (last ∷ [])) × (is_load last ≡ false)
+    → (earlier : List OwnStep) × (last : OwnStep) × (after.sheet.steps ≡ earlier ++ (last ∷ [])) × (is_load last ≡ false)
 took_last config chunk before after hold found gets = by (nat_lt chunk (all_chunks config)) refl
   where
     Last : Type 0
-    Last = (earlier : List OwnStep) × (last : OwnStep) × (after.part.steps ≡ earlier ++ (last ∷ []))
+    Last = (earlier : List OwnStep) × (last : OwnStep) × (after.sheet.steps ≡ earlier ++ (last ∷ []))
         × (is_load last ≡ false)
 
     of_takes : (o : Option TakeRefusal) (item : ItemId) (row : List ℕ) (last head : Head) (tries : List OwnStep)
         → Ok (hold, found) ≡ get_any_answer o item row last
-        → after.part.steps ≡ before.part.steps ++ (tries ++ takes chunk o head) → Last
+        → after.sheet.steps ≡ before.sheet.steps ++ (tries ++ takes chunk o head) → Last
     of_takes None item row last head tries is steps =
-        (before.part.steps ++ tries, _, steps ∙ sym (append_assoc before.part.steps tries _), refl)
+        (before.sheet.steps ++ tries, _, steps ∙ sym (append_assoc before.sheet.steps tries _), refl)
     of_takes (Some why) item row last head tries is steps = absurd (cc is)
 
     of_got : (first : Head) (more : List Head)
         → GotAny config.refs_limit chunk before after (Ok (hold, found)) first more → Last
     of_got first more got = of_takes (asked_refusal config.refs_limit of_any first more)
         (asked_life of_any chunk first more) got.row (last_found first more) (last_found first more)
-        (load_and_failures chunk first more) got.answer (ap (λ (w : WorkerState). w.part.steps) got.steps)
+        (load_and_failures chunk first more) got.answer (ap (λ (w : WorkerState). w.sheet.steps) got.steps)
 
     by : (near : Bool) → nat_lt chunk (all_chunks config) ≡ near → Last
     by true is = let t = gets.got (ltb-true chunk (all_chunks config) is) in of_got t.0 t.1 t.2
@@ -91,16 +91,16 @@ took_last config chunk before after hold found gets = by (nat_lt chunk (all_chun
         absurd (cc (gets.missing (omega (arith, far))).0)
 
 -- so a get by a hold doesn't end by two loads,
-pub took_end : (config : Config) (chunk : ℕ) (before after : WorkerState) (hold : HoldPart) (found : Head)
-    → WorkerGetsAny config chunk before after (Ok (hold, found)) → ends_by_loads after.part.steps ≡ false
+pub took_end : (config : Config) (chunk : ℕ) (before after : WorkerState) (hold : HoldSheet) (found : Head)
+    → WorkerGetsAny config chunk before after (Ok (hold, found)) → ends_by_loads after.sheet.steps ≡ false
 took_end config chunk before after hold found gets =
     let took = took_last config chunk before after hold found gets in
     ap ends_by_loads took.2 ∙ behind_another took.0 took.1 [] took.3 (omega arith)
 
 -- even if a touch follows
-pub held_last : (config : Config) (chunk : ℕ) (before between after : WorkerState) (hold : HoldPart) (found : Head)
+pub held_last : (config : Config) (chunk : ℕ) (before between after : WorkerState) (hold : HoldSheet) (found : Head)
     (exchanges others : ℕ) → WorkerGetsAny config chunk before between (Ok (hold, found))
-    → MakesAtMost 1 exchanges others between.part.steps after.part.steps → ends_by_loads after.part.steps ≡ false
+    → MakesAtMost 1 exchanges others between.sheet.steps after.sheet.steps → ends_by_loads after.sheet.steps ≡ false
 held_last config chunk before between after hold found exchanges others gets few =
     let took = took_last config chunk before between hold found gets in
     ap ends_by_loads (few.grown ∙ ap (λ (ss : List OwnStep). ss ++ few.made) took.2

@@ -3,29 +3,29 @@ use Rattle.std.proofs.Common.{◌≡◌, ℕ, zero, suc, ◌+◌, ◌<◌, false
 use Rattle.std.specs.Result.{IfErr}
 use Rattle.bump_rules.specs.declared.configs.Config.{Config}
 use Rattle.bump_rules.specs.declared.items.Head.{Head}
-use Rattle.bump_steps.specs.declared.views.HoldPart.{HoldPart}
-use Rattle.bump_parts.specs.declared.refusals.GetAnyRefusal.{GetAnyRefusal}
-use Rattle.bump_parts.specs.StepCounts.{MakesAtMost}
-use Rattle.bump_parts.specs.Workers.{WorkerState}
+use Rattle.bump_steps.specs.declared.views.HoldSheet.{HoldSheet}
+use Rattle.bump_unlocked.specs.declared.refusals.GetAnyRefusal.{GetAnyRefusal}
+use Rattle.bump_unlocked.specs.StepCounts.{MakesAtMost}
+use Rattle.bump_unlocked.specs.Workers.{WorkerState}
 use Rattle.cache_readers.specs.declared.vain.Vain.{Vain}
 use Rattle.cache_readers.specs.declared.vain.Vain.TheVariants as vain
 use Rattle.cache_readers.specs.Glances.{BehindGlance, GlanceFinds, GlancesInVain}
 use Rattle.cache_readers.specs.Looks.{AreOther, FindsNothing, FindsOthers, FoundBy, GlancesKey, HasWords, IsInVain, LookFinds, LookTakes, LooksAt, LooksInVain, SearchBy, SearchEnds, SearchesAnew, TakesKey, WorkerGetsAny, many_more, most_searches, one_more}
 use Rattle.bump_steps.specs.References.{label_of_row, words_in}
 use Rattle.bump_steps.specs.Rule.{RowPredicate}
-use Rattle.entry_times.specs.Times.{has_expired}
+use Rattle.bump_rules.specs.Expiry.{has_expired}
 
 -- a glance that told nothing, and a get
 pub looked : (config : Config) (chunk : ℕ) (before between after : WorkerState)
-    (took : Result (HoldPart × Head) GetAnyRefusal) → GlancesInVain chunk before between
+    (took : Result (HoldSheet × Head) GetAnyRefusal) → GlancesInVain chunk before between
     → WorkerGetsAny config chunk between after took
-    → MakesAtMost 1 8 0 between.part.steps after.part.steps → LooksAt config chunk before after took
+    → MakesAtMost 1 8 0 between.sheet.steps after.sheet.steps → LooksAt config chunk before after took
 looked config chunk before between after took glances gets few =
     record { between = between; glances = glances; gets = gets; few = few }
 
 -- a get that isn't what is looked for
 pub vain_of : (why : Vain) (config : Config) (key : List ℕ) (now chunk : ℕ) (before after : WorkerState)
-    (took : Result (HoldPart × Head) GetAnyRefusal) → LooksAt config chunk before after took
+    (took : Result (HoldSheet × Head) GetAnyRefusal) → LooksAt config chunk before after took
     → IsInVain why key now took → LooksInVain why config key now before after
 vain_of why config key now chunk before after took gets is = record {
   chunk = chunk;
@@ -48,11 +48,11 @@ search_over config key now before after others = record { between = after; other
 
 -- a look took a hold of an item with the key that hasn't expired, which is unchanged since
 pub look_takes : (law : RowPredicate) (config : Config) (key : List ℕ) (now chunk : ℕ) (before after : WorkerState)
-    (taken hold : HoldPart) (found : Head) → hold ≡ taken → LooksAt config chunk before after (Ok (taken, found))
+    (taken hold : HoldSheet) (found : Head) → hold ≡ taken → LooksAt config chunk before after (Ok (taken, found))
     → HasWords key 0 taken.row → has_expired (label_of_row taken.row) now ≡ false → law (words_in taken.row)
     → LookTakes law config key now hold found before after
 look_takes law config key now chunk before after taken hold found same gets has_key stays lawful =
-    subst (λ (h : HoldPart). LookTakes law config key now h found before after) (sym same) (record {
+    subst (λ (h : HoldSheet). LookTakes law config key now h found before after) (sym same) (record {
       chunk = chunk;
       gets = gets;
       has_key = has_key;
@@ -87,7 +87,7 @@ more_behind config key now before between after look rest = record {
 
 -- it found something
 pub found_behind : (law : RowPredicate) (config : Config) (key value : List ℕ) (now chunk : ℕ)
-    (start between after : WorkerState) (result : Result (Option (HoldPart × Head)) Vain)
+    (start between after : WorkerState) (result : Result (Option (HoldSheet × Head)) Vain)
     → BehindGlance chunk (λ (before : WorkerState). LooksInVain vain.Other config key now before between) start
     → IfOk result (λ sight. SearchBy (LookFinds law config key value now sight) config key now between after)
     → IfOk result (λ sight. BehindGlance chunk (λ (before : WorkerState).
@@ -101,7 +101,7 @@ found_behind law config key value now chunk start between after (Err why) look f
 
 -- or it ended
 pub ended_behind : (config : Config) (key : List ℕ) (now chunk : ℕ) (start between after : WorkerState)
-    (result : Result (Option (HoldPart × Head)) Vain)
+    (result : Result (Option (HoldSheet × Head)) Vain)
     → BehindGlance chunk (λ (before : WorkerState). LooksInVain vain.Other config key now before between) start
     → IfErr result (λ why. SearchEnds why config key now between after)
     → IfErr result (λ why. BehindGlance chunk (λ (before : WorkerState). SearchEnds why config key now before after) start)
@@ -187,50 +187,17 @@ nothing_at_last config key now turns from to before after all counted anew =
 
 -- what was found is held, or was glanced at
 pub found_held : (law : RowPredicate) (config : Config) (key value : List ℕ) (now from to : ℕ) (before after : WorkerState)
-    (sight : Option (HoldPart × Head)) (hold : HoldPart) (found : Head) → sight ≡ Some (hold, found)
+    (sight : Option (HoldSheet × Head)) (hold : HoldSheet) (found : Head) → sight ≡ Some (hold, found)
     → FoundBy (LookFinds law config key value now sight) config key now from to before after
     → TakesKey law config key now from to before after hold found
 found_held law config key value now from to before after sight hold found is finds =
-    subst (λ (s : Option (HoldPart × Head)). FoundBy (LookFinds law config key value now s) config key now from to before after) is
+    subst (λ (s : Option (HoldSheet × Head)). FoundBy (LookFinds law config key value now s) config key now from to before after) is
     finds
 
 pub found_glanced : (law : RowPredicate) (config : Config) (key value : List ℕ) (now from to : ℕ) (before after : WorkerState)
-    (sight : Option (HoldPart × Head)) → sight ≡ None
+    (sight : Option (HoldSheet × Head)) → sight ≡ None
     → FoundBy (LookFinds law config key value now sight) config key now from to before after
     → GlancesKey law config key value now from to before after
 found_glanced law config key value now from to before after sight is finds =
-    subst (λ (s : Option (HoldPart × Head)). FoundBy (LookFinds law config key value now s) config key now from to before after) is
+    subst (λ (s : Option (HoldSheet × Head)). FoundBy (LookFinds law config key value now s) config key now from to before after) is
     finds
-
--- who glanced at a value saw its key
-pub glanced_at_key : (law : RowPredicate) (config : Config) (key value : List ℕ) (now from to : ℕ)
-    (before after : WorkerState) → GlancesKey law config key value now from to before after
-    → GlancesKey law config key [] now from to before after
-glanced_at_key law config key value now from to before after found = record {
-  turns = found.turns;
-  counted = found.counted;
-  few_turns = found.few_turns;
-  start = found.start;
-  anew = found.anew;
-  search = record {
-    last = found.search.last;
-    others = found.search.others;
-    ends = record {
-      glance = ends.glance;
-      first = ends.first;
-      last = ends.last;
-      is = ends.is;
-      begins = ends.begins;
-      marked = ends.marked;
-      lasts = ends.lasts;
-      agrees = ends.agrees;
-      has_key = ends.has_key;
-      has_value = λ i low. absurd (omega (arith, low));
-      stays = ends.stays;
-      lawful = ends.lawful;
-    };
-  };
-}
-  where
-    ends : GlanceFinds law key value now found.search.last after
-    ends = found.search.ends

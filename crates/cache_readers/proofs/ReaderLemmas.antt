@@ -4,7 +4,7 @@ use Rattle.std.proofs.lemmas.List.{append-nil}
 use Rattle.bump_rules.specs.declared.configs.Config.{Config}
 use Rattle.bump_rules.specs.declared.items.ItemId.{ItemId}
 use Rattle.bump_steps.specs.declared.views.OwnStep.{OwnStep}
-use Rattle.bump_parts.specs.Workers.{WorkerState}
+use Rattle.bump_unlocked.specs.Workers.{WorkerState}
 use Rattle.cache_readers.specs.Looks.{one_more}
 use Rattle.cache_readers.specs.Readers.{CountsHit, CountsMiss, GlancedAt, KeepsRing, Misses, ReaderView, ReadsNothing}
 
@@ -17,8 +17,8 @@ none_glanced id reader = record {
     glances = [];
     few = omega arith;
     one = omega arith;
-    is = ap (λ (ss : List OwnStep). record reader.worker { part = record reader.worker.part { steps = ss } })
-        (sym (append-nil reader.worker.part.steps));
+    is = ap (λ (ss : List OwnStep). record reader.worker { sheet = record reader.worker.sheet { steps = ss } })
+        (sym (append-nil reader.worker.sheet.steps));
   };
 }
 

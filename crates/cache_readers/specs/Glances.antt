@@ -3,15 +3,15 @@ use Rattle.std.specs.Prelude.{◌≡◌, ◌&&◌, ℕ, ◌+◌, ◌<◌, ◌≤
 use Rattle.bump_rules.specs.declared.items.Head.{Head}
 use Rattle.bump_rules.specs.declared.items.ItemId.{ItemId}
 use Rattle.bump_word.specs.Words.{word_of}
-use Rattle.bump_steps.specs.declared.views.GlancePart.{GlancePart}
+use Rattle.bump_steps.specs.declared.views.GlanceSheet.{GlanceSheet}
 use Rattle.bump_steps.specs.declared.views.Kind.TheVariants as kind
 use Rattle.bump_steps.specs.declared.views.OwnStep.{OwnStep}
 use Rattle.bump_steps.specs.Plays.{behind, step_of}
 use Rattle.bump_steps.specs.References.{label_of_row, word_of_row, words_in}
 use Rattle.bump_steps.specs.Rule.{RowPredicate}
 use Rattle.bump_readers.specs.Glances.{IsLinkedLife}
-use Rattle.bump_parts.specs.Workers.{WorkerState}
-use Rattle.entry_times.specs.Times.{has_expired}
+use Rattle.bump_unlocked.specs.Workers.{WorkerState}
+use Rattle.bump_rules.specs.Expiry.{has_expired}
 use Rattle.cache_readers.specs.declared.glancing.Glanced.{Glanced}
 use Rattle.cache_readers.specs.declared.glancing.Glanced.TheVariants as told
 
@@ -24,18 +24,18 @@ abbrev pub head_loads : ℕ → List Head → List OwnStep
 head_loads chunk heads = map (λ (head : Head). step_of kind.Load chunk (word_of head) None) heads
 
 -- the worker loaded the chunk's head, and noted these glances: nothing else is new to it
-abbrev pub glanced : ℕ → List Head → List GlancePart → WorkerState → WorkerState
+abbrev pub glanced : ℕ → List Head → List GlanceSheet → WorkerState → WorkerState
 glanced chunk heads glances worker = record worker {
-  part = record worker.part {
-    steps = worker.part.steps ++ head_loads chunk heads;
-    glances = glances ++ worker.part.glances;
+  sheet = record worker.sheet {
+    steps = worker.sheet.steps ++ head_loads chunk heads;
+    glances = glances ++ worker.sheet.glances;
   };
 }
 
 -- A glance at a chunk told nothing, or there was none: the chunk's head was loaded twice at most, and no word changed.
 pub record GlancesInVain (chunk : ℕ) (before after : WorkerState) : Type 0 where
   pub heads : List Head
-  pub glances : List GlancePart
+  pub glances : List GlanceSheet
   pub few : length heads ≤ 2
   pub one : length glances ≤ 1
   pub is : after ≡ glanced chunk heads glances before
@@ -54,7 +54,7 @@ IfUnsure told.Nothing Holds = Unit {0}
 -- last glance has the words that stood in the chunk at the first load, of which the table's law holds, and each word that
 -- was loaded in between is one of them. They have the key, and the value behind it, and their label hasn't expired.
 pub record GlanceFinds (law : RowPredicate) (key value : List ℕ) (now : ℕ) (before after : WorkerState) : Type 0 where
-  pub glance : GlancePart
+  pub glance : GlanceSheet
   pub first : Head
   pub last : Head
   pub is : after ≡ glanced glance.life.chunk (first ∷ last ∷ []) (glance ∷ []) before
@@ -70,11 +70,11 @@ pub record GlanceFinds (law : RowPredicate) (key value : List ℕ) (now : ℕ) (
 -- The worker's last glance loaded words: this holds of its row, if each word that it loaded is the row's. Nothing else is
 -- new to the worker.
 pub record Reads (Holds : List ℕ → Type 0) (before after : WorkerState) : Type 0 where
-  pub glance : GlancePart
+  pub glance : GlanceSheet
   pub agrees : Bool
-  pub was : before.part.glances ≡ glance ∷ behind before.part.glances
+  pub was : before.sheet.glances ≡ glance ∷ behind before.sheet.glances
   pub is : after ≡ record before {
-    part = record before.part { glances = record glance { agrees = agrees } ∷ behind before.part.glances };
+    sheet = record before.sheet { glances = record glance { agrees = agrees } ∷ behind before.sheet.glances };
   }
   pub stricter : agrees ≡ true → glance.agrees ≡ true
   pub holds : agrees ≡ true → Holds glance.row

@@ -1,13 +1,13 @@
 pub mod Glances
 pub mod Looks
 pub mod Readers
-pub use Rattle.bump_parts.specs.Gets
-pub use Rattle.bump_parts.specs.Glances as WorkerGlances
-pub use Rattle.bump_parts.specs.StepCounts
-pub use Rattle.bump_parts.specs.Touches
-pub use Rattle.bump_parts.specs.Workers
+pub use Rattle.bump_unlocked.specs.Gets
+pub use Rattle.bump_unlocked.specs.Glances as WorkerGlances
+pub use Rattle.bump_unlocked.specs.StepCounts
+pub use Rattle.bump_unlocked.specs.Touches
+pub use Rattle.bump_unlocked.specs.Workers
 pub use Rattle.bump_readers.specs.Glances as ReaderGlances
 pub use Rattle.bump_rules.specs.Rings
 pub use Rattle.bump_steps.specs.References
 pub use Rattle.bump_steps.specs.Rule
-pub use Rattle.entry_times.specs.Times
+pub use Rattle.bump_rules.specs.Expiry

@@ -3,24 +3,24 @@ use Rattle.std.specs.Prelude.{◌≡◌, ◌≢◌, ◌⊎◌, ◌&&◌, ℕ, ze
 use Rattle.bump_rules.specs.declared.commands.Touch.{Touch}
 use Rattle.bump_rules.specs.declared.configs.Config.{Config}
 use Rattle.bump_rules.specs.declared.items.Head.{Head}
-use Rattle.bump_steps.specs.declared.views.HoldPart.{HoldPart}
+use Rattle.bump_steps.specs.declared.views.HoldSheet.{HoldSheet}
 use Rattle.bump_steps.specs.References.{label_of_row, word_of_row, words_in}
 use Rattle.bump_steps.specs.Rule.{RowPredicate, chunks as all_chunks}
-use Rattle.bump_parts.specs.declared.refusals.GetAnyRefusal.{GetAnyRefusal}
-use Rattle.bump_parts.specs.declared.refusals.GetAnyRefusal.TheVariants as get_any
-use Rattle.bump_parts.specs.Gets.{GotAny}
-use Rattle.bump_parts.specs.StepCounts.{MakesAtMost}
-use Rattle.bump_parts.specs.Touches.{WorkerTouches}
-use Rattle.bump_parts.specs.Workers.{WorkerState}
+use Rattle.bump_unlocked.specs.declared.refusals.GetAnyRefusal.{GetAnyRefusal}
+use Rattle.bump_unlocked.specs.declared.refusals.GetAnyRefusal.TheVariants as get_any
+use Rattle.bump_unlocked.specs.Gets.{GotAny}
+use Rattle.bump_unlocked.specs.StepCounts.{MakesAtMost}
+use Rattle.bump_unlocked.specs.Touches.{WorkerTouches}
+use Rattle.bump_unlocked.specs.Workers.{WorkerState}
 use Rattle.cache_readers.specs.declared.vain.Vain.{Vain}
 use Rattle.cache_readers.specs.declared.vain.Vain.TheVariants as vain
 use Rattle.cache_readers.specs.Glances.{GlanceFinds, GlancesInVain}
 pub use Rattle.cache_readers.specs.Glances.{HasWords}
-use Rattle.entry_times.specs.Times.{has_expired}
+use Rattle.bump_rules.specs.Expiry.{has_expired}
 
 -- a worker's get of whatever item is linked in a chunk, by the clauses `missing` and `got` of `Worker::get_any`
 pub record WorkerGetsAny (config : Config) (chunk : ℕ) (before after : WorkerState)
-    (took : Result (HoldPart × Head) GetAnyRefusal) : Type 0 where
+    (took : Result (HoldSheet × Head) GetAnyRefusal) : Type 0 where
   pub missing : all_chunks config ≤ chunk → (took ≡ Err get_any.NoSuchChunk) × (after ≡ before)
   pub got : chunk < all_chunks config → (first : Head) × (more : List Head)
       × GotAny config.refs_limit chunk before after took first more
@@ -28,11 +28,11 @@ pub record WorkerGetsAny (config : Config) (chunk : ℕ) (before after : WorkerS
 -- A look at a chunk: a glance that told nothing, or none, and then a get of whatever item is linked there, by one load of
 -- its head, and at most 8 exchanges.
 pub record LooksAt (config : Config) (chunk : ℕ) (before after : WorkerState)
-    (took : Result (HoldPart × Head) GetAnyRefusal) : Type 0 where
+    (took : Result (HoldSheet × Head) GetAnyRefusal) : Type 0 where
   pub between : WorkerState
   pub glances : GlancesInVain chunk before between
   pub gets : WorkerGetsAny config chunk between after took
-  pub few : MakesAtMost 1 8 0 between.part.steps after.part.steps
+  pub few : MakesAtMost 1 8 0 between.sheet.steps after.sheet.steps
 
 -- another word than the key's stands in the place of one of them
 abbrev pub HasOtherKey : List ℕ → List ℕ → Type 0
@@ -40,7 +40,7 @@ HasOtherKey key row = (i : ℕ) × (i < length key) × (word_of_row row i ≢ sl
 
 -- What a look found that was in vain, by why it was: an item with another key; one that has the key and has expired, its
 -- label being when it does; or, where the reader took the life to which the index led to have ended, anything.
-abbrev pub IsInVain : Vain → List ℕ → ℕ → Result (HoldPart × Head) GetAnyRefusal → Type 0
+abbrev pub IsInVain : Vain → List ℕ → ℕ → Result (HoldSheet × Head) GetAnyRefusal → Type 0
 IsInVain vain.Ended key now took = Unit {0}
 IsInVain vain.Other key now (Ok told) = HasOtherKey key told.0.row
 IsInVain vain.Over key now (Ok told) = HasWords key 0 told.0.row × (has_expired (label_of_row told.0.row) now ≡ true)
@@ -51,7 +51,7 @@ IsInVain vain.Over key now (Err refusal) = ⊥
 pub record LooksInVain (why : Vain) (config : Config) (key : List ℕ) (now : ℕ) (before after : WorkerState)
     : Type 0 where
   pub chunk : ℕ
-  pub took : Result (HoldPart × Head) GetAnyRefusal
+  pub took : Result (HoldSheet × Head) GetAnyRefusal
   pub gets : LooksAt config chunk before after took
   pub is : IsInVain why key now took
 
@@ -101,7 +101,7 @@ many_more (suc more) count = one_more (many_more more count)
 -- A look gave a hold of an item that has the key and hasn't expired, by this head, with the words that stood in its chunk
 -- when the hold was taken, of which the table's law holds. By `gets` it is the first of the holds that the worker took, so
 -- that its row is no other than that which the exchange found.
-pub record LookTakes (law : RowPredicate) (config : Config) (key : List ℕ) (now : ℕ) (hold : HoldPart) (found : Head)
+pub record LookTakes (law : RowPredicate) (config : Config) (key : List ℕ) (now : ℕ) (hold : HoldSheet) (found : Head)
     (before after : WorkerState) : Type 0 where
   pub chunk : ℕ
   pub gets : LooksAt config chunk before after (Ok (hold, found))
@@ -110,7 +110,7 @@ pub record LookTakes (law : RowPredicate) (config : Config) (key : List ℕ) (no
   pub lawful : law (words_in hold.row)
 
 -- a look found the key's item: it gave this hold by this head, or a glance found this value
-abbrev pub LookFinds : RowPredicate → Config → List ℕ → List ℕ → ℕ → Option (HoldPart × Head) → WorkerState
+abbrev pub LookFinds : RowPredicate → Config → List ℕ → List ℕ → ℕ → Option (HoldSheet × Head) → WorkerState
     → WorkerState → Type 0
 LookFinds law config key value now (Some took) = LookTakes law config key now took.0 took.1
 LookFinds law config key value now None = GlanceFinds law key value now
@@ -134,7 +134,7 @@ pub record FoundBy (Ends : WorkerState → WorkerState → Type 0) (config : Con
   pub search : SearchBy Ends config key now start after
 
 -- looks for a key ended with this hold of an item that has it
-abbrev pub TakesKey : RowPredicate → Config → List ℕ → ℕ → ℕ → ℕ → WorkerState → WorkerState → HoldPart → Head
+abbrev pub TakesKey : RowPredicate → Config → List ℕ → ℕ → ℕ → ℕ → WorkerState → WorkerState → HoldSheet → Head
     → Type 0
 TakesKey law config key now from to before after hold found =
     FoundBy (LookTakes law config key now hold found) config key now from to before after
@@ -145,19 +145,19 @@ GlancesKey law config key value now from to before after =
     FoundBy (GlanceFinds law key value now) config key now from to before after
 
 -- the item of a hold is touched where the head by which the hold was taken hadn't both marks
-pub record TouchesUnmarked (config : Config) (hold : HoldPart) (found : Head) (now : ℕ) (before after : WorkerState)
+pub record TouchesUnmarked (config : Config) (hold : HoldSheet) (found : Head) (now : ℕ) (before after : WorkerState)
     : Type 0 where
   pub marked : (found.fetched && found.active) ≡ true → after ≡ before
   pub touched : (found.fetched && found.active) ≡ false
       → (answer : Touch) × WorkerTouches config hold.life now before after answer
-  pub few : MakesAtMost 1 8 4 before.part.steps after.part.steps
+  pub few : MakesAtMost 1 8 4 before.sheet.steps after.sheet.steps
   -- a touch takes no hold, and doesn't glance
-  pub taken : after.part.taken ≡ before.part.taken
-  pub glances : after.part.glances ≡ before.part.glances
+  pub taken : after.sheet.taken ≡ before.sheet.taken
+  pub glances : after.sheet.glances ≡ before.sheet.glances
 
 -- a get took this hold of an item with the key, and touched it
 pub record Hits (law : RowPredicate) (config : Config) (key : List ℕ) (now from to : ℕ) (before after : WorkerState)
-    (hold : HoldPart) : Type 0 where
+    (hold : HoldSheet) : Type 0 where
   pub found : Head
   pub between : WorkerState
   pub takes : TakesKey law config key now from to before between hold found
@@ -166,7 +166,7 @@ pub record Hits (law : RowPredicate) (config : Config) (key : List ℕ) (now fro
 -- a get found this value by a hold: its hit's row has it behind the key
 pub record FindsHeld (law : RowPredicate) (config : Config) (key value : List ℕ) (now from to : ℕ)
     (before after : WorkerState) : Type 0 where
-  pub hold : HoldPart
+  pub hold : HoldSheet
   pub hits : Hits law config key now from to before after hold
   pub has_value : HasWords value (length key) hold.row
 
@@ -178,7 +178,7 @@ Finds law config key value now from to before after = FindsHeld law config key v
 -- an item with the key was held, and nothing else was done
 pub record SeesHeld (law : RowPredicate) (config : Config) (key : List ℕ) (now from to : ℕ) (before after : WorkerState)
     : Type 0 where
-  pub hold : HoldPart
+  pub hold : HoldSheet
   pub found : Head
   pub takes : TakesKey law config key now from to before after hold found
 

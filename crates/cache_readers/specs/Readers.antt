@@ -2,7 +2,7 @@
 use Rattle.std.specs.Prelude.{◌≡◌, ℕ, List}
 use Rattle.bump_rules.specs.declared.configs.Config.{Config}
 use Rattle.bump_rules.specs.declared.items.ItemId.{ItemId}
-use Rattle.bump_parts.specs.Workers.{WorkerState}
+use Rattle.bump_unlocked.specs.Workers.{WorkerState}
 use Rattle.cache_readers.specs.Glances.{GlancesInVain}
 use Rattle.cache_readers.specs.Looks.{FindsNothing, one_more}
 

@@ -5,12 +5,11 @@ ghost use Rattle.bump_readers.specs.Glances.{IsGlancing};
 ghost use Rattle.cache_readers.specs.declared.glancing.Glanced.TheVariants as glanced;
 ghost use Rattle.cache_readers.specs.Glances.{GlanceFinds, GlancesInVain, HasWords, IfUnsure, Reads};
 
-use bump_parts::Worker;
 use bump_readers::{Glance, Name, ReaderHeads};
-use bump_rules::ItemId;
+use bump_rules::{ItemId, has_expired};
 use bump_steps::RowLaw;
-use cache_nests::IndexReader;
-use entry_times::has_expired;
+use bump_unlocked::Worker;
+use cache_index::IndexReader;
 
 /// What a reader's glance for a key came to.
 pub enum Glanced {
@@ -31,7 +30,7 @@ fn load_label<N: Name, L: RowLaw>(
     heads: &ReaderHeads<N, L>,
     glance: &Glance<N>,
 ) -> u64
-    requires glance { IsGlancing glance.now worker.old.part }
+    requires glance { IsGlancing glance.now worker.old.sheet }
     ensures reads { Reads (λ row. result ≡ label_of_row row) worker.old worker.new }
 {
     worker.glance_label(heads, glance)
@@ -45,7 +44,7 @@ fn has_key_words<N: Name, L: RowLaw>(
     glance: &Glance<N>,
     key: &[u64],
 ) -> bool
-    requires glance { IsGlancing glance.now worker.old.part }
+    requires glance { IsGlancing glance.now worker.old.sheet }
     requires few { length key.now ≤ N.table.slots }
     ensures reads { Reads (λ row. result ≡ true → HasWords key.now 0 row) worker.old worker.new }
 {
@@ -67,7 +66,7 @@ fn load_words<N: Name, L: RowLaw>(
     from: usize,
     words: &mut [u64],
 )
-    requires glance { IsGlancing glance.now worker.old.part }
+    requires glance { IsGlancing glance.now worker.old.sheet }
     requires few { from + length words.old ≤ N.table.slots }
     ensures reads { Reads (HasWords words.new from) worker.old worker.new }
     ensures length { length words.new ≡ length words.old }
@@ -92,7 +91,7 @@ pub(crate) fn glance_at<N: Name, L: RowLaw>(
 ) -> bool
     requires few { length key.now + length value.old ≤ N.table.slots }
     ensures finds { result ≡ true → GlanceFinds L.law key.now value.new now worker.old worker.new }
-    ensures led { result ≡ true → IsGlancing id worker.new.part }
+    ensures led { result ≡ true → IsGlancing id worker.new.sheet }
     ensures vain { result ≡ false → GlancesInVain id.chunk worker.old worker.new }
     ensures none { glances ≡ false → result ≡ false }
     ensures length { length value.new ≡ length value.old }

@@ -9,10 +9,10 @@ mod readers;
 mod vain;
 
 pub use bump_heads::{Heads, Name, ReaderHeads};
-pub use bump_parts::{Hold, Worker};
 pub use bump_rules::{Accounts, ItemId};
 pub use bump_steps::RowLaw;
-pub use cache_nests::IndexReader;
+pub use bump_unlocked::{Hold, Worker};
+pub use cache_index::IndexReader;
 pub use glancing::Glanced;
 pub use readers::WordReader;
 pub use vain::Vain;

@@ -8,12 +8,11 @@ ghost use Rattle.cache_readers.specs.Looks.{SearchBy, SearchEnds, TouchesUnmarke
 
 use crate::glancing::{Glanced, glance_at, glance_first};
 use crate::vain::Vain;
-use bump_parts::{Hold, Worker};
 use bump_readers::{Name, ReaderHeads};
-use bump_rules::{Head, ItemId};
+use bump_rules::{Head, ItemId, has_expired};
 use bump_steps::RowLaw;
-use cache_nests::IndexReader;
-use entry_times::has_expired;
+use bump_unlocked::{Hold, Worker};
+use cache_index::IndexReader;
 
 // A search begins anew where the life to which the index led has ended, or its chunk can't be held, so often at most.
 const TURNS: u32 = 1_000;
@@ -126,7 +125,7 @@ fn look<N: Name, L: RowLaw>(
 ) -> Result<Option<(Hold<N>, Head)>, Vain>
     requires few { length key.now + length value.old ≤ N.table.slots }
     ensures finds { IfOk result (λ sight. LookFinds L.law heads.now key.now value.new now sight worker.old worker.new) }
-    ensures glanced { IfOk result (λ sight. sight ≡ None → IsGlancing id worker.new.part) }
+    ensures glanced { IfOk result (λ sight. sight ≡ None → IsGlancing id worker.new.sheet) }
     ensures led { IfOk result (λ sight. IfSome sight (λ took. took.0.life.generation ≡ id.generation)) }
     ensures held { glances ≡ false → IfOk result (λ sight. sight ≢ None) }
     ensures vain { IfErr result (λ why. LooksInVain why heads.now key.now now worker.old worker.new) }

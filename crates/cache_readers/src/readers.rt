@@ -12,11 +12,11 @@ ghost use Rattle.cache_readers.specs.Readers.{ReaderView as TheReaderView, new_r
 use crate::glancing::{Glanced, glance_first};
 use crate::looking::{count_one, find, find_from, read_words, take, touch};
 use bump_heads::{Heads, Name};
-use bump_parts::{Hold, Worker};
 use bump_readers::ReaderHeads;
 use bump_rules::{Accounts, Head, ItemId};
 use bump_steps::RowLaw;
-use cache_nests::IndexReader;
+use bump_unlocked::{Hold, Worker};
+use cache_index::IndexReader;
 use std::alloc::Global;
 use std::marker::Model;
 use std::sync::Arc;
@@ -343,7 +343,7 @@ impl<N: Name, L: RowLaw> WordReader<N, L> {
 
     /// Its counts of bumps, as `Worker::counts` tells them: accepted and dropped ones add up to those attempted.
     pub fn bumps(&self) -> Accounts
-        ensures counts { result ≡ self.now.worker.part.accounts }
+        ensures counts { result ≡ self.now.worker.sheet.accounts }
         ensures add_up { IsAccounts result (length self.now.worker.sender.sent) hand.Idle }
     {
         self.worker.counts()

@@ -1,5 +1,5 @@
 -- What a part keeps where its items and their words stay.
-use Rattle.std.proofs.Common.{◌≡◌, ℕ, ◌+◌, false, List, ◌∷◌, Option, Some, None, IsSome, IfSome, Result, Ok, Err, IfOk, IfErr, ◌⊎◌, inl, inr, sym, ap, ap₂, ◌∙◌, subst}
+use Rattle.std.proofs.Common.{◌≡◌, ℕ, ◌+◌, false, List, ◌∷◌, Option, None, IsSome, Result, Ok, Err, IfOk, IfErr, ◌⊎◌, inl, inr, sym, ap, ap₂, ◌∙◌, subst}
 use std.Path.{fun_ext}
 use Rattle.bump_steps.specs.Rule.{RowPredicate}
 use Rattle.bump_steps.specs.Views.{last_label, last_word}
@@ -10,7 +10,7 @@ use Rattle.cache_part.specs.Keys.{key_at, value_at, words_from}
 use Rattle.cache_part.specs.Parts.{PartView, IsUnder, IsUnknown}
 use Rattle.cache_part.specs.Putting.{row_at}
 use Rattle.cache_part.proofs.KeyLemmas.{words_same}
-use Rattle.entry_times.specs.Times.{has_expired}
+use Rattle.bump_rules.specs.Expiry.{has_expired}
 use Rattle.cache_shelf.specs.Entries.{Keeps, AllKept, AllUnexpiredKept}
 use Rattle.cache_shelf.specs.Shelves.{IsLawful, Obeys}
 
@@ -21,13 +21,6 @@ pub record IsAlike (before after : PartView) : Type 0 where
 
 pub alike_back : (before after : PartView) → IsAlike before after → IsAlike after before
 alike_back before after alike = record { key_words = sym alike.key_words; value_words = sym alike.value_words }
-
-pub alike_then : (before between after : PartView) → IsAlike before between → IsAlike between after
-    → IsAlike before after
-alike_then before between after one other = record {
-  key_words = other.key_words ∙ one.key_words;
-  value_words = other.value_words ∙ one.value_words;
-}
 
 -- they have behind a put
 pub alike_put : (before after : PartView) → after ≡ record before {
@@ -61,26 +54,26 @@ alike_tended before after rest =
 
 -- this chunk has the words that it had
 abbrev pub SameWords : ℕ → PartView → PartView → Type 0
-SameWords chunk before after = (i : ℕ) → last_word i after.book.part chunk ≡ last_word i before.book.part chunk
+SameWords chunk before after = (i : ℕ) → last_word i after.book.sheet chunk ≡ last_word i before.book.sheet chunk
 
 -- a chunk whose words stay has the key that it had
 pub key_stays : (before after : PartView) (chunk : ℕ) → IsAlike before after → SameWords chunk before after
-    → key_at after.key_words after.book.part chunk ≡ key_at before.key_words before.book.part chunk
-key_stays before after chunk alike words = ap (λ n. key_at n after.book.part chunk) alike.key_words
-    ∙ words_same before.book.part after.book.part chunk 0 before.key_words words
+    → key_at after.key_words after.book.sheet chunk ≡ key_at before.key_words before.book.sheet chunk
+key_stays before after chunk alike words = ap (λ n. key_at n after.book.sheet chunk) alike.key_words
+    ∙ words_same before.book.sheet after.book.sheet chunk 0 before.key_words words
 
 -- and the value
 pub value_stays : (before after : PartView) (chunk : ℕ) → IsAlike before after → SameWords chunk before after
-    → value_at after.key_words after.value_words after.book.part chunk
-    ≡ value_at before.key_words before.value_words before.book.part chunk
+    → value_at after.key_words after.value_words after.book.sheet chunk
+    ≡ value_at before.key_words before.value_words before.book.sheet chunk
 value_stays before after chunk alike words =
-    ap₂ (λ m n. value_at m n after.book.part chunk) alike.key_words alike.value_words
-    ∙ words_same before.book.part after.book.part chunk before.key_words before.value_words words
+    ap₂ (λ m n. value_at m n after.book.sheet chunk) alike.key_words alike.value_words
+    ∙ words_same before.book.sheet after.book.sheet chunk before.key_words before.value_words words
 
 -- and the time at which it expires, and then the value
 pub old_stays : (before after : PartView) (chunk : ℕ) → IsAlike before after → SameWords chunk before after
-    → last_label after.book.part chunk ∷ value_at after.key_words after.value_words after.book.part chunk
-    ≡ last_label before.book.part chunk ∷ value_at before.key_words before.value_words before.book.part chunk
+    → last_label after.book.sheet chunk ∷ value_at after.key_words after.value_words after.book.sheet chunk
+    ≡ last_label before.book.sheet chunk ∷ value_at before.key_words before.value_words before.book.sheet chunk
 old_stays before after chunk alike words =
     ap₂ (λ label value. label ∷ value) (words 0) (value_stays before after chunk alike words)
 
@@ -88,8 +81,8 @@ old_stays before after chunk alike words =
 pub row_stays : (before after : PartView) (chunk : ℕ) → IsAlike before after → SameWords chunk before after
     → row_at after chunk ≡ row_at before chunk
 row_stays before after chunk alike words = ap₂ (λ label row. label ∷ row) (words 0)
-    (ap₂ (λ m n. words_from 0 (m + n) after.book.part chunk) alike.key_words alike.value_words
-    ∙ words_same before.book.part after.book.part chunk 0 (before.key_words + before.value_words) words)
+    (ap₂ (λ m n. words_from 0 (m + n) after.book.sheet chunk) alike.key_words alike.value_words
+    ∙ words_same before.book.sheet after.book.sheet chunk 0 (before.key_words + before.value_words) words)
 
 -- and obeys the law as it did
 pub obeys_stays : (law : RowPredicate) (before after : PartView) (chunk : ℕ) → SameWords chunk before after
@@ -98,7 +91,7 @@ obeys_stays law before after chunk words obeys = subst law (sym (fun_ext words))
 
 -- an item that stays linked, and whose words stay, stays under its key
 pub under_stays : (key : List ℕ) (before after : PartView) (chunk : ℕ) → IsAlike before after
-    → linked_at after.book.part chunk ≡ linked_at before.book.part chunk → SameWords chunk before after
+    → linked_at after.book.sheet chunk ≡ linked_at before.book.sheet chunk → SameWords chunk before after
     → IsUnder key chunk before → IsUnder key chunk after
 under_stays key before after chunk alike linked words under = record {
   linked = subst IsSome (sym linked) under.linked;
@@ -108,7 +101,7 @@ under_stays key before after chunk alike linked words under = record {
 -- and what it keeps stays
 pub keeps_stays : (key value : List ℕ) (expires : ℕ) (before after : PartView) → IsAlike before after
     → (kept : Keeps key value expires before)
-    → linked_at after.book.part kept.chunk ≡ linked_at before.book.part kept.chunk
+    → linked_at after.book.sheet kept.chunk ≡ linked_at before.book.sheet kept.chunk
     → SameWords kept.chunk before after → Keeps key value expires after
 keeps_stays key value expires before after alike kept linked words = record {
   chunk = kept.chunk;
@@ -162,25 +155,25 @@ module _ (now : ℕ) (before after : PartView) (alike : IsAlike before after)
   unexpired_words chunk i = items.words i chunk
 
   -- what is linked behind it was linked
-  pub was_unexpired : (chunk : ℕ) → IsSome (linked_at after.book.part chunk)
-      → linked_at after.book.part chunk ≡ linked_at before.book.part chunk
+  pub was_unexpired : (chunk : ℕ) → IsSome (linked_at after.book.sheet chunk)
+      → linked_at after.book.sheet chunk ≡ linked_at before.book.sheet chunk
   was_unexpired chunk some = by (items.linked chunk)
     where
-      by : (linked_at after.book.part chunk ≡ linked_at before.book.part chunk)
+      by : (linked_at after.book.sheet chunk ≡ linked_at before.book.sheet chunk)
           ⊎ EndedExpired now chunk before.book after.book
-          → linked_at after.book.part chunk ≡ linked_at before.book.part chunk
+          → linked_at after.book.sheet chunk ≡ linked_at before.book.sheet chunk
       by (inl same) = same
-      by (inr ended) = absurd (not_linked (linked_at after.book.part chunk) ended.gone some)
+      by (inr ended) = absurd (not_linked (linked_at after.book.sheet chunk) ended.gone some)
 
   -- and so is what was kept, where it hasn't expired
   unexpired_stays : (key value : List ℕ) (expires : ℕ) → has_expired expires now ≡ false
       → (kept : Keeps key value expires before)
-      → linked_at after.book.part kept.chunk ≡ linked_at before.book.part kept.chunk
+      → linked_at after.book.sheet kept.chunk ≡ linked_at before.book.sheet kept.chunk
   unexpired_stays key value expires fresh kept = by (items.linked kept.chunk)
     where
-      by : (linked_at after.book.part kept.chunk ≡ linked_at before.book.part kept.chunk)
+      by : (linked_at after.book.sheet kept.chunk ≡ linked_at before.book.sheet kept.chunk)
           ⊎ EndedExpired now kept.chunk before.book after.book
-          → linked_at after.book.part kept.chunk ≡ linked_at before.book.part kept.chunk
+          → linked_at after.book.sheet kept.chunk ≡ linked_at before.book.sheet kept.chunk
       by (inl same) = same
       by (inr ended) = absurd (cc (sym fresh ∙ (ap (λ at. has_expired at now) (sym kept.label) ∙ ended.expired)))
 
@@ -205,7 +198,3 @@ where_ok (Err b) P Q then has = tt
 pub where_err : {A B : Type 0} (r : Result A B) (P Q : B → Type 0) → ((b : B) → P b → Q b) → IfErr r P → IfErr r Q
 where_err (Ok a) P Q then has = tt
 where_err (Err b) P Q then has = then b has
-
--- a fact of the chunk that is told
-pub at_told : (told : Option ℕ) (P : ℕ → Type 0) → IfSome told P → (c : ℕ) → told ≡ Some c → P c
-at_told told P has c same = subst (λ o. IfSome o P) same has

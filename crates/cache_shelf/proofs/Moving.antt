@@ -1,19 +1,24 @@
 -- What is said of a change of a part, where its items move from list to list before or behind it.
-use Rattle.std.proofs.Common.{◌≡◌, ℕ, List, ◌∷◌, ◌++◌, length, take, drop, Option, Some, None, IsSome, IfNone, refl, sym, ap, ◌∙◌, subst}
+use Rattle.std.proofs.Common.{◌≡◌, ℕ, List, ◌++◌, length, take, drop, Option, Some, None, IsSome, refl, sym, ap, ◌∙◌, subst}
 use Rattle.std.proofs.Math.Seq.{take-append_seam}
 use Rattle.bump_class.specs.Lanes.{LaneView}
 use Rattle.bump_steps.specs.Rule.{RowPredicate}
-use Rattle.bump_steps.specs.Views.{last_label, last_word}
+use Rattle.bump_steps.specs.Views.{last_word}
 use Rattle.cache_lists.specs.Items.{KeepsItems}
-use Rattle.cache_part.specs.Keys.{key_at, value_at}
-use Rattle.cache_part.specs.Parts.{PartView, IsItem, IsUnknown}
+use Rattle.cache_part.specs.Keys.{key_at}
+use Rattle.cache_part.specs.declared.putting.NoChunk.{NoChunk}
+use Rattle.cache_part.specs.declared.putting.PutItem.{PutItem}
+use Rattle.cache_part.specs.Parts.{PartView, IsPart, IsUnknown, OnlyReads}
+use Rattle.cache_part.specs.Putting.{FindsNoRoom, Puts, PutsItem, RefusesItem, Told}
 use Rattle.cache_part.proofs.LookLemmas.{looks_keep, looks_then}
 use Rattle.cache_part.specs.Tending.{DrainsEach}
-use Rattle.cache_shelf.specs.Entries.{Keeps, AllKept, Evicted, Had, OnlyReads, OthersKept, key_of_evicted}
+use Rattle.cache_shelf.specs.Entries.{Keeps, AllKept, Evicted, Had, OthersKept, key_of_evicted}
 use Rattle.cache_shelf.specs.Limits.{put_bumps}
+use Rattle.cache_shelf.specs.Putting.{PutsEntry, RefusesEntry}
 use Rattle.cache_shelf.specs.Shelves.{IsLawful, ShelfView}
 use Rattle.cache_shelf.specs.Turns.{OnlyMoves, PutsInTurn, TakesTurn}
 use Rattle.cache_shelf.proofs.Keeping.{IsAlike, alike_back, key_stays, moved_all, moved_keeps, moved_unknown, moved_under, obeys_stays, old_stays, row_stays, unknown_before}
+use Rattle.cache_shelf.proofs.Putting.{puts_evicted, puts_had, puts_kept, puts_others, refuses_evicted, refuses_stay}
 
 -- items stay linked with their words, and keys and values have as many words
 pub record Moves (before after : PartView) : Type 0 where
@@ -70,15 +75,15 @@ module _ (before between after : PartView) (moves : Moves between after) where
     linked = did.linked;
     obeys = did.obeys;
     told = did.told;
-    unknown = moved_unknown between after moves.alike moves.items (key_at before.key_words before.book.part c) did.unknown;
+    unknown = moved_unknown between after moves.alike moves.items (key_at before.key_words before.book.sheet c) did.unknown;
   }
 
 -- before a change
 module _ (before between after : PartView) (moves : Moves before between) where
-  back : (c i : ℕ) → last_word i before.book.part c ≡ last_word i between.book.part c
+  back : (c i : ℕ) → last_word i before.book.sheet c ≡ last_word i between.book.sheet c
   back c i = sym (moves.items.words i c)
 
-  key_of : (c : ℕ) → key_at between.key_words between.book.part c ≡ key_at before.key_words before.book.part c
+  key_of : (c : ℕ) → key_at between.key_words between.book.sheet c ≡ key_at before.key_words before.book.sheet c
   key_of c = key_stays before between c moves.alike (λ i. moves.items.words i c)
 
   -- the key of what is evicted
@@ -125,21 +130,6 @@ module _ (before between after : PartView) (moves : Moves before between) where
     told = did.told ∙ row_stays before between c moves.alike (λ i. moves.items.words i c);
     unknown = subst (λ key. IsUnknown key after) (key_of c) did.unknown;
   }
-
--- what the key had, by what was read behind a change that keeps its row
-pub had_read : (law : RowPredicate) (key : List ℕ) (told : Option ℕ) (from to : List ℕ) (before seen : PartView)
-    → IsLawful law before → IsItem key told before → IsAlike before seen
-    → ((c : ℕ) → told ≡ Some c → (i : ℕ) → last_word i seen.book.part c ≡ last_word i before.book.part c)
-    → IfNone told (to ≡ from)
-    → ((c : ℕ) → told ≡ Some c → to ≡ last_label seen.book.part c
-    ∷ value_at seen.key_words seen.value_words seen.book.part c)
-    → Had law key told from to before
-had_read law key None from to before seen lawful item alike words none some = (item, none)
-had_read law key (Some c) from to before seen lawful item alike words none some = record {
-  under = item;
-  obeys = lawful c item.linked;
-  told = some c refl ∙ old_stays before seen c alike (words c refl);
-}
 
 -- bumps of a shelf's lanes that are applied only move items of its part
 pub drain_moves : (inside shelf : ShelfView) (drained : PartView) → inside ≡ shelf
@@ -212,3 +202,35 @@ in_turn Does now inside shelf drained mid from between to len after same all eve
     whole : take len (to ++ drop (length to) inside.lanes) ≡ to
     whole = ap (λ n. take n (to ++ drop (length to) inside.lanes)) (sym (again ∙ (even ∙ long)))
         ∙ take-append_seam to (drop (length to) inside.lanes)
+
+-- what a put of the part came to, between both, is what it came to for the shelf
+module _ (law : RowPredicate) (row : List ℕ) (now most : ℕ) (was told : Told) (before after : ShelfView)
+    (drained mid : PartView) (from to : List LaneView) (moves : OnlyMoves before.part drained)
+    (turn : OnlyMoves mid after.part) (alike : IsAlike drained mid) (lawful : IsLawful law drained)
+    (is : IsPart drained.seed drained.key_words drained.book.sheet drained.index) where
+  pub puts_entry : (expires : ℕ) (did : PutItem) → PutsItem did row expires now most was told drained from mid to
+      → PutsInTurn (Puts did.old did.evicted row expires now did.chunk) now before after
+      → PutsEntry law did row expires now was told before after
+  puts_entry expires did puts in_its_turn = record {
+    kept = kept_in_turn moves turn row expires
+        (puts_kept law row now most was told drained mid from to alike lawful is expires did puts);
+    had = had_in_turn moves turn law row did.old was.old told.old
+        (puts_had law row now most was told drained mid from to alike lawful is expires did puts);
+    evicted = evicted_in_turn moves turn law did.evicted was.evicted told.evicted
+        (puts_evicted law row now most was told drained mid from to alike lawful is expires did puts);
+    others = others_in_turn moves turn row did.evicted
+        (puts_others law row now most was told drained mid from to alike lawful is expires did puts);
+    puts = in_its_turn;
+  }
+
+  pub refuses_entry : (why : NoChunk) → RefusesItem why row now most was told drained from mid to
+      → PutsInTurn (FindsNoRoom (take before.part.key_words row) why.evicted now) now before after
+      → RefusesEntry law why row now was told before after
+  refuses_entry why refuses in_its_turn = record {
+    had = refuses.had;
+    evicted = evicted_in_turn moves turn law why.evicted was.evicted told.evicted
+        (refuses_evicted law row now most was told drained mid from to alike lawful is why refuses);
+    stay = all_in_turn moves turn why.evicted
+        (refuses_stay law row now most was told drained mid from to alike lawful is why refuses);
+    refuses = in_its_turn;
+  }

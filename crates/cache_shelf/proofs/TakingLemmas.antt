@@ -21,7 +21,7 @@ module _ (most now : ℕ) (before after : PartView) (alike : IsAlike before afte
 
   -- and where one is it was linked
   was : (taken : Option ℕ) → TakesNext most now taken before after
-      → IfSome taken (λ c. IsSome (linked_at before.book.part c))
+      → IfSome taken (λ c. IsSome (linked_at before.book.sheet c))
   was None takes = tt
   was (Some chunk) takes = takes.finds.has.linked
 
@@ -39,7 +39,7 @@ module _ (most now : ℕ) (before after : PartView) (alike : IsAlike before afte
 
     -- and what is told is the row of an item that is gone
     pub taken_told : (law : RowPredicate) (from to : List ℕ) → IsLawful law before
-        → IsPart before.seed before.key_words before.book.part before.index → TellsRow taken from to before
+        → IsPart before.seed before.key_words before.book.sheet before.index → TellsRow taken from to before
         → Evicted law taken from to before after
     taken_told = refused_evicted before after taken alike (stay before after taken ends (looks taken takes.ends))
         (was taken takes) (gone before after taken ends)

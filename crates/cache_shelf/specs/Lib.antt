@@ -1,6 +1,7 @@
 pub mod Limits
 pub mod Shelves
 pub mod Entries
+pub mod Putting
 pub mod Turns
 pub mod Visiting
 pub use Rattle.bump_class.specs.Books
@@ -18,9 +19,9 @@ pub use Rattle.cache_part.specs.Expiring
 pub use Rattle.cache_part.specs.Keys
 pub use Rattle.cache_part.specs.Looks
 pub use Rattle.cache_part.specs.Parts
-pub use Rattle.cache_part.specs.Putting
+pub use Rattle.cache_part.specs.Putting as PartPutting
 pub use Rattle.cache_part.specs.Stats
 pub use Rattle.cache_part.specs.Taking
 pub use Rattle.cache_part.specs.Tending
 pub use Rattle.cache_part.specs.Visiting as PartVisiting
-pub use Rattle.entry_times.specs.Times
+pub use Rattle.bump_rules.specs.Expiry

@@ -49,11 +49,11 @@ with_put after before = record before {
 
 -- the law holds of the words that were stored last for this chunk
 abbrev pub Obeys : RowPredicate → PartView → ℕ → Type 0
-Obeys law part chunk = law (last_words part.book.part chunk)
+Obeys law part chunk = law (last_words part.book.sheet chunk)
 
 -- the law holds of each item that is linked
 abbrev pub IsLawful : RowPredicate → PartView → Type 0
-IsLawful law part = (chunk : ℕ) → IsSome (linked_at part.book.part chunk) → Obeys law part chunk
+IsLawful law part = (chunk : ℕ) → IsSome (linked_at part.book.sheet chunk) → Obeys law part chunk
 
 -- the part may have looked until an item had expired, which ended then: its cursor, and the counts of what was evicted,
 -- may be others, and what may where items ended; all else stays, also the lanes

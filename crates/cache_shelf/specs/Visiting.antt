@@ -5,7 +5,7 @@ use Rattle.bump_steps.specs.Views.{last_label}
 use Rattle.cache_part.specs.Keys.{key_at, value_at}
 use Rattle.cache_part.specs.Parts.{PartView}
 use Rattle.cache_part.specs.Visiting.{unexpired_among, unexpired_chunks}
-use Rattle.entry_times.specs.Times.{has_expired}
+use Rattle.bump_rules.specs.Expiry.{has_expired}
 use Rattle.cache_shelf.specs.Entries.{Keeps}
 
 -- the words of a key, those of its value, and when it expires
@@ -17,20 +17,20 @@ pub record Entry : Type 0 where
 -- the entry of a chunk
 abbrev pub entry_at : PartView → ℕ → Entry
 entry_at part chunk = record {
-  key = key_at part.key_words part.book.part chunk;
-  value = value_at part.key_words part.value_words part.book.part chunk;
-  expires = last_label part.book.part chunk;
+  key = key_at part.key_words part.book.sheet chunk;
+  value = value_at part.key_words part.value_words part.book.sheet chunk;
+  expires = last_label part.book.sheet chunk;
 }
 
 -- the entries of the class's first chunks, so many, that are linked and haven't expired at this time, in the order of
 -- the chunks' numbers
 abbrev pub first_unexpired : ℕ → PartView → ℕ → List Entry
 first_unexpired now part count =
-    map (entry_at part) (unexpired_among now part.book.part part.book.part.first count)
+    map (entry_at part) (unexpired_among now part.book.sheet part.book.sheet.first count)
 
 -- those of all its chunks
 abbrev pub unexpired_entries : ℕ → PartView → List Entry
-unexpired_entries now part = map (entry_at part) (unexpired_chunks now part.book.part)
+unexpired_entries now part = map (entry_at part) (unexpired_chunks now part.book.sheet)
 
 -- it is kept, and hasn't expired at this time
 abbrev pub IsUnexpired : ℕ → PartView → Entry → Type 0

@@ -1,25 +1,22 @@
 //! A shelf: a part, the lanes of its readers' rings, and when its lists are balanced.
-ghost use Rattle.std.specs.Prelude.{◌≡◌, ℕ, List, ◌+◌, ◌<◌, ◌≤◌, IfSome, IfNone, IfOk, IfErr, None, true, false, [], suc, length, take, drop};
+ghost use Rattle.std.specs.Prelude.{◌≡◌, ℕ, List, ◌+◌, ◌<◌, ◌≤◌, IfOk, IfErr, true, false, [], suc, length};
 ghost use Rattle.bump_class.specs.Books.{IsBook};
 ghost use Rattle.bump_class.specs.Links.{MayHave};
-ghost use Rattle.bump_rules.specs.Lists.{all_without};
 ghost use Rattle.bump_steps.specs.Views.{last_word, owns};
 ghost use Rattle.cache_lists.specs.Counts.{IsFlow, SegmentsAddUp};
-ghost use Rattle.cache_lists.specs.Items.{EndsAt};
-ghost use Rattle.cache_lists.specs.Segments.{SameSegments};
 ghost use Rattle.cache_part.specs.Parts.{IsPart, IsUnknown};
 ghost use Rattle.cache_part.specs.Stats.{stats_of};
 ghost use Rattle.cache_part.specs.Expiring.{KeepsUnexpired, LooksInTurn};
-ghost use Rattle.cache_part.specs.Looks.{LooksOnly};
 ghost use Rattle.cache_part.specs.Putting.{row_at};
 ghost use Rattle.cache_part.specs.Visiting.{has_unexpired};
 ghost use Rattle.cache_part.specs.Taking.{TakesNext};
 ghost use Rattle.cache_shelf.specs.Limits.{put_rounds};
 ghost use Rattle.cache_shelf.specs.Shelves.{ShelfView as TheShelfView, IsLawful, with_ended, with_put, with_taken, with_tended};
-ghost use Rattle.cache_shelf.specs.Entries.{AllKept, AllUnexpiredKept, Evicted, FindsNoRoom, Had, Keeps, OthersKept, PutsEntry, ReadsShelf, key_of_evicted};
-ghost use Rattle.cache_shelf.specs.Turns.{PutsInTurn, TendsShelf};
+ghost use Rattle.cache_shelf.specs.Entries.{AllKept, AllUnexpiredKept, Evicted, Had, ReadsShelf, key_of_evicted};
+ghost use Rattle.cache_shelf.specs.Putting.{PutsEntry, RefusesEntry, RemovesEntry};
+ghost use Rattle.cache_shelf.specs.Turns.{TendsShelf};
 
-use crate::entries::{look_entry, put_entry, read_unexpired_entry, remove_entry};
+use crate::entries::read_unexpired_entry;
 use crate::limits::{Limits, PUT_BUMPS};
 use crate::taking::take_entry;
 use crate::turns::take_turn;
@@ -51,7 +48,7 @@ impl<N: Name, L: RowLaw> Model for Shelf<N, L> {
 impl<N: Name, L: RowLaw> Shelf<N, L> {
     /// A shelf of a part that has no items yet, and of the lanes of its readers' rings.
     pub fn new(part: Part<N, L>, lanes: Vec<RawLane<N, L>>, limits: Limits) -> Shelf<N, L>
-        requires { part.book.part.history ≡ [] }
+        requires { part.book.sheet.history ≡ [] }
         ensures { result ≡ record { part = part; lanes = lanes.items; limits = limits; puts = 0 } }
     {
         Shelf {
@@ -64,13 +61,13 @@ impl<N: Name, L: RowLaw> Shelf<N, L> {
 
     /// What it keeps: what `Part::promise` tells of its part, and that the table's law holds of each item.
     pub fn promise(&self)
-        ensures part { IsPart self.now.part.seed self.now.part.key_words self.now.part.book.part self.now.part.index }
+        ensures part { IsPart self.now.part.seed self.now.part.key_words self.now.part.book.sheet self.now.part.index }
         ensures words { self.now.part.key_words + self.now.part.value_words ≤ N.table.slots }
         ensures lawful { IsLawful L.law self.now.part }
         ensures book { IsBook self.now.part.book }
-        ensures flow { IsFlow self.now.part.flow self.now.part.book.part }
+        ensures flow { IsFlow self.now.part.flow self.now.part.book.sheet }
         ensures sums { SegmentsAddUp (length self.now.part.book.lists.hot) (length self.now.part.book.lists.warm)
-            (length self.now.part.book.lists.cold) (length self.now.part.book.lists.temp) self.now.part.book.part }
+            (length self.now.part.book.lists.cold) (length self.now.part.book.lists.temp) self.now.part.book.sheet }
         ensures puts { self.now.puts < put_rounds }
     {
         self.part.promise();
@@ -99,30 +96,21 @@ impl<N: Name, L: RowLaw> Shelf<N, L> {
         requires old { length old.old ≡ suc self.old.part.value_words }
         requires evicted { length evicted.old ≡ suc (self.old.part.key_words + self.old.part.value_words) }
         requires law { MayHave L.law expires row.now }
-        ensures kept { IfOk result (λ did. Keeps (take self.old.part.key_words row.now)
-            (drop self.old.part.key_words row.now) expires self.new.part) }
-        ensures had { IfOk result (λ did. Had L.law (take self.old.part.key_words row.now) did.old old.old old.new
-            self.old.part) }
-        ensures evicted { IfOk result (λ did. Evicted L.law did.evicted evicted.old evicted.new self.old.part
-            self.new.part) }
-        ensures others { IfOk result (λ did. OthersKept (take self.old.part.key_words row.now)
-            (key_of_evicted did.evicted self.old.part) self.old.part self.new.part) }
-        ensures puts { IfOk result (λ did. PutsInTurn (PutsEntry did.old did.evicted row.now expires now did.chunk) now
-            self.old self.new) }
-        ensures evicted_refused { IfErr result (λ why. Evicted L.law why.evicted evicted.old evicted.new self.old.part
-            self.new.part) }
-        ensures stay { IfErr result (λ why. AllKept (key_of_evicted why.evicted self.old.part) self.old.part
-            self.new.part) }
-        ensures refuses { IfErr result (λ why. PutsInTurn (FindsNoRoom (take self.old.part.key_words row.now)
-            why.evicted now) now self.old self.new) }
-        ensures old_stays { IfErr result (λ why. old.new ≡ old.old) }
+        ensures puts { IfOk result (λ did. PutsEntry L.law did row.now expires now
+            (record { old = old.old; evicted = evicted.old }) (record { old = old.new; evicted = evicted.new }) self.old
+            self.new) }
+        ensures refuses { IfErr result (λ why. RefusesEntry L.law why row.now now
+            (record { old = old.old; evicted = evicted.old }) (record { old = old.new; evicted = evicted.new }) self.old
+            self.new) }
         ensures lengths { (length old.new ≡ length old.old) × (length evicted.new ≡ length evicted.old) }
         ensures same { self.new ≡ with_put self.new self.old }
     {
         let lanes: &mut [RawLane<N, L>] = &mut self.lanes;
         self.part.drain(lanes, PUT_BUMPS, now);
         let most = self.limits.most;
-        let put = put_entry(&mut self.part, row, expires, old, evicted, lanes, most, now);
+        // A key is that of one item: so what is evicted leaves nothing under its key.
+        self.part.promise();
+        let put = self.part.put(row, expires, old, evicted, lanes, most, now);
         self.puts = take_turn(&mut self.part, self.limits, self.puts, now);
         put
     }
@@ -134,18 +122,12 @@ impl<N: Name, L: RowLaw> Shelf<N, L> {
     pub fn remove(&mut self, key: &[u64], old: &mut [u64]) -> Option<u32>
         requires key { length key.now ≡ self.old.part.key_words }
         requires old { length old.old ≡ suc self.old.part.value_words }
-        ensures had { Had L.law key.now result old.old old.new self.old.part }
-        ensures gone { IsUnknown key.now self.new.part }
-        ensures others { OthersKept key.now None self.old.part self.new.part }
-        ensures ends { IfSome result (λ chunk. EndsAt chunk self.old.part.book self.new.part.book) }
-        ensures lists { IfSome result (λ chunk. SameSegments (all_without chunk self.old.part.book.lists)
-            self.new.part.book.lists) }
-        ensures looks { IfNone result (LooksOnly self.old.part.book self.new.part.book) }
-        ensures unchanged { IfNone result (self.new.part ≡ record self.old.part { book = self.new.part.book }) }
+        ensures removes { RemovesEntry L.law key.now result old.old old.new self.old.part self.new.part }
         ensures length { length old.new ≡ length old.old }
         ensures same { self.new ≡ with_ended self.new self.old }
     {
-        remove_entry(&mut self.part, key, old)
+        self.part.promise();
+        self.part.remove(key, old)
     }
 
     /// Looks for the item of this key, and tells its chunk, and when it expires and its value in `told`, which has one
@@ -158,7 +140,7 @@ impl<N: Name, L: RowLaw> Shelf<N, L> {
         ensures reads { ReadsShelf self.old self.new }
         ensures length { length told.new ≡ length told.old }
     {
-        look_entry(&mut self.part, key, told)
+        self.part.look(key, told)
     }
 
     /// Tends the part, as `Part::tend` does: the bumps that wait are applied, at most as many of each lane as the
@@ -185,7 +167,7 @@ impl<N: Name, L: RowLaw> Shelf<N, L> {
     /// Ends each item, and none counts as evicted. It looks at each chunk of the class once.
     pub fn clear(&mut self)
         ensures empty { (key : List ℕ) → IsUnknown key self.new.part }
-        ensures words { (i c : ℕ) → last_word i self.new.part.book.part c ≡ last_word i self.old.part.book.part c }
+        ensures words { (i c : ℕ) → last_word i self.new.part.book.sheet c ≡ last_word i self.old.part.book.sheet c }
         ensures same { self.new ≡ with_ended self.new self.old }
     {
         self.part.clear();
@@ -200,8 +182,8 @@ impl<N: Name, L: RowLaw> Shelf<N, L> {
 
     /// The chunks of the class: from its first one up to that behind its last one.
     pub fn chunks(&self) -> Range<u32>
-        ensures start { result.start ≡ self.now.part.book.part.first }
-        ensures end { result.end ≡ self.now.part.book.part.first + self.now.part.book.part.count }
+        ensures start { result.start ≡ self.now.part.book.sheet.first }
+        ensures end { result.end ≡ self.now.part.book.sheet.first + self.now.part.book.sheet.count }
     {
         self.part.chunks()
     }
@@ -211,9 +193,9 @@ impl<N: Name, L: RowLaw> Shelf<N, L> {
     /// its key and of its value. Where none is `row` stays, which has one word more than a row. The item isn't touched,
     /// and nothing changes but what the class's seat notes of its loads.
     pub fn read_unexpired(&mut self, chunk: u32, now: u64, row: &mut [u64]) -> bool
-        requires own { owns chunk self.old.part.book.part ≡ true }
+        requires own { owns chunk self.old.part.book.sheet ≡ true }
         requires row { length row.old ≡ suc (self.old.part.key_words + self.old.part.value_words) }
-        ensures told { result ≡ has_unexpired now self.old.part.book.part chunk }
+        ensures told { result ≡ has_unexpired now self.old.part.book.sheet chunk }
         ensures read { result ≡ true → row.new ≡ row_at self.old.part chunk }
         ensures stays { result ≡ false → row.new ≡ row.old }
         ensures reads { ReadsShelf self.old self.new }

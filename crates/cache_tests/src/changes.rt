@@ -1,6 +1,7 @@
 //! Calls of each kind beside a plain map with times, which also go backwards, or are the least and the greatest there
 //! are: what has expired is nothing to a call, also to one that looks first, and puts where it is due.
-ghost use Rattle.std.specs.Prelude.{◌≡◌, ◌<◌};
+ghost use Rattle.std.specs.Prelude.{◌<◌};
+ghost use Rattle.bump_cache.specs.Opening.{IsNamed};
 
 use crate::stands::{config_of, next};
 use bump_cache::{
@@ -338,10 +339,7 @@ fn run<N: Name + LogName, W: Wait>(
     blank: CacheBlank<u64, u64>,
     start: u64,
 ) -> Result<u64, AllocError>
-    requires table { blank.table ≡ N.table }
-    requires book { blank.log.book ≡ N.book }
-    requires name { blank.log.name ≡ N.name }
-    requires parts { blank.log.parts ≡ N.parts }
+    requires { IsNamed N.table N.book N.name N.parts blank }
 {
     let Opened {
         cache,

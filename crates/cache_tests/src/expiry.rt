@@ -1,5 +1,6 @@
 //! Items that expire: to the tick, found by gets, puts, removals and tends, and told where that is asked for.
-ghost use Rattle.std.specs.Prelude.{◌≡◌};
+
+ghost use Rattle.bump_cache.specs.Opening.{IsNamed};
 
 use crate::stands::{Entry, Stand, config_of};
 use bump_cache::{CacheBlank, CacheConfig, Cause, Evicted, LogName, Name, Put};
@@ -123,7 +124,11 @@ impl<N: Name + LogName> Few<N> {
         assert_eq!(rt; second, Some(evicted));
         let stats = self.stand.stats(rt);
         assert_eq!(rt;
-            (stats.reclaimed, stats.evicted, stats.expired_unfetched),
+            (
+                stats.reclaimed(),
+                stats.evicted(),
+                stats.expired_unfetched()
+            ),
             (1, 1, 0)
         );
     }
@@ -136,7 +141,7 @@ impl<N: Name + LogName> Few<N> {
         for (turn, swept) in [(1, 2), (2, 4), (3, 5), (4, 5)] {
             self.stand.tend(rt, 20);
             assert_eq!(rt;
-                self.stand.stats(rt).crawler_reclaimed,
+                self.stand.stats(rt).crawler_reclaimed(),
                 swept,
                 "turn {turn}"
             );
@@ -144,7 +149,7 @@ impl<N: Name + LogName> Few<N> {
         for key in 0..10 {
             self.expect(rt, key, 20, key % 2 == 1);
         }
-        assert_eq!(rt; self.stand.stats(rt).expired_unfetched, 5);
+        assert_eq!(rt; self.stand.stats(rt).expired_unfetched(), 5);
     }
 
     // The ten items are at the first ten of twelve chunks, and each second one has expired. A call looks at four: the
@@ -171,8 +176,11 @@ impl<N: Name + LogName> Few<N> {
             self.expect(rt, key, 20, key % 2 == 1);
         }
         let stats = self.stand.stats(rt);
-        assert_eq!(rt; (stats.crawler_reclaimed, stats.expired_unfetched), (5, 4));
-        assert_eq!(rt; (stats.evicted, stats.reclaimed), (0, 0));
+        assert_eq!(rt;
+            (stats.crawler_reclaimed(), stats.expired_unfetched()),
+            (5, 4)
+        );
+        assert_eq!(rt; (stats.evicted(), stats.reclaimed()), (0, 0));
     }
 
     // Takes what has expired of a part, and counts how often each of so many keys is told.
@@ -203,9 +211,9 @@ impl<N: Name + LogName> Few<N> {
             let wanted = if key % 3 == 2 { 0 } else { 1 };
             assert_eq!(rt; *times, wanted, "key {key}");
         }
-        assert_eq!(rt; self.stand.stats(rt).crawler_reclaimed, 20);
+        assert_eq!(rt; self.stand.stats(rt).crawler_reclaimed(), 20);
         self.stand.tend(rt, 30);
-        assert_eq!(rt; self.stand.stats(rt).crawler_reclaimed, 20);
+        assert_eq!(rt; self.stand.stats(rt).crawler_reclaimed(), 20);
     }
 }
 
@@ -230,10 +238,7 @@ fn run<N: Name + LogName, R: Wait + Abort>(
     blank: CacheBlank<u64, u64>,
     case: Case,
 ) -> Result<(), AllocError>
-    requires table { blank.table ≡ N.table }
-    requires book { blank.log.book ≡ N.book }
-    requires name { blank.log.name ≡ N.name }
-    requires parts { blank.log.parts ≡ N.parts }
+    requires { IsNamed N.table N.book N.name N.parts blank }
 {
     let mut few = Few {
         stand: Stand::<N, u64, u64>::open(alloc, rt, blank)?,

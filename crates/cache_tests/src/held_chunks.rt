@@ -1,5 +1,6 @@
 //! Puts that find no chunk free apply the bumps that wait, since these hold the chunks of ended items.
-ghost use Rattle.std.specs.Prelude.{◌≡◌};
+
+ghost use Rattle.bump_cache.specs.Opening.{IsNamed};
 
 use crate::stands::{Stand, config_of};
 use bump_cache::{CacheBlank, LogName, Name, Put};
@@ -92,7 +93,7 @@ impl<N: Name + LogName> Busy<N> {
         assert_eq!(rt; self.stand.peek(0, &evicted.key, 2), None);
         assert_eq!(rt; self.stand.peek(0, &1_000, 2), Some(7));
         assert_eq!(rt; self.stand.peek(0, &99, 2), Some(106));
-        assert_eq!(rt; self.stand.stats(rt).evicted, 1);
+        assert_eq!(rt; self.stand.stats(rt).evicted(), 1);
     }
 }
 
@@ -103,10 +104,7 @@ fn run<N: Name + LogName, R: Wait + Abort>(
     blank: CacheBlank<u64, u64>,
     case: Case,
 ) -> Result<(), AllocError>
-    requires table { blank.table ≡ N.table }
-    requires book { blank.log.book ≡ N.book }
-    requires name { blank.log.name ≡ N.name }
-    requires parts { blank.log.parts ≡ N.parts }
+    requires { IsNamed N.table N.book N.name N.parts blank }
 {
     let mut busy = Busy {
         stand: Stand::<N, u64, u64>::open(alloc, rt, blank)?,

@@ -1,5 +1,6 @@
 //! An item that a reader holds keeps its words, and its chunk, whatever is put meanwhile.
-ghost use Rattle.std.specs.Prelude.{◌≡◌};
+
+ghost use Rattle.bump_cache.specs.Opening.{IsNamed};
 
 use crate::stands::{Changer, Entry};
 use bump_cache::{CacheBlank, CacheConfig, LogName, Name, Opened, Seed, open};
@@ -19,10 +20,7 @@ fn run<N: Name + LogName, R: Wait + Abort>(
     alloc: Global,
     blank: CacheBlank<u64, u64>,
 ) -> Result<(), Fail>
-    requires table { blank.table ≡ N.table }
-    requires book { blank.log.book ≡ N.book }
-    requires name { blank.log.name ≡ N.name }
-    requires parts { blank.log.parts ≡ N.parts }
+    requires { IsNamed N.table N.book N.name N.parts blank }
 {
     let Opened {
         cache,

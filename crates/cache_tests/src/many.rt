@@ -1,5 +1,6 @@
 //! Gets of many keys at a time answer and count what single gets do.
-ghost use Rattle.std.specs.Prelude.{◌≡◌};
+
+ghost use Rattle.bump_cache.specs.Opening.{IsNamed};
 
 use crate::stands::{Entry, Stand, config_of};
 use bump_cache::{CacheBlank, LogName, Name};
@@ -17,10 +18,7 @@ fn run<N: Name + LogName, R: Wait + Abort>(
     alloc: Global,
     blank: CacheBlank<u64, u64>,
 ) -> Result<(), Fail>
-    requires table { blank.table ≡ N.table }
-    requires book { blank.log.book ≡ N.book }
-    requires name { blank.log.name ≡ N.name }
-    requires parts { blank.log.parts ≡ N.parts }
+    requires { IsNamed N.table N.book N.name N.parts blank }
 {
     let mut stand = Stand::<N, u64, u64>::open(alloc, rt, blank)?;
     for key in 0..10 {

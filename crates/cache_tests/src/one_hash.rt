@@ -1,5 +1,6 @@
 //! Keys of one hash, as a stranger may choose them who knows the seed, and keys whose hashes have a part in common.
-ghost use Rattle.std.specs.Prelude.{◌≡◌};
+
+ghost use Rattle.bump_cache.specs.Opening.{IsNamed};
 
 use crate::stands::{SEED, Stand};
 use bump_cache::{CacheBlank, CacheConfig, LogName, Name, Seed};
@@ -102,10 +103,7 @@ fn run<N: Name + LogName, W: Wait>(
     keys: &[u64],
     put_ones: usize,
 ) -> Result<u64, AllocError>
-    requires table { blank.table ≡ N.table }
-    requires book { blank.log.book ≡ N.book }
-    requires name { blank.log.name ≡ N.name }
-    requires parts { blank.log.parts ≡ N.parts }
+    requires { IsNamed N.table N.book N.name N.parts blank }
 {
     let mut stand = Stand::<N, u64, u64>::open(alloc, rt, blank)?;
     Ok(count_wrong(rt, &mut stand, keys, put_ones))

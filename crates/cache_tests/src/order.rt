@@ -1,5 +1,6 @@
 //! In which order items are evicted, beside a model of the lists.
-ghost use Rattle.std.specs.Prelude.{◌≡◌};
+
+ghost use Rattle.bump_cache.specs.Opening.{IsNamed};
 
 use crate::lists::Lists;
 use crate::model::items_in;
@@ -88,7 +89,7 @@ impl<N: Name + LogName> Pair<N> {
         ];
         let lists = &mut self.lists;
         let same_sizes = sizes == lists.sizes();
-        let same_active = stats.evicted_active == lists.evicted_active();
+        let same_active = stats.evicted_active() == lists.evicted_active();
         self.note(same_sizes);
         self.note(same_active);
     }
@@ -228,12 +229,12 @@ impl<N: Name + LogName> Pair<N> {
         self.note(first.is_some());
         self.look(rt);
         let stats = self.stand.stats(rt);
-        self.note(stats.evicted == 1);
+        self.note(stats.evicted() == 1);
         let evicted = self.put_all(rt, 1_001, 2_001)?;
         self.note(evicted == 1_000);
         self.look(rt);
         let stats = self.stand.stats(rt);
-        self.note(stats.evicted == 1_001);
+        self.note(stats.evicted() == 1_001);
         self.note(items_in(&stats) == 1_000);
         Ok(())
     }
@@ -252,7 +253,7 @@ impl<N: Name + LogName> Pair<N> {
         let first = self.put(rt, 40)?;
         self.note(first == Some(8));
         let stats = self.stand.stats(rt);
-        self.note(stats.number_warm == 24 && stats.evicted_active == 1);
+        self.note(stats.number_warm == 24 && stats.evicted_active() == 1);
         for key in 0..8 {
             let seen = self.stand.peek(0, &key, self.now);
             self.note(seen == Some(key));
@@ -282,10 +283,7 @@ fn run<N: Name + LogName, W: Wait>(
     config: &CacheConfig,
     case: Case,
 ) -> Result<u64, AllocError>
-    requires table { blank.table ≡ N.table }
-    requires book { blank.log.book ≡ N.book }
-    requires name { blank.log.name ≡ N.name }
-    requires parts { blank.log.parts ≡ N.parts }
+    requires { IsNamed N.table N.book N.name N.parts blank }
 {
     let mut pair = Pair {
         stand: Stand::<N, u64, u64>::open(alloc, rt, blank)?,

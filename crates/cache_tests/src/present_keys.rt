@@ -1,6 +1,7 @@
 //! Keys that are there can be put anew at any time, whatever readers hold and whatever waits in their rings; and one that
 //! is held by more than the configuration says keeps what it had.
-ghost use Rattle.std.specs.Prelude.{◌≡◌};
+
+ghost use Rattle.bump_cache.specs.Opening.{IsNamed};
 
 use crate::stands::{Changer, Entry, SEED};
 use bump_cache::{
@@ -106,10 +107,7 @@ fn run<N: Name + LogName, R: Wait + Abort>(
     blank: CacheBlank<u64, u64>,
     items: u64,
 ) -> Result<u64, Fail>
-    requires table { blank.table ≡ N.table }
-    requires book { blank.log.book ≡ N.book }
-    requires name { blank.log.name ≡ N.name }
-    requires parts { blank.log.parts ≡ N.parts }
+    requires { IsNamed N.table N.book N.name N.parts blank }
 {
     let Opened {
         cache,
@@ -184,10 +182,7 @@ fn hold_too_much<N: Name + LogName, R: Wait + Abort>(
     alloc: Global,
     blank: CacheBlank<u64, u64>,
 ) -> Result<(), Fail>
-    requires table { blank.table ≡ N.table }
-    requires book { blank.log.book ≡ N.book }
-    requires name { blank.log.name ≡ N.name }
-    requires parts { blank.log.parts ≡ N.parts }
+    requires { IsNamed N.table N.book N.name N.parts blank }
 {
     let Opened {
         cache,

@@ -1,5 +1,6 @@
 //! Random calls on a cache and on its model, a plain map, and the statistics of what they came to.
-ghost use Rattle.std.specs.Prelude.{◌≡◌, ◌+◌, ◌≤◌};
+ghost use Rattle.std.specs.Prelude.{◌+◌, ◌≤◌};
+ghost use Rattle.bump_cache.specs.Opening.{IsNamed};
 
 use crate::model::{Model, answer_of};
 use crate::numbered::{Numbered, number_of};
@@ -151,10 +152,7 @@ fn run<N: Name + LogName, K: Numbered, V: Numbered, W: Wait>(
     config: &CacheConfig,
     calls: Calls,
 ) -> Result<u64, Wanting>
-    requires table { blank.table ≡ N.table }
-    requires book { blank.log.book ≡ N.book }
-    requires name { blank.log.name ≡ N.name }
-    requires parts { blank.log.parts ≡ N.parts }
+    requires { IsNamed N.table N.book N.name N.parts blank }
 {
     let mut pair = Pair {
         stand: Stand::<N, K, V>::open(alloc, rt, blank)?,

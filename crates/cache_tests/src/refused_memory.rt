@@ -1,6 +1,7 @@
 //! Allocations that are refused: there is no cache then, and it is told which call was refused. A cache that is open asks
 //! for none.
-ghost use Rattle.std.specs.Prelude.{◌≡◌};
+
+ghost use Rattle.bump_cache.specs.Opening.{IsNamed};
 
 use crate::numbered::{Numbered, number_of};
 use crate::stands::{Stand, config_of};
@@ -42,7 +43,7 @@ fn check<N: Name + LogName, W: Wait>(
         if now == CALLS / 2 {
             stand.clear(rt);
         }
-        if stand.stats(rt).evicted > now {
+        if stand.stats(rt).evicted() > now {
             wrong = wrong.saturating_add(1);
         }
     }
@@ -55,10 +56,7 @@ fn run_in<N: Name + LogName, W: Wait>(
     alloc: Global,
     blank: CacheBlank<(u64, u32), Bytes<2>>,
 ) -> Result<u64, Call>
-    requires table { blank.table ≡ N.table }
-    requires book { blank.log.book ≡ N.book }
-    requires name { blank.log.name ≡ N.name }
-    requires parts { blank.log.parts ≡ N.parts }
+    requires { IsNamed N.table N.book N.name N.parts blank }
 {
     let Ok(mut stand) = Stand::<N, (u64, u32), Bytes<2>>::open(alloc, rt, blank) else {
         return Err("open");

@@ -1,5 +1,6 @@
 //! A cache that a test was given, with whoever changes it.
 ghost use Rattle.std.specs.Prelude.{◌≡◌, ◌<◌, length};
+ghost use Rattle.bump_cache.specs.Opening.{IsNamed};
 
 use bump_cache::{
     Bytes, Cache, CacheBlank, CacheConfig, CacheReader, CacheState, Caller, Evicted, LogName, Name,
@@ -181,10 +182,7 @@ impl<N: Name + LogName, K: Packed, V: Packed> Stand<N, K, V> {
         rt: &W,
         blank: CacheBlank<K, V>,
     ) -> Result<Stand<N, K, V>, AllocError>
-        requires table { blank.table ≡ N.table }
-        requires book { blank.log.book ≡ N.book }
-        requires name { blank.log.name ≡ N.name }
-        requires parts { blank.log.parts ≡ N.parts }
+        requires { IsNamed N.table N.book N.name N.parts blank }
     {
         let Opened {
             cache,

@@ -1,5 +1,6 @@
 //! Look-ups by text and by bytes, a reader's counts as other threads read them, and a tend that sleeps.
-ghost use Rattle.std.specs.Prelude.{◌≡◌};
+
+ghost use Rattle.bump_cache.specs.Opening.{IsNamed};
 
 use crate::stands::{Changer, Entry, config_of};
 use bump_cache::{
@@ -97,10 +98,7 @@ fn run<N: Name + LogName + Send + Sync, R: Threads + Wait + Clock + Abort + Sync
     alloc: Global,
     blank: CacheBlank<Bytes<2>, u64>,
 ) -> Result<(), Fail>
-    requires table { blank.table ≡ N.table }
-    requires book { blank.log.book ≡ N.book }
-    requires name { blank.log.name ≡ N.name }
-    requires parts { blank.log.parts ≡ N.parts }
+    requires { IsNamed N.table N.book N.name N.parts blank }
 {
     let Opened {
         cache,

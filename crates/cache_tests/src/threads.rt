@@ -1,5 +1,6 @@
 //! Readers on threads, beside one that puts and removes and one that tends.
-ghost use Rattle.std.specs.Prelude.{◌≡◌};
+
+ghost use Rattle.bump_cache.specs.Opening.{IsNamed};
 
 use crate::model::adds_up;
 use crate::stands::{Changer, Entry, config_of, next};
@@ -211,10 +212,7 @@ fn run<N: Name + LogName + Send + Sync, R: Threads + Wait + Sync>(
     alloc: Global,
     blank: CacheBlank<u64, Value>,
 ) -> Result<(Seen, Wrote, bool), AllocError>
-    requires table { blank.table ≡ N.table }
-    requires book { blank.log.book ≡ N.book }
-    requires name { blank.log.name ≡ N.name }
-    requires parts { blank.log.parts ≡ N.parts }
+    requires { IsNamed N.table N.book N.name N.parts blank }
 {
     let Opened {
         cache,

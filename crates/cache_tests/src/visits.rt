@@ -1,5 +1,6 @@
 //! What is there is visited once, with its value and its time, and what has expired isn't.
-ghost use Rattle.std.specs.Prelude.{◌≡◌, ◌<◌};
+ghost use Rattle.std.specs.Prelude.{◌<◌};
+ghost use Rattle.bump_cache.specs.Opening.{IsNamed};
 
 use crate::stands::config_of;
 use bump_cache::{Cache, CacheBlank, CacheConfig, CacheState, Caller, LogName, Name, Opened, open};
@@ -151,10 +152,7 @@ fn run<N: Name + LogName, W: Wait>(
     alloc: Global,
     blank: CacheBlank<u64, u64>,
 ) -> Result<[u64; 5], AllocError>
-    requires table { blank.table ≡ N.table }
-    requires book { blank.log.book ≡ N.book }
-    requires name { blank.log.name ≡ N.name }
-    requires parts { blank.log.parts ≡ N.parts }
+    requires { IsNamed N.table N.book N.name N.parts blank }
 {
     let Opened {
         cache,

@@ -22,11 +22,3 @@ prefix_whole (x ∷ xs) (y ∷ ys) p le =
 -- a beginning is no longer than the whole
 pub prefix_length : {A : Type 0} (xs ys : List A) → IsPrefix xs ys → length xs ≤ length ys
 prefix_length xs ys p = omega (arith, sym (ap length p.1) ∙ length-append xs p.0)
-
--- a beginning that isn't empty has the first of the whole
-pub prefix_first : {A : Type 0} (x y : A) (xs ys : List A) → IsPrefix (x ∷ xs) (y ∷ ys) → x ≡ y
-prefix_first x y xs ys p = cc (p.1)
-
--- behind the first a beginning is one of the rest
-pub prefix_rest : {A : Type 0} (x y : A) (xs ys : List A) → IsPrefix (x ∷ xs) (y ∷ ys) → IsPrefix xs ys
-prefix_rest x y xs ys p = (p.0, cc (p.1))

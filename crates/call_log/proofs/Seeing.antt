@@ -9,17 +9,10 @@ use Rattle.call_log.specs.Fronts.{AreNumbered, Extends, FrontView, IsAdded}
 use Rattle.call_log.specs.Laws.{Entry, HasAdded, HasBegun, HasSeen, IsKept, first_in, states, states_in, values_in}
 use Rattle.call_log.specs.Logs.{calls_of}
 use Rattle.call_log.proofs.Beginnings.{prefix_trans}
-use Rattle.call_log.proofs.States.{begins_added}
 
 -- what contracts see of a front that has seen these entries
 abbrev pub front_of : {S : Type 0} → S → List (Entry S) → FrontView S
 front_of any log = record { first = first_in any log; log = states_in log; values = values_in log }
-
--- a log that keeps the rule has begun
-pub kept_begun : {S : Type 0} (number_of : S → ℕ) (cells : List Cell) (log : List (Entry S)) → IsKept number_of cells log
-    → HasBegun log
-kept_begun number_of cells [] kept = absurd kept
-kept_begun number_of cells (first ∷ log) kept = tt
 
 -- a log that goes on has begun
 pub goes_begun : {S : Type 0} (xs ys : List (Entry S)) → HasBegun xs → IsPrefix xs ys → HasBegun ys

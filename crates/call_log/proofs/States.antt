@@ -105,7 +105,3 @@ last_added first (x ∷ xs) e = last_added x xs e
 pub before_added : {S : Type 0} (xs : List S) (e : S) → before_last (xs ++ e ∷ []) ≡ xs
 before_added xs e = take_at xs (e ∷ []) (length (xs ++ e ∷ []) - 1)
     (omega (arith, length-append xs (e ∷ [])))
-
--- a beginning stays one
-pub begins_added : {S : Type 0} (xs log : List S) (e : S) → IsPrefix xs log → IsPrefix xs (log ++ e ∷ [])
-begins_added xs log e p = (p.0 ++ e ∷ [], sym (append_assoc xs p.0 (e ∷ [])) ∙ ap (λ w. w ++ e ∷ []) p.1)

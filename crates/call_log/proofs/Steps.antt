@@ -64,38 +64,6 @@ module _ {S : Type 0} (number_of : S → ℕ) (k values : ℕ) (few : k < values
           get_or-set_other cells k i ((cell cells k).0 + 1, true) (0, false) (grind (arith, nat_tests, test, is))
           ∙ (kept.counted i lt ∙ ap (λ (n : ℕ). (n, true)) (sym (calls_others number_of i log e test)))
 
--- a step that changes nothing keeps the rule, and sees what the word counts
-looks_goes : {S : Type 0} (number_of : S → ℕ) (k : ℕ) (first : Entry S) (few : k < first.1) (cells : List Cell)
-    (log : List (Entry S)) (v : List (Entry S)) (e : Entry S) → Counts number_of cells first.1 (states log)
-    → Goes (IsKept number_of) shown moved k (v, (no_nib, None)) (λ n. n) (Looks number_of (step k 0 0 e) (v, (no_nib, None))) cells (first ∷ log)
-looks_goes {S} number_of k first few cells log v e kept =
-    let all : (first ∷ log) ++ [] ≡ first ∷ log = append-nil (first ∷ log) in (
-      keeps,
-      [],
-      None,
-      tt,
-      subst (λ (l : List (Entry S)). IsKept number_of (slice_set cells k ((cell cells k).0, true)) l) (sym all)
-          (subst (λ (c : List Cell). IsKept number_of c (first ∷ log)) (sym (cells_same number_of k first.1 few cells (states log) kept)) kept),
-      inl (refl, refl),
-      subst (λ (l : List (Entry S)). HasSeen number_of k (cell cells k).0 l) (sym all) (record {
-        counted = sym (found_is number_of k first.1 few cells (states log) kept);
-        numbered = kept.numbered;
-      }),
-    )
-
--- a look at a value's word, whatever the log is
-pub looks_moves : {S : Type 0} (number_of : S → ℕ) (v : List (Entry S)) (e : Entry S) (k : ℕ) → HasBegun v → k < values_in v
-    → Moves (IsKept number_of) shown moved k (v, (no_nib, None)) (λ n. n) (Looks number_of (step k 0 0 e) (v, (no_nib, None)))
-looks_moves number_of [] e k begun few cells log kept pre away = absurd begun
-looks_moves number_of (first ∷ v) e k begun few cells [] kept pre away = absurd kept
-looks_moves {S} number_of (first ∷ v) e k begun few cells (first' ∷ log) kept pre away =
-    let same : first ≡ first' = cc (pre.1) in
-    let few' : k < first'.1 = subst (λ (f : Entry S). k < f.1) same few in (
-      omega (arith, kept.words, few'),
-      ap (λ (c : Cell). c.1) (kept.counted k few'),
-      looks_goes number_of k first' few' cells log (first ∷ v) e kept,
-    )
-
 -- the exchange on a value's word, where it finds what it expects, or not
 adds_goes : {S : Type 0} (number_of : S → ℕ) (k : ℕ) (first : Entry S) (few : k < first.1) (cells : List Cell)
     (log : List (Entry S)) (v : List (Entry S)) (e : Entry S) (old : ℕ) → Counts number_of cells first.1 (states log)

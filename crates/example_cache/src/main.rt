@@ -2,7 +2,7 @@
 //! number under a key, gets it, and tends the cache. In this folder `rt try` runs it, and `rt run` proves it first.
 #![tactic(auto)]
 
-ghost use Rattle.std.specs.Prelude.{◌≡◌};
+ghost use Rattle.bump_cache.specs.Opening.{IsNamed};
 
 use anyhow::Result;
 use bump_cache::{CacheBlank, CacheConfig, LogName, Name, Opened, Seed, open};
@@ -16,10 +16,7 @@ fn run<N: Name + LogName, R: Wait>(
     alloc: Global,
     blank: CacheBlank<u64, u64>,
 ) -> Result<Option<u64>, AllocError>
-    requires table { blank.table ≡ N.table }
-    requires book { blank.log.book ≡ N.book }
-    requires name { blank.log.name ≡ N.name }
-    requires parts { blank.log.parts ≡ N.parts }
+    requires { IsNamed N.table N.book N.name N.parts blank }
 {
     let Opened {
         cache,

@@ -2,7 +2,8 @@
 //! puts them anew, and another one tends the cache. In this folder `rt try` runs it, and `rt run` proves it first.
 #![tactic(auto)]
 
-ghost use Rattle.std.specs.Prelude.{◌≡◌, ◌<◌};
+ghost use Rattle.std.specs.Prelude.{◌<◌};
+ghost use Rattle.bump_cache.specs.Opening.{IsNamed};
 
 use anyhow::Result;
 use bump_cache::{
@@ -129,10 +130,7 @@ fn run<N: Name + LogName + Send + Sync, R: Threads + Wait + Sync>(
     alloc: Global,
     blank: CacheBlank<u64, u64>,
 ) -> Result<(Gets, Stats), AllocError>
-    requires table { blank.table ≡ N.table }
-    requires book { blank.log.book ≡ N.book }
-    requires name { blank.log.name ≡ N.name }
-    requires parts { blank.log.parts ≡ N.parts }
+    requires { IsNamed N.table N.book N.name N.parts blank }
 {
     let Opened {
         cache,

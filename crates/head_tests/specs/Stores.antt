@@ -9,8 +9,8 @@ use Rattle.bump_readers.specs.Taking.{whole_hold}
 use Rattle.bump_readers.specs.Workers.{worker_seen}
 use Rattle.bump_heads.specs.declared.views.ClassView.{ClassView}
 use Rattle.bump_heads.specs.Making.{class_seen}
-use Rattle.bump_steps.specs.declared.views.ClassPart.{ClassPart}
-use Rattle.bump_steps.specs.Rule.{chunks as all_chunks, no_accounts, worker_part}
+use Rattle.bump_steps.specs.declared.views.ClassSheet.{ClassSheet}
+use Rattle.bump_steps.specs.Rule.{chunks as all_chunks, no_accounts, worker_sheet}
 
 -- such a store's configuration, whose first generation is 1
 abbrev pub IsSmall : Config → Type 0
@@ -18,7 +18,7 @@ IsSmall config = (config.workers ≡ 1) × (config.first_generation ≡ 1)
     × (config.classes ≡ record { chunks = 2; hot = 1; warm = 1 } ∷ [])
 
 -- its class, of which no chunk had a life
-abbrev pub fresh_class : ClassPart
+abbrev pub fresh_class : ClassSheet
 fresh_class = record {
   class = 0;
   first = 0;
@@ -34,9 +34,9 @@ fresh_class = record {
 -- the store is such a one, and neither its class nor its worker made a step
 abbrev pub IsNew : Config → ClassView → WorkerView → Type 0
 IsNew config class worker = (all_chunks config ≡ 2) × (class ≡ class_seen fresh_class)
-    × (worker ≡ worker_seen (worker_part 0))
+    × (worker ≡ worker_seen (worker_sheet 0))
 
 -- the worker has nothing in its hand and attempted nothing, and the hold is a whole one of a chunk of the store
 abbrev pub MayHit : Config → WorkerView → HoldView → Type 0
-MayHit config worker hold = (worker.part.hand ≡ Idle) × (worker.hold ≡ None) × (worker.part.accounts ≡ no_accounts)
-    × (hold ≡ whole_hold hold.life (row_in hold.part)) × (hold.life.chunk < all_chunks config)
+MayHit config worker hold = (worker.sheet.hand ≡ Idle) × (worker.hold ≡ None) × (worker.sheet.accounts ≡ no_accounts)
+    × (hold ≡ whole_hold hold.life (row_in hold.sheet)) × (hold.life.chunk < all_chunks config)

@@ -2,7 +2,7 @@
 ghost use Rattle.bump_cache.specs.Many.{GetsEach};
 ghost use Rattle.bump_cache.specs.Pairs.{IsPair};
 ghost use Rattle.bump_cache.specs.Readers.{FindsValue, InPart, KeepsRings, PeeksValue, SeesItem};
-ghost use Rattle.cache_making.specs.Sums.{hits_of, misses_of, AddsUp, bumps_of, dropped_of};
+ghost use Rattle.cache_config.specs.Sums.{hits_of, misses_of, AddsUp, bumps_of, dropped_of};
 ghost use Rattle.cache_readers.specs.Readers.{CountsHit, Misses, CountsNothing, ReadsNothing};
 ghost use Rattle.std.specs.Prelude.{IfSome, IfNone, ◌≡◌, length, true, false, All};
 

@@ -2,16 +2,13 @@
 ghost use Rattle.bump_cache.specs.Bytes.{IfRoom, IfTooLong};
 ghost use Rattle.bump_cache.specs.Caches.{part_in};
 ghost use Rattle.bump_cache.specs.Pairs.{IsPair};
-ghost use Rattle.bump_cache.specs.Putting.{EndsKey, HadValue};
+ghost use Rattle.bump_cache.specs.Putting.{RemovesValue};
 ghost use Rattle.bump_cache.specs.Readers.{FindsValue, InPart, KeepsRings, SeesItem};
 ghost use Rattle.bump_cache.specs.States.{from_of, part_called, to_of};
-ghost use Rattle.cache_part.specs.Parts.{IsUnknown};
 ghost use Rattle.cache_readers.specs.Readers.{CountsHit, Misses, CountsNothing, ReadsNothing};
-ghost use Rattle.cache_shelf.specs.Entries.{OthersKept};
-ghost use Rattle.cache_shelf.specs.Shelves.{with_ended};
 ghost use Rattle.call_log.specs.Calls.{MakesOne};
 ghost use Rattle.packed_words.specs.Strings.{MayHold, string_words};
-ghost use Rattle.std.specs.Prelude.{◌≡◌, IfSome, IfNone, None, true, false, ◌<◌, option_map};
+ghost use Rattle.std.specs.Prelude.{◌≡◌, IfSome, IfNone, None, true, false, ◌<◌};
 
 use bump_cache::{Bytes, Cache, CacheReader, CacheState, Caller, LogName, Name, Packed};
 use std::sync::Wait;
@@ -102,13 +99,8 @@ pub fn remove_bytes<N: Name + LogName, V: Packed, const W: usize, R: Wait>(
     requires part { 0 < me.old.parts }
     ensures call { IfRoom W key.now (MakesOne me.old me.new) }
     ensures part { IfRoom W key.now (part_called me.new ≡ part_in cache.now (string_words W key.now)) }
-    ensures old { IfRoom W key.now (HadValue (string_words W key.now) (option_map V.as_words result) now
-        (from_of me.new).part) }
-    ensures gone { IfRoom W key.now (IsUnknown (string_words W key.now) (to_of me.new).part) }
-    ensures others { IfRoom W key.now (OthersKept (string_words W key.now) None (from_of me.new).part
-        (to_of me.new).part) }
-    ensures ends { IfRoom W key.now (EndsKey (string_words W key.now) (from_of me.new).part (to_of me.new).part) }
-    ensures same { IfRoom W key.now (to_of me.new ≡ with_ended (to_of me.new) (from_of me.new)) }
+    ensures removes { IfRoom W key.now (RemovesValue (string_words W) V.as_words key.now now result (from_of me.new)
+        (to_of me.new)) }
     ensures too_long { IfTooLong W key.now (result ≡ None) }
     ensures unchanged { IfTooLong W key.now (me.new ≡ me.old) }
     ensures parts { me.new.parts ≡ me.old.parts }
@@ -128,13 +120,8 @@ pub fn remove_text<N: Name + LogName, V: Packed, const W: usize, R: Wait>(
     requires part { 0 < me.old.parts }
     ensures call { IfRoom W key.now (MakesOne me.old me.new) }
     ensures part { IfRoom W key.now (part_called me.new ≡ part_in cache.now (string_words W key.now)) }
-    ensures old { IfRoom W key.now (HadValue (string_words W key.now) (option_map V.as_words result) now
-        (from_of me.new).part) }
-    ensures gone { IfRoom W key.now (IsUnknown (string_words W key.now) (to_of me.new).part) }
-    ensures others { IfRoom W key.now (OthersKept (string_words W key.now) None (from_of me.new).part
-        (to_of me.new).part) }
-    ensures ends { IfRoom W key.now (EndsKey (string_words W key.now) (from_of me.new).part (to_of me.new).part) }
-    ensures same { IfRoom W key.now (to_of me.new ≡ with_ended (to_of me.new) (from_of me.new)) }
+    ensures removes { IfRoom W key.now (RemovesValue (string_words W) V.as_words key.now now result (from_of me.new)
+        (to_of me.new)) }
     ensures too_long { IfTooLong W key.now (result ≡ None) }
     ensures unchanged { IfTooLong W key.now (me.new ≡ me.old) }
     ensures parts { me.new.parts ≡ me.old.parts }

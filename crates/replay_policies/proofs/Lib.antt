@@ -1,12 +1,4 @@
-pub mod ClockLemmas
-pub mod EntryLemmas
-pub mod FifoLemmas
 pub mod GhostLemmas
 pub mod LineLemmas
-pub mod LogLemmas
-pub mod PolicyLemmas
 pub mod QueueLemmas
-pub mod RemovalLemmas
-pub mod S3FifoLemmas
-pub mod SieveLemmas
 pub mod TableLemmas

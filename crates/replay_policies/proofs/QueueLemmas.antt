@@ -1,140 +1,72 @@
--- Two queues of keys, in neither of which a key of the other stands.
-use Rattle.std.proofs.Common.{◌≡◌, ℕ, suc, ◌+◌, ◌<◌, ◌≤◌, false, not, List, [], ◌∷◌, ◌++◌, reverse, nat_eq, refl, sym, ap, subst, ◌∙◌, arith, inl, inr, Option, Some, None, IfSome, option_to_list}
-use Rattle.std.specs.List.{filter}
-use Rattle.std.proofs.lemmas.Bool.Decides.{eqb_tells}
-use Rattle.std.proofs.lemmas.List.{append-nil, map-append, reverse-append}
-use Rattle.std.proofs.lemmas.List.Elements.{filter-append}
+-- Two queues of keys, in neither of which a key of the other is.
+use Rattle.std.proofs.Common.{◌≡◌, ◌≢◌, ℕ, ◌≤◌, sym, ap, subst, arith, inl, inr, Option, Some, None, IfSome}
+use Rattle.std.proofs.lemmas.Bool.{cases_eq}
 use Rattle.replay_policies.specs.declared.entries.Entry.{Entry}
-use Rattle.replay_policies.specs.Entries.{entries_without, keys_in, times}
-use Rattle.replay_policies.specs.Plain.{is_hit, keys_without}
-use Rattle.replay_policies.proofs.EntryLemmas.{miss_from_times, times_from_miss, times-append, times-first, times-rest, times-reverse}
+use Rattle.replay_policies.specs.Lines.{LineView}
+use Rattle.replay_policies.specs.Queues.{HasPlaces, IsLeft, IsQueues, held_by, queues_view}
+use Rattle.replay_policies.specs.Tables.{HasPlace, held, number_of}
+use Rattle.replay_policies.proofs.TableLemmas.{one_of-most}
 
--- no key stands in both together twice, where none stands in one of them twice or in both
-pub once-both : (first second : List Entry) → ((k : ℕ) → times k (keys_in first) + times k (keys_in second) ≤ 1)
-    → (k : ℕ) → times k (keys_in first ++ keys_in second) ≤ 1
-once-both first second once k =
-    let o = once k in
-    let both = times-append k (keys_in first) (keys_in second) in
-    omega (arith, o, both)
+-- what follows from two facts of an entry follows where there is one
+pub if_both : (taken : Option Entry) (P Q R : Entry → Type 0) → ((e : Entry) → P e → Q e → R e)
+    → IfSome taken P → IfSome taken Q → IfSome taken R
+if_both None P Q R gives p q = tt
+if_both (Some e) P Q R gives p q = gives e p q
 
--- a key that was taken out of the first queue is in neither any more
-pub gone-first : (taken : Option Entry) (old new second : List Entry) → old ≡ option_to_list taken ++ new
-    → ((k : ℕ) → times k (keys_in old) + times k (keys_in second) ≤ 1)
-    → IfSome taken (λ e. is_hit e.key (keys_in new ++ keys_in second) ≡ false)
-gone-first None old new second is once = tt
-gone-first (Some e) old new second is once =
-    let o = once e.key in
-    let front = ap (λ (es : List Entry). times e.key (keys_in es)) is in
-    let first = times-first e.key (keys_in new) in
-    let both = times-append e.key (keys_in new) (keys_in second) in
-    miss_from_times e.key (keys_in new ++ keys_in second) (omega (arith, o, front, first, both))
+-- the places are the same from the other side
+pub places-turned : (first second : LineView) (key : ℕ) → HasPlaces (queues_view first second) key
+    → HasPlaces (queues_view second first) key
+places-turned first second key p = record { first = p.second; second = p.first }
 
--- nor is one that was taken out of the second
-pub gone-second : (taken : Option Entry) (first old new : List Entry) → old ≡ option_to_list taken ++ new
-    → ((k : ℕ) → times k (keys_in first) + times k (keys_in old) ≤ 1)
-    → IfSome taken (λ e. is_hit e.key (keys_in first ++ keys_in new) ≡ false)
-gone-second None first old new is once = tt
-gone-second (Some e) first old new is once =
-    let o = once e.key in
-    let front = ap (λ (es : List Entry). times e.key (keys_in es)) is in
-    let head = times-first e.key (keys_in new) in
-    let both = times-append e.key (keys_in first) (keys_in new) in
-    miss_from_times e.key (keys_in first ++ keys_in new) (omega (arith, o, front, head, both))
+-- and so is what two queues keep
+pub queues-turned : (first second : LineView) → IsQueues (queues_view first second) → IsQueues (queues_view second first)
+queues-turned first second is = record {
+  once = λ k. let o = is.once k in omega (arith, o);
+  placed = λ k some. places-turned first second k (is.placed k (omega (arith, some)));
+}
 
--- a key that was put in stands there once more, and each other key as often
-times-pushed : (k : ℕ) (queue : List Entry) (e : Entry)
-    → times k (keys_in (queue ++ e ∷ [])) ≡ times k (keys_in queue) + times k (e.key ∷ [])
-times-pushed k queue e =
-    ap (times k) (map-append (λ (a : Entry). a.key) queue (e ∷ [])) ∙ times-append k (keys_in queue) (e.key ∷ [])
+-- Keys went from two queues, or none, and no place.
+module _ (first second first' second' : LineView)
+    (less_first : (k : ℕ) → held first'.table k ≤ held first.table k)
+    (less_second : (k : ℕ) → held second'.table k ≤ held second.table k)
+    (places_first : (k : ℕ) → HasPlace first.table k → HasPlace first'.table k)
+    (places_second : (k : ℕ) → HasPlace second.table k → HasPlace second'.table k) where
+  -- the places that there were are still there
+  places-less : (k : ℕ) → HasPlaces (queues_view first second) k → HasPlaces (queues_view first' second') k
+  places-less k p = record { first = places_first k p.first; second = places_second k p.second }
 
-module _ (e : Entry) (queue other : List Entry) (absent : times e.key (keys_in queue) + times e.key (keys_in other) ≡ 0) where
-  -- so none stands in both twice, where the key was in neither
-  pub once-pushed : ((k : ℕ) → times k (keys_in queue) + times k (keys_in other) ≤ 1)
-      → (k : ℕ) → times k (keys_in (queue ++ e ∷ [])) + times k (keys_in other) ≤ 1
-  once-pushed once k =
-      let pushed = times-pushed k queue e in
-      elim (eqb_tells k e.key) [
-        | inl t ↦
-            let none : times k (keys_in queue) + times k (keys_in other) ≡ 0 =
-            subst (λ n. times n (keys_in queue) + times n (keys_in other) ≡ 0) (sym t.1) absent in
-            let one : times k (e.key ∷ []) ≡ 1 = rw t.0 refl in
-            omega (arith, pushed, none, one)
-        | inr f ↦
-            let zero_is = times-rest k e.key [] f.1 in
-            let o = once k in
-            omega (arith, pushed, zero_is, o)
-      ]
+  -- they keep what they kept
+  pub queues-less : IsQueues (queues_view first second) → IsQueues (queues_view first' second')
+  queues-less is = record {
+    once = λ k. let o = is.once k in let a = less_first k in let b = less_second k in omega (arith, o, a, b);
+    placed = λ k some. let a = less_first k in let b = less_second k in places-less k (is.placed k (omega (arith, some, a, b)));
+  }
 
-  -- and each that stands in one of them has what the others had, if the new one has
-  pub placed-pushed : (P : ℕ → Type 0) → P e.key → ((k : ℕ) → 0 < times k (keys_in queue) + times k (keys_in other) → P k)
-      → (k : ℕ) → 0 < times k (keys_in (queue ++ e ∷ [])) + times k (keys_in other) → P k
-  placed-pushed P here had k among =
-      let pushed = times-pushed k queue e in
-      elim (eqb_tells k e.key) [
-        | inl t ↦ subst P (sym t.1) here
-        | inr f ↦ let zero_is = times-rest k e.key [] f.1 in had k (omega (arith, pushed, zero_is, among))
-      ]
+  -- and no key came in
+  pub left-less : IsLeft (queues_view first second) (queues_view first' second')
+  left-less = record {
+    absent = λ k none. let a = less_first k in let b = less_second k in omega (arith, none, a, b);
+    places = places-less;
+  }
 
--- a miss in both stands in neither
-pub absent-both : (key : ℕ) (first second : List Entry) → is_hit key (keys_in first ++ keys_in second) ≡ false
-    → times key (keys_in first) + times key (keys_in second) ≡ 0
-absent-both key first second miss =
-    let none = times_from_miss key (keys_in first ++ keys_in second) miss in
-    let both = times-append key (keys_in first) (keys_in second) in
-    omega (arith, none, both)
-
--- the keys that differ from one of them
-abbrev pub other_keys : ℕ → List ℕ → List ℕ
-other_keys key keys = filter (λ k. not (nat_eq key k)) keys
-
--- they are all, where it isn't among them
-other_keys-miss : (key : ℕ) (keys : List ℕ) → times key keys ≡ 0 → other_keys key keys ≡ keys
-other_keys-miss key [] none = refl
-other_keys-miss key (x ∷ keys) none =
-    elim (eqb_tells key x) [
-      | inl t ↦ absurd (let n : suc (times key keys) ≡ 0 = (rw t.0 at none) in omega (arith, n))
-      | inr f ↦ rw f.0 (ap (λ (ks : List ℕ). x ∷ ks) (other_keys-miss key keys (rw f.0 at none)))
-    ]
-
--- they are the keys without it, where it stands there once at most
-keys_without-others : (key : ℕ) (keys : List ℕ) → times key keys ≤ 1 → keys_without key keys ≡ other_keys key keys
-keys_without-others key [] once = refl
-keys_without-others key (x ∷ keys) once =
-    elim (eqb_tells key x) [
-      | inl t ↦ let o : suc (times key keys) ≤ 1 = (rw t.0 at once) in rw t.0 (sym (other_keys-miss key keys (omega (arith, o))))
-      | inr f ↦ rw f.0 (ap (λ (ks : List ℕ). x ∷ ks) (keys_without-others key keys (rw f.0 at once)))
-    ]
-
--- from the end they are the same
-other_keys-reverse : (key : ℕ) (keys : List ℕ) → other_keys key (reverse keys) ≡ reverse (other_keys key keys)
-other_keys-reverse key [] = refl
-other_keys-reverse key (x ∷ keys) =
-    let turned : other_keys key (reverse (x ∷ keys)) ≡ other_keys key (reverse keys) ++ other_keys key (x ∷ []) =
-    ap (other_keys key) (reverse-append (x ∷ []) keys) ∙ filter-append (λ (k : ℕ). not (nat_eq key k)) (reverse keys) (x ∷ []) in
-    let rest = other_keys-reverse key keys in
-    elim (eqb_tells key x) [
-      | inl t ↦
-          let gone : other_keys key (x ∷ []) ≡ [] = rw t.0 refl in
-          rw t.0 (turned ∙ ap (λ (ks : List ℕ). other_keys key (reverse keys) ++ ks) gone ∙ append-nil (other_keys key (reverse keys)) ∙ rest)
-      | inr f ↦
-          let stays : other_keys key (x ∷ []) ≡ x ∷ [] = rw f.0 refl in
-          rw f.0 (turned ∙ ap (λ (ks : List ℕ). other_keys key (reverse keys) ++ ks) stays
-          ∙ ap (λ (ks : List ℕ). ks ++ x ∷ []) rest ∙ sym (reverse-append (x ∷ []) (other_keys key keys)))
-    ]
-
--- a queue without a key has them
-keys_in-without : (key : ℕ) (queue : List Entry) → keys_in (entries_without key queue) ≡ other_keys key (keys_in queue)
-keys_in-without key [] = refl
-keys_in-without key (e ∷ queue) =
-    elim (eqb_tells key e.key) [
-      | inl t ↦ rw t.0 (keys_in-without key queue)
-      | inr f ↦ rw f.0 (ap (λ (ks : List ℕ). e.key ∷ ks) (keys_in-without key queue))
-    ]
-
--- so from its end it is the list of a FIFO without the key
-pub newest_first-without : (key : ℕ) (queue : List Entry) → times key (keys_in queue) ≤ 1
-    → reverse (keys_in (entries_without key queue)) ≡ keys_without key (reverse (keys_in queue))
-newest_first-without key queue once =
-    let same = times-reverse key (keys_in queue) in
-    ap reverse (keys_in-without key queue) ∙ sym (other_keys-reverse key (keys_in queue))
-    ∙ sym (keys_without-others key (reverse (keys_in queue)) (omega (arith, same, once)))
+-- two queues keep what they kept where a key that is in neither, and has its places, is put into the first
+pub queues-more : (first second first' : LineView) (key : ℕ) → held_by (queues_view first second) key ≡ 0
+    → ((k : ℕ) → k ≢ key → held first'.table k ≡ held first.table k)
+    → HasPlaces (queues_view first second) key → ((k : ℕ) → HasPlace first.table k → HasPlace first'.table k)
+    → IsQueues (queues_view first second) → IsQueues (queues_view first' second)
+queues-more first second first' key absent others here places is = record {
+  once = λ k. elim (cases_eq k key) [
+    | inl e ↦
+        let most = one_of-most (number_of first'.table k) in
+        let none = ap (held second.table) e in
+        omega (arith, most, none, absent)
+    | inr other ↦ let same = others k other in let o = is.once k in omega (arith, same, o)
+  ];
+  placed = λ k some. elim (cases_eq k key) [
+    | inl e ↦ moved k (subst (HasPlaces (queues_view first second)) (sym e) here)
+    | inr other ↦ let same = others k other in moved k (is.placed k (omega (arith, same, some)))
+  ];
+}
+  where
+    moved : (k : ℕ) → HasPlaces (queues_view first second) k → HasPlaces (queues_view first' second) k
+    moved k p = record { first = places k p.first; second = p.second }

@@ -1,8 +1,40 @@
--- A page of a table that grows.
-use Rattle.std.proofs.Common.{◌≡◌, ◌≢◌, ℕ, ◌<◌, ◌≤◌, ◌/◌, ◌%◌, List, [], length, get_or, set, Option, None, sym, ap, subst, ◌∙◌, arith, inl, inr}
-use Rattle.std.proofs.lemmas.Bool.{cases_eq}
+-- A table of numbers by key, and a page of it that grows.
+use Rattle.std.proofs.Common.{◌≡◌, ◌≢◌, ℕ, ◌<◌, ◌≤◌, ◌/◌, ◌%◌, cond, List, [], length, get_or, set, nat_eq, Option, Some, None, refl, sym, ap, subst, ◌∙◌, arith, inl, inr}
+use Rattle.std.proofs.lemmas.Bool.{cases_eq, eq-eqb, ne_eqb}
 use Rattle.std.proofs.lemmas.List.{get_or-set_same, get_or-set_other}
-use Rattle.replay_policies.specs.Tables.{page_at, number_of, HasPlace}
+use Rattle.replay_policies.specs.Tables.{page_at, number_of, one_of, held, HasPlace}
+
+-- what counts 0 is no number
+pub none_of : (number : Option ℕ) → one_of number ≡ 0 → number ≡ None
+none_of None none = refl
+none_of (Some n) none = absurd (omega arith)
+
+-- nothing counts more than 1
+pub one_of-most : (number : Option ℕ) → one_of number ≤ 1
+one_of-most None = omega arith
+one_of-most (Some n) = omega arith
+
+-- A key of a table has another number, or none.
+module _ (new old : List (List (Option ℕ))) (key : ℕ) (number : Option ℕ)
+    (numbers : (k : ℕ) → number_of new k ≡ cond (nat_eq k key) number (number_of old k)) where
+  -- it counts what its number does
+  pub held-same : held new key ≡ one_of number
+  held-same = ap one_of (numbers key ∙ rw (eq-eqb key key refl) refl)
+
+  -- and each other key what it did
+  pub held-other : (k : ℕ) → k ≢ key → held new k ≡ held old k
+  held-other k other = ap one_of (numbers k ∙ rw (ne_eqb k key other) refl)
+
+  -- without a number, no key counts more than it did
+  pub held-less : number ≡ None → (k : ℕ) → held new k ≤ held old k
+  held-less none k =
+      elim (cases_eq k key) [
+        | inl e ↦
+            let here : held new k ≡ held new key = ap (held new) e in
+            let zero_is : one_of number ≡ 0 = ap one_of none in
+            omega (arith, here, held-same, zero_is)
+        | inr other ↦ let same = held-other k other in omega (arith, same)
+      ]
 
 module _ (pages : List (List (Option ℕ))) (at : ℕ) (page : List (Option ℕ)) (there : at < length pages) where
   -- the page is what it is now, and the others are what they were

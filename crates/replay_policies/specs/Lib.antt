@@ -1,13 +1,7 @@
 pub mod Caches
-pub mod Clock
-pub mod Entries
 pub mod Ghosts
 pub mod Lines
-pub mod Plain
-pub mod Policies
 pub mod Queues
 pub mod Replays
-pub mod S3Fifo
-pub mod Sieve
 pub mod Tables
 pub mod Tallies

@@ -6,12 +6,10 @@ use Rattle.replay_policies.specs.declared.tallies.Tally.{Tally}
 use Rattle.replay_policies.specs.declared.faults.PolicyFault.{PolicyFault}
 use Rattle.replay_policies.specs.declared.faults.PolicyFault.TheVariants.{Items, Memory}
 use Rattle.replay_policies.specs.Caches.{IsCache}
-use Rattle.replay_policies.specs.Policies.{Kept}
 
--- how many items it has room for, what its cache keeps of the keys, as `Policies` has it, and its tally
+-- how many items it has room for, and its tally
 pub record ReplayView : Type 0 where
   pub items : ℕ
-  pub kept : Kept
   pub tally : Tally
 
 -- what every replay keeps: it has room, its cache is of so many items, and its hits and misses are its accesses

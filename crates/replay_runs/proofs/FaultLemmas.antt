@@ -1,8 +1,8 @@
 -- Why a run isn't traced.
 use Rattle.std.proofs.Common.{◌≡◌, ◌<◌, ℕ, List, Option, None, Some, refl, sym, subst, inl, arith}
-use Rattle.cache_making.specs.Configs.{first_cache_fault}
-use Rattle.cache_making.specs.declared.config.CacheFault.{CacheFault}
-use Rattle.cache_making.proofs.Soundness.{sound}
+use Rattle.cache_config.specs.Configs.{first_cache_fault}
+use Rattle.cache_config.specs.declared.config.CacheFault.{CacheFault}
+use Rattle.cache_config.proofs.Soundness.{sound}
 use Rattle.replay_runs.specs.Faults.{plan_fault, plan_fault_by, RefusesStore, IsOfTracing, Refuses}
 use Rattle.replay_runs.specs.declared.plans.Plan.{Plan}
 use Rattle.replay_runs.specs.declared.faults.ReplayFault.{ReplayFault}

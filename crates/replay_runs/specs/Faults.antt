@@ -1,7 +1,7 @@
 -- Which plans and runs are refused, and why.
 use Rattle.std.specs.Prelude.{ℕ, ◌≡◌, ◌<◌, ◌⊎◌, ⊤, true, List, length, Option, None, Some, nat_lt, if◌then◌else◌}
-use Rattle.cache_making.specs.Configs.{first_cache_fault}
-use Rattle.cache_making.specs.declared.config.CacheFault.{CacheFault}
+use Rattle.cache_config.specs.Configs.{first_cache_fault}
+use Rattle.cache_config.specs.declared.config.CacheFault.{CacheFault}
 use Rattle.bump_trace.specs.Meaning.{verdict_of}
 use Rattle.bump_trace.specs.Runs.{most_bytes}
 use Rattle.cache_shelf.specs.Limits.{put_bumps}

@@ -4,7 +4,7 @@ pub mod Faults
 pub mod Plans
 pub mod Tends
 pub mod Writing
-pub use Rattle.cache_making.specs.Configs
+pub use Rattle.cache_config.specs.Configs
 pub use Rattle.bump_rules.specs.Caches
 pub use Rattle.bump_trace.specs.Meaning
 pub use Rattle.bump_trace.specs.Runs

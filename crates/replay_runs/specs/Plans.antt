@@ -1,6 +1,6 @@
 -- How an access log is run.
 use Rattle.std.specs.Prelude.{ℕ, Option, Some, None}
-use Rattle.cache_making.specs.Configs.{spare_of}
+use Rattle.cache_config.specs.Configs.{spare_of}
 use Rattle.replay_runs.specs.declared.plans.Plan.{Plan}
 
 -- so many spare chunks of a part: those that were asked for, or as many as a cache of any number of items has with so many

@@ -1,8 +1,9 @@
 //! An access log is run through a cache.
 ghost use Rattle.std.specs.Prelude.{◌≡◌, ◌+◌, ◌-◌, ◌^◌, ◌<◌, ◌≤◌, IfOk, IfErr, IfSome, IfNone, Err, length};
-ghost use Rattle.cache_making.specs.Configs.{first_cache_fault};
+ghost use Rattle.cache_config.specs.Configs.{first_cache_fault};
 ghost use Rattle.replay_runs.specs.Asked.{counted, gets_among};
 ghost use Rattle.replay_runs.specs.declared.faults.ReplayFault.TheVariants.{Config, Memory};
+ghost use Rattle.bump_cache.specs.Opening.{IsNamed};
 
 use crate::asked::Asked;
 use crate::faults::ReplayFault;
@@ -196,10 +197,7 @@ fn run<N: Name + LogName, R: Wait>(
     plan: &Plan,
     asked: &Asked<'_>,
 ) -> Result<RunOutcome, AllocError>
-    requires table { blank.table ≡ N.table }
-    requires book { blank.log.book ≡ N.book }
-    requires name { blank.log.name ≡ N.name }
-    requires parts { blank.log.parts ≡ N.parts }
+    requires { IsNamed N.table N.book N.name N.parts blank }
     ensures accesses { IfOk result (λ it. it.accesses ≡ gets_among asked.now.operations.now (length asked.now.keys.now)) }
     ensures sum { IfOk result (λ it. it.hits + it.misses ≡ it.accesses) }
 {

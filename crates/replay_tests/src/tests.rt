@@ -330,7 +330,7 @@ fn expect_same_moves<R: Wait + AllocGlobal + RandomSource + Abort>(
         .saturating_add(lines_of(&text, b"pull 0 evict deferred ", b""))
         .saturating_add(lines_of(&text, b"del ", b""));
     assert!(rt; moved > 0 && stats.flow.cold_to_warm == moved);
-    assert!(rt; stats.evicted > 0 && stats.evicted == ended);
+    assert!(rt; stats.evicted() > 0 && stats.evicted() == ended);
     assert!(rt; stats.number_hot == number_behind(&text, b"class 0 hot "));
     assert!(rt; stats.number_warm == number_behind(&text, b"class 0 warm "));
     assert!(rt; stats.number_cold == number_behind(&text, b"class 0 cold "));

@@ -4,10 +4,10 @@ ghost use Rattle.std.specs.Prelude.{◌≡◌, ◌∷◌, [], IfOk, IfSome, Some
 
 use bump_class::{Book, RawLane};
 use bump_heads::{Blank, Name};
-use bump_parts::StoreParts;
 use bump_rules::{ClassConfig, Config};
 use bump_steps::AnyRow;
-use cache_nests::Index;
+use bump_unlocked::UnlockedStore;
+use cache_index::Index;
 use cache_part::{Bounds, Part, PutItem};
 use cache_readers::WordReader;
 use keyed_hash::Seed;
@@ -112,7 +112,7 @@ fn put<N: Name>(
     ensures value { part.new.value_words ≡ 1 }
 {
     let mut no_lanes: [RawLane<N>; 0] = [];
-    match part.put(&row, expires, evicted, &mut no_lanes, 0, now) {
+    match part.put(&row, expires, &mut [0; 2], evicted, &mut no_lanes, 0, now) {
         Ok(put) => put,
         Err(_) => panic!(rt; "there is room"),
     }
@@ -155,11 +155,16 @@ fn call_each<N: Name>(
     part.tend(lanes, 8, 9, BOUNDS, 4);
     assert!(rt; value(reader, [3, 4]) == Some(50));
     assert!(rt; held_value(reader, [3, 4]) == Some(50));
-    assert!(rt; part.remove(&[5, 6]) == Some(third.chunk));
-    assert!(rt; part.remove(&[5, 6]).is_none());
+    let mut old = [0; 2];
+    assert!(rt; part.look(&[3, 4], &mut old).is_some());
+    assert!(rt; old == [0, 50]);
+    assert!(rt; part.remove(&[5, 6], &mut old) == Some(third.chunk));
+    assert!(rt; old == [0, 70]);
+    assert!(rt; part.remove(&[5, 6], &mut old).is_none());
+    assert!(rt; old == [0, 70]);
     assert!(rt; value(reader, [5, 6]).is_none());
     assert!(rt; held_value(reader, [5, 6]).is_none());
-    assert!(rt; part.stats().evicted == 1);
+    assert!(rt; part.stats().evicted() == 1);
     assert!(rt; reader.hits() == 7);
     assert!(rt; reader.misses() == 5);
 }
@@ -211,11 +216,11 @@ fn expire<N: Name>(
     let _ = part.end_expired(1, 30);
     let _ = part.end_expired(3, 30);
     assert!(rt; part.find(&[1, 2]).is_none());
-    assert!(rt; part.stats().crawler_reclaimed == 1);
-    assert!(rt; part.stats().expired_unfetched == 0);
+    assert!(rt; part.stats().crawler_reclaimed() == 1);
+    assert!(rt; part.stats().expired_unfetched() == 0);
     part.tend(lanes, 8, 31, BOUNDS, 4);
     assert!(rt; part.find(&[3, 4]).is_none());
-    assert!(rt; part.stats().crawler_reclaimed == 2);
+    assert!(rt; part.stats().crawler_reclaimed() == 2);
 }
 
 // Where room is needed behind its time, it is reclaimed: the label says when it expired.
@@ -228,9 +233,9 @@ fn reclaim<N: Name>(rt: &impl Abort, part: &mut Part<N, AnyRow>)
     let _ = put(rt, part, [3, 4, 50], 0, &mut evicted, 40);
     let _ = put(rt, part, [5, 6, 70], 0, &mut evicted, 60);
     assert!(rt; evicted == [60, 1, 2, 30]);
-    assert!(rt; part.stats().evicted == 1);
-    assert!(rt; part.stats().reclaimed == 1);
-    assert!(rt; part.stats().expired_unfetched == 1);
+    assert!(rt; part.stats().evicted() == 1);
+    assert!(rt; part.stats().reclaimed() == 1);
+    assert!(rt; part.stats().expired_unfetched() == 1);
 }
 
 // All of that.
@@ -256,13 +261,13 @@ fn run<N: Name, R: Abort>(rt: &R, alloc: Global, blank: Blank, config: &Config) 
     requires slots { N.table.slots ≡ 3 }
     requires class { config.now.classes ≡ (record { chunks = 4; hot = 1; warm = 1 }) ∷ [] }
 {
-    let StoreParts {
+    let UnlockedStore {
         heads,
         books,
         starts: _,
         workers,
         mut lanes,
-    } = StoreParts::<N>::open(alloc, blank, config)?;
+    } = UnlockedStore::<N>::open(alloc, blank, config)?;
     let Some(book) = first_book(books) else {
         panic!(rt; "there is a class")
     };
@@ -285,7 +290,7 @@ fn use_second<N: Name>(rt: &impl Abort, part: &mut Part<N, AnyRow>)
     let chunk = put(rt, part, [9, 9, 9], 0, &mut [0; 4], 1).chunk;
     assert!(rt; 3 <= chunk && chunk < 7);
     assert!(rt; part.find(&[9, 9]) == Some(chunk));
-    assert!(rt; part.remove(&[9, 9]) == Some(chunk));
+    assert!(rt; part.remove(&[9, 9], &mut [0; 2]) == Some(chunk));
 }
 
 // The same on the second class of a store.
@@ -301,13 +306,13 @@ fn run_second<N: Name, R: Abort>(
     requires classes { config.now.classes ≡ (record { chunks = 3; hot = 1; warm = 1 })
         ∷ (record { chunks = 4; hot = 1; warm = 1 }) ∷ [] }
 {
-    let StoreParts {
+    let UnlockedStore {
         heads,
         books,
         starts: _,
         workers,
         mut lanes,
-    } = StoreParts::<N>::open(alloc, blank, config)?;
+    } = UnlockedStore::<N>::open(alloc, blank, config)?;
     let Some(book) = second_book(books) else {
         panic!(rt; "there is a second class")
     };
@@ -329,7 +334,7 @@ fn use_up_one<N: Name>(rt: &impl Abort, part: &mut Part<N, AnyRow>, key: u64)
     ensures value { part.new.value_words ≡ 1 }
 {
     let _ = put(rt, part, [key, key, key], 0, &mut [0; 4], 5);
-    assert!(rt; part.remove(&[key, key]).is_some());
+    assert!(rt; part.remove(&[key, key], &mut [0; 2]).is_some());
 }
 
 // Each of four chunks has one life; then none is free any more, and a put says so.
@@ -344,7 +349,7 @@ fn use_up<N: Name, R: Abort>(
     requires slots { N.table.slots ≡ 3 }
     requires class { config.now.classes ≡ (record { chunks = 4; hot = 1; warm = 1 }) ∷ [] }
 {
-    let opened = StoreParts::<N>::open(alloc, blank, config)?;
+    let opened = UnlockedStore::<N>::open(alloc, blank, config)?;
     let Some(book) = first_book(opened.books) else {
         panic!(rt; "there is a class")
     };
@@ -356,7 +361,15 @@ fn use_up<N: Name, R: Abort>(
     use_up_one(rt, &mut part, 4);
     let mut evicted = [0; 4];
     let mut no_lanes: [RawLane<N>; 0] = [];
-    let put = part.put(&[5, 5, 5], 0, &mut evicted, &mut no_lanes, 0, 6);
+    let put = part.put(
+        &[5, 5, 5],
+        0,
+        &mut [0; 2],
+        &mut evicted,
+        &mut no_lanes,
+        0,
+        6,
+    );
     assert!(rt; put.is_err());
     assert!(rt; part.find(&[5, 5]).is_none());
     Ok(())

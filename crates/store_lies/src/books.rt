@@ -36,7 +36,7 @@ pub fn workers<N: Name, L: RowLaw>(book: &Book<N, L>) -> u32
 /// How many moves for bumps of a worker the history has.
 pub fn moves<N: Name, L: RowLaw>(book: &Book<N, L>, worker: u32) -> u64
     requires range { worker < book.now.workers }
-    ensures { result ≡ moves_of worker book.now.part.history }
+    ensures { result ≡ moves_of worker book.now.sheet.history }
 {
     book.moves(worker)
 }
@@ -68,12 +68,12 @@ pub fn walk<N: Name, L: RowLaw>(
 
 /// The head and the time of a chunk.
 pub fn see<N: Name, L: RowLaw>(book: &mut Book<N, L>, chunk: u32) -> (Head, u64)
-    requires own { owns chunk book.old.part ≡ true }
+    requires own { owns chunk book.old.sheet ≡ true }
     ensures seen { book.new ≡ book_after_see chunk result.0 result.1 book.old }
     ensures fits { Fits result.0 }
     ensures listed { is_in_segment chunk book.old.lists ≡ result.0.linked }
-    ensures agrees { Shows result.0 (place_of_chunk book.old.part chunk) }
-    ensures generation { result.0.generation ≡ generation_of_chunk book.old.part chunk }
+    ensures agrees { Shows result.0 (place_of_chunk book.old.sheet chunk) }
+    ensures generation { result.0.generation ≡ generation_of_chunk book.old.sheet chunk }
     ensures marks { bit result.0.active ≤ bit result.0.fetched }
 {
     book.see(chunk)
@@ -90,9 +90,9 @@ pub fn link_words<N: Name, L: RowLaw>(
     requires law { MayHave L.law label words.now }
     ensures item { result ≡ linked_item book.old }
     ensures linked { IfOk result (λ id. book.new ≡ book_with_words start.Hot id label words.now now book.old) }
-    ensures label { IfOk result (λ id. label_of_life id 0 book.new.part.labels ≡ Some label) }
+    ensures label { IfOk result (λ id. label_of_life id 0 book.new.sheet.labels ≡ Some label) }
     ensures words { IfOk result (λ id. (j : ℕ) → j < length words.now
-        → label_of_life id 0 (of_word j book.new.part.words) ≡ Some (slice_index words.now j)) }
+        → label_of_life id 0 (of_word j book.new.sheet.words) ≡ Some (slice_index words.now j)) }
     ensures unchanged { OnErr result (book.new ≡ book.old) }
 {
     book.link_words(label, words, now)
@@ -109,9 +109,9 @@ pub fn link_temp_words<N: Name, L: RowLaw>(
     requires law { MayHave L.law label words.now }
     ensures item { result ≡ linked_item book.old }
     ensures linked { IfOk result (λ id. book.new ≡ book_with_words start.Temp id label words.now now book.old) }
-    ensures label { IfOk result (λ id. label_of_life id 0 book.new.part.labels ≡ Some label) }
+    ensures label { IfOk result (λ id. label_of_life id 0 book.new.sheet.labels ≡ Some label) }
     ensures words { IfOk result (λ id. (j : ℕ) → j < length words.now
-        → label_of_life id 0 (of_word j book.new.part.words) ≡ Some (slice_index words.now j)) }
+        → label_of_life id 0 (of_word j book.new.sheet.words) ≡ Some (slice_index words.now j)) }
     ensures unchanged { OnErr result (book.new ≡ book.old) }
 {
     book.link_temp_words(label, words, now)
@@ -122,7 +122,7 @@ pub fn unlink<N: Name, L: RowLaw>(book: &mut Book<N, L>, id: ItemId) -> Result<E
     ensures refused { result_err result ≡ unlink_refusal book.old id }
     ensures unlinked { Unlinks book.old id result book.new }
     ensures unchanged { OnErr result ((book.new.lists ≡ book.old.lists)
-        × (book.new.part.history ≡ book.old.part.history)) }
+        × (book.new.sheet.history ≡ book.old.sheet.history)) }
 {
     book.unlink(id)
 }
@@ -160,7 +160,7 @@ pub fn sweep_into<N: Name, L: RowLaw>(book: &mut Book<N, L>, freed: &mut [u32]) 
 pub fn first<N: Name, L: RowLaw>(book: &Book<N, L>, place: Place) -> Option<u32>
     ensures front { result ≡ first_of (list_at book.now.lists place) }
     ensures book { IsBook book.now }
-    ensures stands { IfSome result (λ c. (owns c book.now.part ≡ true) × (place_of_chunk book.now.part c ≡ place)) }
+    ensures stands { IfSome result (λ c. (owns c book.now.sheet ≡ true) × (place_of_chunk book.now.sheet c ≡ place)) }
 {
     book.first(place)
 }
@@ -168,48 +168,48 @@ pub fn first<N: Name, L: RowLaw>(book: &Book<N, L>, place: Place) -> Option<u32>
 /// The last chunk of a list.
 pub fn last<N: Name, L: RowLaw>(book: &Book<N, L>, place: Place) -> Option<u32>
     ensures back { result ≡ last_of (list_at book.now.lists place) }
-    ensures stands { IfSome result (λ c. (owns c book.now.part ≡ true) × (place_of_chunk book.now.part c ≡ place)) }
+    ensures stands { IfSome result (λ c. (owns c book.now.sheet ≡ true) × (place_of_chunk book.now.sheet c ≡ place)) }
 {
     book.last(place)
 }
 
 /// Whether a chunk stands in a list.
 pub fn stands_in<N: Name, L: RowLaw>(book: &Book<N, L>, chunk: u32, place: Place) -> bool
-    requires own { owns chunk book.now.part ≡ true }
+    requires own { owns chunk book.now.sheet ≡ true }
     ensures there { result ≡ nat_lt 0 (times chunk (list_at book.now.lists place)) }
-    ensures stands { result ≡ true → place_of_chunk book.now.part chunk ≡ place }
+    ensures stands { result ≡ true → place_of_chunk book.now.sheet chunk ≡ place }
 {
     book.stands_in(chunk, place)
 }
 
 /// The chunk behind a chunk.
 pub fn after<N: Name, L: RowLaw>(book: &Book<N, L>, chunk: u32, place: Place) -> Option<u32>
-    requires own { owns chunk book.now.part ≡ true }
-    requires stands { place_of_chunk book.now.part chunk ≡ place }
+    requires own { owns chunk book.now.sheet ≡ true }
+    requires stands { place_of_chunk book.now.sheet chunk ≡ place }
     ensures next { result ≡ next_of chunk (list_at book.now.lists place) }
     ensures once { times chunk (list_at book.now.lists place) ≡ 1 }
-    ensures stands { IfSome result (λ c. (owns c book.now.part ≡ true) × (place_of_chunk book.now.part c ≡ place)) }
+    ensures stands { IfSome result (λ c. (owns c book.now.sheet ≡ true) × (place_of_chunk book.now.sheet c ≡ place)) }
 {
     book.after(chunk, place)
 }
 
 /// The chunk before a chunk.
 pub fn before<N: Name, L: RowLaw>(book: &Book<N, L>, chunk: u32, place: Place) -> Option<u32>
-    requires own { owns chunk book.now.part ≡ true }
-    requires stands { place_of_chunk book.now.part chunk ≡ place }
+    requires own { owns chunk book.now.sheet ≡ true }
+    requires stands { place_of_chunk book.now.sheet chunk ≡ place }
     ensures previous { result ≡ previous_of chunk (list_at book.now.lists place) }
-    ensures stands { IfSome result (λ c. (owns c book.now.part ≡ true) × (place_of_chunk book.now.part c ≡ place)) }
+    ensures stands { IfSome result (λ c. (owns c book.now.sheet ≡ true) × (place_of_chunk book.now.sheet c ≡ place)) }
 {
     book.before(chunk, place)
 }
 
 /// The head of a chunk.
 pub fn load_head<N: Name, L: RowLaw>(book: &mut Book<N, L>, chunk: u32) -> Head
-    requires own { owns chunk book.old.part ≡ true }
+    requires own { owns chunk book.old.sheet ≡ true }
     ensures looked { book.new ≡ book_after_load chunk result book.old }
     ensures fits { Fits result }
-    ensures agrees { Shows result (place_of_chunk book.old.part chunk) }
-    ensures generation { result.generation ≡ generation_of_chunk book.old.part chunk }
+    ensures agrees { Shows result (place_of_chunk book.old.sheet chunk) }
+    ensures generation { result.generation ≡ generation_of_chunk book.old.sheet chunk }
     ensures marks { bit result.active ≤ bit result.fetched }
     ensures listed { is_in_segment chunk book.old.lists ≡ result.linked }
 {
@@ -218,23 +218,23 @@ pub fn load_head<N: Name, L: RowLaw>(book: &mut Book<N, L>, chunk: u32) -> Head
 
 /// The label of a chunk.
 pub fn label<N: Name, L: RowLaw>(book: &mut Book<N, L>, chunk: u32) -> u64
-    requires own { owns chunk book.old.part ≡ true }
+    requires own { owns chunk book.old.sheet ≡ true }
     ensures seen { book.new ≡ book_after_see_label chunk result book.old }
-    ensures stored { result ≡ last_label book.old.part chunk }
-    ensures life { IsUsed (place_of_chunk book.old.part chunk)
-        → label_of_life (life_in book.old.part chunk) 0 book.old.part.labels ≡ Some result }
+    ensures stored { result ≡ last_label book.old.sheet chunk }
+    ensures life { IsUsed (place_of_chunk book.old.sheet chunk)
+        → label_of_life (life_in book.old.sheet chunk) 0 book.old.sheet.labels ≡ Some result }
 {
     book.label(chunk)
 }
 
 /// A further word of a chunk.
 pub fn word<N: Name, L: RowLaw>(book: &mut Book<N, L>, chunk: u32, index: u32) -> u64
-    requires own { owns chunk book.old.part ≡ true }
+    requires own { owns chunk book.old.sheet ≡ true }
     requires index { index < N.table.slots }
     ensures seen { book.new ≡ book_after_see_word chunk result book.old }
-    ensures stored { result ≡ last_word (suc index) book.old.part chunk }
-    ensures life { IsUsed (place_of_chunk book.old.part chunk)
-        → label_of_life (life_in book.old.part chunk) 0 (of_word index book.old.part.words) ≡ Some result }
+    ensures stored { result ≡ last_word (suc index) book.old.sheet chunk }
+    ensures life { IsUsed (place_of_chunk book.old.sheet chunk)
+        → label_of_life (life_in book.old.sheet chunk) 0 (of_word index book.old.sheet.words) ≡ Some result }
 {
     book.word(chunk, index)
 }
@@ -243,7 +243,7 @@ pub fn word<N: Name, L: RowLaw>(book: &mut Book<N, L>, chunk: u32, index: u32) -
 pub fn link<N: Name>(book: &mut Book<N>, label: u64, now: u64) -> Result<ItemId, LinkRefusal>
     ensures item { result ≡ linked_item book.old }
     ensures linked { IfOk result (λ id. book.new ≡ book_with_item start.Hot id label now book.old) }
-    ensures label { IfOk result (λ id. label_of_life id 0 book.new.part.labels ≡ Some label) }
+    ensures label { IfOk result (λ id. label_of_life id 0 book.new.sheet.labels ≡ Some label) }
     ensures unchanged { OnErr result (book.new ≡ book.old) }
 {
     book.link(label, now)
@@ -253,7 +253,7 @@ pub fn link<N: Name>(book: &mut Book<N>, label: u64, now: u64) -> Result<ItemId,
 pub fn link_temp<N: Name>(book: &mut Book<N>, label: u64, now: u64) -> Result<ItemId, LinkRefusal>
     ensures item { result ≡ linked_item book.old }
     ensures linked { IfOk result (λ id. book.new ≡ book_with_item start.Temp id label now book.old) }
-    ensures label { IfOk result (λ id. label_of_life id 0 book.new.part.labels ≡ Some label) }
+    ensures label { IfOk result (λ id. label_of_life id 0 book.new.sheet.labels ≡ Some label) }
     ensures unchanged { OnErr result (book.new ≡ book.old) }
 {
     book.link_temp(label, now)

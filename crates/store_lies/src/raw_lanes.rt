@@ -18,7 +18,7 @@ pub fn apply_front<N: Name, L: RowLaw>(
     now: u64,
 ) -> Applied
     requires carries { IsSome (carries lane.old) }
-    requires own { IfSome (carries lane.old) (λ bump. owns bump.life.chunk book.old.part ≡ true) }
+    requires own { IfSome (carries lane.old) (λ bump. owns bump.life.chunk book.old.sheet ≡ true) }
     ensures applied { AppliesBump now book.old lane.old result book.new lane.new }
 {
     book.apply_front(lane, now)
@@ -32,7 +32,7 @@ pub fn apply_run<N: Name, L: RowLaw>(
     limit: u32,
 ) -> u32
     requires carries { IsSome (carries lane.old) }
-    requires own { IfSome (carries lane.old) (λ bump. owns bump.life.chunk book.old.part ≡ true) }
+    requires own { IfSome (carries lane.old) (λ bump. owns bump.life.chunk book.old.sheet ≡ true) }
     requires some { 1 ≤ limit }
     ensures applied { AppliesUpTo limit now book.old lane.old result book.new lane.new }
     ensures over { result < limit → IsRunOver (carries lane.new) book.new lane.new }
@@ -49,7 +49,7 @@ pub fn apply_run_into<N: Name, L: RowLaw>(
     freed: &mut [u32],
 ) -> RunEnd
     requires carries { IsSome (carries lane.old) }
-    requires own { IfSome (carries lane.old) (λ bump. owns bump.life.chunk book.old.part ≡ true) }
+    requires own { IfSome (carries lane.old) (λ bump. owns bump.life.chunk book.old.sheet ≡ true) }
     requires some { 1 ≤ limit }
     requires room { 1 ≤ length freed.old }
     ensures applied { AppliesUpTo limit now book.old lane.old result.applied book.new lane.new }
@@ -74,7 +74,7 @@ pub fn applied<N: Name, L: RowLaw>(lane: &RawLane<N, L>) -> u64
 
 /// The number of a lane's worker.
 pub fn worker<N: Name, L: RowLaw>(lane: &RawLane<N, L>) -> u32
-    ensures { result ≡ lane.now.part.worker }
+    ensures { result ≡ lane.now.sheet.worker }
 {
     lane.worker()
 }

@@ -1,6 +1,6 @@
 //! A store with its lanes, as a caller calls them.
 ghost use Rattle.bump_class.specs.Lanes.{entries, IsRawLane, LaneView as TheLaneView};
-ghost use Rattle.bump_parts.specs.Closing.{AppliedAll};
+ghost use Rattle.bump_unlocked.specs.Closing.{AppliedAll};
 ghost use Rattle.bump_rules.specs.Configs.{chunks_of};
 ghost use Rattle.bump_store.specs.Finishing.{sum_of, AreOfClasses};
 ghost use Rattle.bump_store.specs.Lanes.{applied_bump_of, NothingAboard, AppliesNext, AppliesMany};
@@ -60,7 +60,7 @@ pub fn drain<N: Name, L: RowLaw, R: Wait>(
 /// How many bumps a lane applied.
 pub fn applied<N: Name, L: RowLaw>(lane: &Lane<N, L>) -> u64
     ensures count { result ≡ length (entries lane.now.lane) }
-    ensures order { IsRawLane lane.now.lane.part lane.now.lane.received }
+    ensures order { IsRawLane lane.now.lane.sheet lane.now.lane.received }
     ensures idle { NothingAboard lane.now.lane }
 {
     lane.applied()
@@ -68,7 +68,7 @@ pub fn applied<N: Name, L: RowLaw>(lane: &Lane<N, L>) -> u64
 
 /// The number of a lane's worker.
 pub fn worker<N: Name, L: RowLaw>(lane: &Lane<N, L>) -> u32
-    ensures { result ≡ lane.now.lane.part.worker }
+    ensures { result ≡ lane.now.lane.sheet.worker }
 {
     lane.worker()
 }
@@ -114,7 +114,7 @@ pub fn settle<N: Name, L: RowLaw, R: Wait>(
     ensures grown { IsPrefix (entries lane.old.lane) (entries lane.new.lane) }
     ensures all { IfOk result (λ settled. AppliedAll closed.sender.sent lane.new.lane) }
     ensures received { IfOk result (λ settled. lane.new.lane.received ≡ closed.sender.sent) }
-    ensures counts { IfOk result (λ settled. settled.counts ≡ closed.part.accounts) }
+    ensures counts { IfOk result (λ settled. settled.counts ≡ closed.sheet.accounts) }
     ensures applied { IfOk result (λ settled. settled.applied ≡ length (entries lane.new.lane)) }
     ensures accepted { IfOk result (λ settled. settled.applied ≡ settled.counts.accepted) }
     ensures attempted { IfOk result (λ settled. settled.counts.attempted ≡ settled.counts.accepted

@@ -1,8 +1,8 @@
 //! A worker and its holds, as a caller calls them.
-ghost use Rattle.bump_parts.specs.Gets.{Got, GotAny};
-ghost use Rattle.bump_parts.specs.Holds.{SeesHead, SeesMarks};
-ghost use Rattle.bump_parts.specs.StepCounts.{MakesAtMost};
-ghost use Rattle.bump_parts.specs.Touches.{Findings as TheFindings, Touched};
+ghost use Rattle.bump_unlocked.specs.Gets.{Got, GotAny};
+ghost use Rattle.bump_unlocked.specs.Holds.{SeesHead, SeesMarks};
+ghost use Rattle.bump_unlocked.specs.StepCounts.{MakesAtMost};
+ghost use Rattle.bump_unlocked.specs.Touches.{Findings as TheFindings, Touched};
 ghost use Rattle.bump_readers.specs.Attempts.{attempts_in};
 ghost use Rattle.bump_readers.specs.Taking.{IsTakenBy};
 ghost use Rattle.bump_rules.specs.Rings.{most_attempts, IsAccounts};
@@ -10,8 +10,8 @@ ghost use Rattle.bump_rules.specs.declared.items.Head.{Head as TheHead};
 ghost use Rattle.bump_steps.specs.References.{new_hold, IsRow, words_in, label_of_row, word_of_row};
 ghost use Rattle.bump_steps.specs.Rule.{chunks as all_chunks};
 ghost use Rattle.std.specs.Prelude.{◌≡◌, ◌<◌, ◌≤◌, List, Err, IfOk, length};
-ghost use Rattle.bump_parts.specs.declared.refusals.GetAnyRefusal.TheVariants as refused_any;
-ghost use Rattle.bump_parts.specs.declared.refusals.GetRefusal.TheVariants as refused;
+ghost use Rattle.bump_unlocked.specs.declared.refusals.GetAnyRefusal.TheVariants as refused_any;
+ghost use Rattle.bump_unlocked.specs.declared.refusals.GetRefusal.TheVariants as refused;
 ghost use Rattle.bump_rules.specs.declared.commands.Touch.TheVariants as touch;
 ghost use Rattle.bump_rules.specs.declared.hands.Hand.TheVariants as hand;
 
@@ -32,7 +32,7 @@ pub fn get<N: Name, L: RowLaw>(
     ensures hold { IfOk result (λ h. h ≡ new_hold id h.row) }
     ensures row { IfOk result (λ h. IsRow N.table.slots h.row) }
     ensures law { IfOk result (λ h. L.law (words_in h.row)) }
-    ensures few { MakesAtMost 1 8 0 worker.old.part.steps worker.new.part.steps }
+    ensures few { MakesAtMost 1 8 0 worker.old.sheet.steps worker.new.sheet.steps }
     ensures sender { worker.new.sender ≡ worker.old.sender }
 {
     worker.get(heads, id)
@@ -52,7 +52,7 @@ pub fn get_any<N: Name, L: RowLaw>(
     ensures hold { IfOk result (λ told. told.0 ≡ new_hold told.0.life told.0.row) }
     ensures row { IfOk result (λ told. IsRow N.table.slots told.0.row) }
     ensures law { IfOk result (λ told. L.law (words_in told.0.row)) }
-    ensures few { MakesAtMost 1 8 0 worker.old.part.steps worker.new.part.steps }
+    ensures few { MakesAtMost 1 8 0 worker.old.sheet.steps worker.new.sheet.steps }
     ensures sender { worker.new.sender ≡ worker.old.sender }
 {
     worker.get_any(heads, chunk)
@@ -65,12 +65,12 @@ pub fn touch<N: Name, L: RowLaw>(
     hold: &mut Hold<N>,
     now: u64,
 ) -> Touch
-    ensures exhausted { worker.old.part.accounts.attempted ≡ most_attempts → (result ≡ touch.Exhausted)
+    ensures exhausted { worker.old.sheet.accounts.attempted ≡ most_attempts → (result ≡ touch.Exhausted)
         × (worker.new ≡ worker.old) }
-    ensures touched { worker.old.part.accounts.attempted < most_attempts → (found : TheFindings)
+    ensures touched { worker.old.sheet.accounts.attempted < most_attempts → (found : TheFindings)
         × Touched heads.now.refs_limit hold.old.life now worker.old worker.new result found }
-    ensures few { MakesAtMost 1 8 4 worker.old.part.steps worker.new.part.steps }
-    ensures taken { worker.new.part.taken ≡ worker.old.part.taken }
+    ensures few { MakesAtMost 1 8 4 worker.old.sheet.steps worker.new.sheet.steps }
+    ensures taken { worker.new.sheet.taken ≡ worker.old.sheet.taken }
     ensures hold { hold.new ≡ hold.old }
     ensures ring { worker.new.sender.ring ≡ worker.old.sender.ring }
 {
@@ -79,18 +79,18 @@ pub fn touch<N: Name, L: RowLaw>(
 
 /// A worker's counts.
 pub fn counts<N: Name>(worker: &Worker<N>) -> Accounts
-    ensures counts { result ≡ worker.now.part.accounts }
+    ensures counts { result ≡ worker.now.sheet.accounts }
     ensures add_up { IsAccounts result (length worker.now.sender.sent) hand.Idle }
-    ensures attempts { result.attempted ≡ attempts_in worker.now.part.steps }
+    ensures attempts { result.attempted ≡ attempts_in worker.now.sheet.steps }
 {
     worker.counts()
 }
 
 /// A closed worker's counts.
 pub fn last_counts<N: Name>(closed: &ClosedWorker<N>) -> Accounts
-    ensures counts { result ≡ closed.now.part.accounts }
+    ensures counts { result ≡ closed.now.sheet.accounts }
     ensures add_up { IsAccounts result (length closed.now.sender.sent) hand.Idle }
-    ensures attempts { result.attempted ≡ attempts_in closed.now.part.steps }
+    ensures attempts { result.attempted ≡ attempts_in closed.now.sheet.steps }
 {
     closed.counts()
 }

@@ -4,13 +4,13 @@ ghost use Rattle.bump_core.specs.Headline.{Headline, ClosedStay, ClosedStayFrom}
 ghost use Rattle.bump_core.specs.Labels.{KeepsLabels};
 ghost use Rattle.bump_core.specs.Readers.{limits_of, class_list, history_of, time_of, label_of, holds_at};
 ghost use Rattle.bump_core.specs.Readers.{accounts_of, sent_of, received_of, applied_of};
-ghost use Rattle.bump_core.specs.Runs.{Steps, made_by, Runs, made, run_of};
+ghost use Rattle.bump_core.specs.Runs.{made_by, Runs, made, run_of};
 ghost use Rattle.bump_links.specs.Lists.{last_of};
 ghost use Rattle.bump_rules.specs.Entries.{moves_of};
 ghost use Rattle.bump_rules.specs.declared.events.Refused.TheVariants.{NotEnabled};
-ghost use Rattle.bump_state.specs.Events.{asks_for_memory};
-ghost use Rattle.bump_state.specs.State.{SameSizes, is_open, head_at};
-ghost use Rattle.bump_state.specs.Worlds.{IsLawful};
+ghost use Rattle.model_state.specs.Events.{Steps, asks_for_memory};
+ghost use Rattle.model_state.specs.State.{SameSizes, is_open, head_at};
+ghost use Rattle.model_state.specs.Worlds.{IsLawful};
 ghost use Rattle.std.specs.Prelude.{◌≡◌, [], ◌∷◌, IfErr, false, OnOk, Some, length, ◌<◌, All};
 
 use bump_core::{

@@ -1,7 +1,7 @@
 -- Where the lines of a store begin.
 use Rattle.std.proofs.Common.{◌≡◌, ℕ, List, Result, Ok, Err, sym, subst}
 use Rattle.std.specs.Result.{IfOk, IfErr}
-use Rattle.bump_state.specs.Opening.{new_state}
+use Rattle.model_state.specs.Opening.{new_state}
 use Rattle.bump_trace.specs.Meaning.{parts_of}
 use Rattle.bump_trace.specs.Stages.{Stage, Open, StoreState, nameless, opened}
 use Rattle.trace_lines.specs.declared.faults.Fault.{Fault}

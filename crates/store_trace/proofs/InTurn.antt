@@ -24,13 +24,6 @@ module _ {A : Type 0} (R : A → A → Type 0) where
   changed_next (suc count) (before ∷ befores) (after ∷ afters) changed none so_far low one =
       (so_far.0, changed_next count befores afters changed none so_far.1 (omega (arith, low)) one)
 
-  -- there are as many as before
-  pub as_many : (count : ℕ) (befores afters : List A) → ChangedSoFar count befores afters → length afters ≡ length befores
-  as_many zero befores afters so_far = ap length so_far
-  as_many (suc count) [] afters so_far = ap length so_far
-  as_many (suc count) (before ∷ befores) [] so_far = absurd so_far
-  as_many (suc count) (before ∷ befores) (after ∷ afters) so_far = ap suc (as_many count befores afters so_far.1)
-
   -- where as many were as there are, each was
   pub all_changed : (befores afters : List A) → ChangedSoFar (length befores) befores afters → AllZip R befores afters
   all_changed [] [] so_far = tt

@@ -6,7 +6,7 @@ use Rattle.std.proofs.lemmas.List.Elements.{All-head, All-tail}
 use Rattle.bump_rules.specs.declared.configs.Config.{Config}
 use Rattle.bump_store.specs.Lanes.{LaneState}
 use Rattle.bump_store.specs.Passes.{IsDrained}
-use Rattle.bump_parts.specs.Workers.{WorkerState}
+use Rattle.bump_unlocked.specs.Workers.{WorkerState}
 use Rattle.store_trace.specs.Jobs.{WorkerMade, IsJobOf, Came, AreJobsOf, with_lines, IsSumOf, AllCame, WorkersMade, DrainerMade, drainer_lanes, drainer_shares, shares_of}
 use Rattle.store_trace.specs.Making.{WereMade}
 use Rattle.store_trace.specs.Tasks.{MakesEach, drain_times, lines_of}

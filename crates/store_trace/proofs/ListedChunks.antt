@@ -6,7 +6,7 @@ use Rattle.std.proofs.lemmas.Bool.Decides.{nat_tests}
 use Rattle.bump_links.specs.Lists.{times}
 use Rattle.bump_rules.specs.Lawful.{bit}
 use Rattle.bump_steps.specs.Views.{owns}
-use Rattle.bump_steps.specs.declared.views.ClassPart.{ClassPart}
+use Rattle.bump_steps.specs.declared.views.ClassSheet.{ClassSheet}
 
 -- what stands in the rest of a list stands in the list
 times_rest : (n x : ℕ) (xs : List ℕ) → 0 < times n xs → 0 < times n (x ∷ xs)
@@ -28,7 +28,7 @@ first_of_both true b h = refl
 first_of_both false b h = absurd (omega arith)
 
 -- A list in which those chunks stand that the class has, and of which more is true, has chunks of the class alone.
-pub listed_chunks : (class : ClassPart) (more : ℕ → Bool) (xs : List ℕ) → ((n : ℕ) → times n xs ≡ bit (owns n class && more n))
+pub listed_chunks : (class : ClassSheet) (more : ℕ → Bool) (xs : List ℕ) → ((n : ℕ) → times n xs ≡ bit (owns n class && more n))
     → All (λ n. owns n class ≡ true) xs
 listed_chunks class more xs same =
     each_listed (λ n. owns n class ≡ true) xs (λ n h. first_of_both (owns n class) (more n) (rw (same n) at h))

@@ -11,7 +11,7 @@ use Rattle.std.proofs.Math.Seq.{get_or-append_seam}
 use Rattle.std.proofs.lemmas.List.{get_or-set_other}
 use std.Path.{fun_ext}
 use denote.Ref.{Bor}
-use Rattle.bump_steps.specs.declared.views.HoldPart.{HoldPart}
+use Rattle.bump_steps.specs.declared.views.HoldSheet.{HoldSheet}
 use Rattle.bump_trace.specs.Names.{bind, unbind}
 use Rattle.store_trace.specs.NamedHolds.{item_at, item_if, place_of_name, kept_by, AreKept}
 
@@ -20,24 +20,24 @@ abbrev Places : Type 0
 Places = List ℕ → Option ℕ
 
 -- each name in use has a hold, and no other name has it
-record Apart (places : Places) (holds : List (Option HoldPart)) : Type 0 where
+record Apart (places : Places) (holds : List (Option HoldSheet)) : Type 0 where
   there : (name : List ℕ) (place : ℕ) → places name ≡ Some place → IsSome (item_at holds place)
   apart : (name other : List ℕ) (place : ℕ) → places name ≡ Some place → places other ≡ Some place → bytes_eq name other ≡ true
 
 -- a place with a hold is in the list
-inside : (holds : List (Option HoldPart)) (place : ℕ) → IsSome (item_at holds place) → place < length holds
+inside : (holds : List (Option HoldSheet)) (place : ℕ) → IsSome (item_at holds place) → place < length holds
 inside [] place p = absurd cc
 inside (h ∷ holds) zero p = omega arith
 inside (h ∷ holds) (suc place) p = omega (arith, inside holds place p)
 
 -- a hold behind the others is at its place, and each other one too
-item_same : (holds : List (Option HoldPart)) (more : Option HoldPart) (place : ℕ) → place < length holds → item_at (holds ++ more ∷ []) place ≡ item_at holds place
+item_same : (holds : List (Option HoldSheet)) (more : Option HoldSheet) (place : ℕ) → place < length holds → item_at (holds ++ more ∷ []) place ≡ item_at holds place
 item_same holds more place h = ap (option_map (λ part. part.life)) (get_or-append holds (more ∷ []) None place h)
 
-item_last : (holds : List (Option HoldPart)) (more : Option HoldPart) → item_at (holds ++ more ∷ []) (length holds) ≡ option_map (λ part. part.life) more
+item_last : (holds : List (Option HoldSheet)) (more : Option HoldSheet) → item_at (holds ++ more ∷ []) (length holds) ≡ option_map (λ part. part.life) more
 item_last holds more = ap (option_map (λ part. part.life)) (get_or-append_seam holds more [] None)
 
-item_others : (holds : List (Option HoldPart)) (place at : ℕ) (other : Option HoldPart) → at ≢ place → item_at (slice_set holds place other) at ≡ item_at holds at
+item_others : (holds : List (Option HoldSheet)) (place at : ℕ) (other : Option HoldSheet) → at ≢ place → item_at (slice_set holds place other) at ≡ item_at holds at
 item_others holds place at other h = ap (option_map (λ part. part.life)) (get_or-set_other holds place at other None h)
 
 -- names that are equal to one are equal
@@ -45,7 +45,7 @@ equal_names : (a b c : List ℕ) → bytes_eq a b ≡ true → bytes_eq a c ≡ 
 equal_names a b c p q = (bytes_eq-Decides b c).1 (sym ((bytes_eq-Decides a b).0 p) ∙ (bytes_eq-Decides a c).0 q)
 
 -- a hold was put behind the others
-module _ (places : Places) (holds : List (Option HoldPart)) (kept : Apart places holds) (name : List ℕ) (part : HoldPart) where
+module _ (places : Places) (holds : List (Option HoldSheet)) (kept : Apart places holds) (name : List ℕ) (part : HoldSheet) where
   -- the names with the new one
   abbrev new_places : Places
   new_places = update bytes_eq places name (Some (length holds))
@@ -85,22 +85,22 @@ module _ (places : Places) (holds : List (Option HoldPart)) (kept : Apart places
   ]
 
 -- of names whose places are in the list nothing is changed by a hold behind it
-same_items : (holds : List (Option HoldPart)) (more : Option HoldPart) (at : Option ℕ) → ((place : ℕ) → at ≡ Some place → place < length holds)
+same_items : (holds : List (Option HoldSheet)) (more : Option HoldSheet) (at : Option ℕ) → ((place : ℕ) → at ≡ Some place → place < length holds)
     → item_if (holds ++ more ∷ []) at ≡ item_if holds at
 same_items holds more None h = refl
 same_items holds more (Some place) h = item_same holds more place (h place refl)
 
 -- nor of those that have another place by one that is taken
-other_items : (holds : List (Option HoldPart)) (taken : ℕ) (at : Option ℕ) → ((place : ℕ) → at ≡ Some place → place ≢ taken) → item_if (slice_set holds taken None) at ≡ item_if holds at
+other_items : (holds : List (Option HoldSheet)) (taken : ℕ) (at : Option ℕ) → ((place : ℕ) → at ≡ Some place → place ≢ taken) → item_if (slice_set holds taken None) at ≡ item_if holds at
 other_items holds taken None h = refl
 other_items holds taken (Some place) h = item_others holds taken place None (h place refl)
 
-module _ {S : Type 0} (old new : HashMap (Bor (List ℕ)) ℕ S) (holds : List (Option HoldPart)) (kept : AreKept old holds) (name : List ℕ) where
+module _ {S : Type 0} (old new : HashMap (Bor (List ℕ)) ℕ S) (holds : List (Option HoldSheet)) (kept : AreKept old holds) (name : List ℕ) where
   -- the same of functions
   was : Apart (place_of_name old) holds
   was = record { there = kept.there; apart = kept.apart }
 
-  module _ (part : HoldPart) (puts : (other : List ℕ) → place_of_name new other ≡ update bytes_eq (place_of_name old) name (Some (length holds)) other) where
+  module _ (part : HoldSheet) (puts : (other : List ℕ) → place_of_name new other ≡ update bytes_eq (place_of_name old) name (Some (length holds)) other) where
     -- a hold was kept under one more name
     pub put_is_kept : AreKept new (holds ++ Some part ∷ [])
     put_is_kept = record {

@@ -7,8 +7,8 @@ use Rattle.bump_rules.specs.declared.configs.Config.{Config}
 use Rattle.bump_rules.specs.declared.items.ItemId.{ItemId}
 use Rattle.bump_rules.specs.declared.places.Start.{Start}
 use Rattle.bump_rules.specs.declared.places.Tail.{Tail}
-use Rattle.bump_state.specs.Opening.{new_state, classes_from}
-use Rattle.bump_state.specs.State.{is_class, is_worker}
+use Rattle.model_state.specs.Opening.{new_state, classes_from}
+use Rattle.model_state.specs.State.{is_class, is_worker}
 use Rattle.bump_trace.specs.Meaning.{fault_in}
 use denote.Ref.{Bor}
 use Rattle.trace_lines.specs.Lines.{Instruction, may_follow_par}

@@ -1,7 +1,7 @@
 -- The text of a run on a store, as it is gathered and written.
 use Rattle.std.proofs.Common.{◌≡◌, ℕ, true, false, List, [], ◌∷◌, ◌++◌, Option, Err, refl, sym, ap, ◌∙◌, append_assoc, append-nil, inl}
 use Rattle.bump_rules.specs.declared.configs.Config.{Config}
-use Rattle.bump_state.specs.Opening.{new_state}
+use Rattle.model_state.specs.Opening.{new_state}
 use Rattle.bump_store.specs.Lanes.{LaneState}
 use Rattle.bump_trace.specs.Gathering.{Gathers, GathersFault}
 use Rattle.bump_trace.specs.Meaning.{fault_in, step, parts_of}

@@ -23,13 +23,13 @@ use Rattle.bump_rules.specs.declared.places.Start.{Start}
 use Rattle.bump_rules.specs.declared.places.Tail.{Tail}
 use Rattle.bump_rules.specs.Rings.{most_attempts}
 use Rattle.bump_steps.specs.Rule.{chunks as all_chunks}
-use Rattle.bump_steps.specs.declared.views.HoldPart.{HoldPart}
-use Rattle.bump_parts.specs.Gets.{Got}
+use Rattle.bump_steps.specs.declared.views.HoldSheet.{HoldSheet}
+use Rattle.bump_unlocked.specs.Gets.{Got}
 use Rattle.bump_store.specs.Stores.{ClassHasChunk, IsOfClass}
-use Rattle.bump_parts.specs.Touches.{Findings, Touched}
-use Rattle.bump_parts.specs.Workers.{WorkerState}
-use Rattle.bump_parts.specs.declared.refusals.GetRefusal.{GetRefusal}
-use Rattle.bump_parts.specs.declared.refusals.GetRefusal.TheVariants.{NoSuchChunk}
+use Rattle.bump_unlocked.specs.Touches.{Findings, Touched}
+use Rattle.bump_unlocked.specs.Workers.{WorkerState}
+use Rattle.bump_unlocked.specs.declared.refusals.GetRefusal.{GetRefusal}
+use Rattle.bump_unlocked.specs.declared.refusals.GetRefusal.TheVariants.{NoSuchChunk}
 
 -- how a link is told
 abbrev pub link_told : Result ItemId LinkRefusal → Answer
@@ -76,13 +76,13 @@ OnItsClass chunk config answer does =
 -- A touch by a worker: one that may attempt no bump any more makes no step.
 abbrev pub TouchesAs : ℕ → ItemId → ℕ → WorkerState → Touch → WorkerState → Type 0
 TouchesAs limit item now before answered after =
-    (before.part.accounts.attempted ≡ most_attempts → (answered ≡ Exhausted) × (after ≡ before))
-    × (before.part.accounts.attempted < most_attempts → (found : Findings)
+    (before.sheet.accounts.attempted ≡ most_attempts → (answered ≡ Exhausted) × (after ≡ before))
+    × (before.sheet.accounts.attempted < most_attempts → (found : Findings)
     × Touched limit item now before after answered found)
 
 -- A get by a worker that took a hold, and a touch of it at this time behind; or one that was refused.
 abbrev pub GetsAs : Config → ItemId → ℕ → WorkerState → Result (ℕ × Touch) GetRefusal → WorkerState → Type 0
-GetsAs config item now before (Ok answered) after = (hold : HoldPart) × (first : Head) × (more : List Head)
+GetsAs config item now before (Ok answered) after = (hold : HoldSheet) × (first : Head) × (more : List Head)
     × (between : WorkerState) × Got config.refs_limit item before between (Ok hold) first more
     × TouchesAs config.refs_limit item now between answered.1 after
 GetsAs config item now before (Err refusal) after =

@@ -5,7 +5,7 @@ use Rattle.bump_ring.specs.Ends.{Ring}
 use Rattle.bump_rules.specs.declared.configs.Config.{Config}
 use Rattle.bump_store.specs.Lanes.{LaneState}
 use Rattle.bump_store.specs.Passes.{IsDrained}
-use Rattle.bump_parts.specs.Workers.{WorkerState}
+use Rattle.bump_unlocked.specs.Workers.{WorkerState}
 use Rattle.store_trace.specs.Making.{MakesGet, WereMade}
 use Rattle.store_trace.specs.Slots.{slot_ring}
 use Rattle.store_trace.specs.Tasks.{MakesEach, MakesSome, drain_times, lines_of}

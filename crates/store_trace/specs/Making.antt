@@ -5,8 +5,8 @@ use Rattle.bump_rules.specs.declared.commands.Touch.{Touch}
 use Rattle.bump_rules.specs.declared.configs.Config.{Config}
 use Rattle.bump_rules.specs.declared.items.ItemId.{ItemId}
 use Rattle.bump_rules.specs.declared.places.Tail.{Tail}
-use Rattle.bump_parts.specs.Workers.{WorkerState}
-use Rattle.bump_parts.specs.declared.refusals.GetRefusal.{GetRefusal}
+use Rattle.bump_unlocked.specs.Workers.{WorkerState}
+use Rattle.bump_unlocked.specs.declared.refusals.GetRefusal.{GetRefusal}
 use Rattle.store_trace.specs.Commands.{GetsAs, OnClass, OnItsClass, AnswersPull, AnswersSweep, AnswersUnlink}
 use Rattle.store_trace.specs.Totals.{with_touch, with_refusal}
 use Rattle.store_trace.specs.declared.tasks.Chore.{Chore}

@@ -1,7 +1,7 @@
 -- Open stores as the definitions see them.
 use Rattle.std.specs.Prelude.{◌≡◌, ⊤, ℕ, length, Option, Some, None, Result, Ok, Err}
 use Rattle.bump_readers.specs.declared.names.Name.{Ghosts}
-use Rattle.bump_state.specs.Opening.{new_state}
+use Rattle.model_state.specs.Opening.{new_state}
 use Rattle.bump_trace.specs.Meaning.{fault_in}
 use Rattle.bump_trace.specs.OpenStore.{instruction_said}
 use Rattle.bump_trace.specs.Stages.{StoreState}

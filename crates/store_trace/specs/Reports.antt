@@ -11,8 +11,8 @@ use Rattle.bump_rules.specs.declared.history.Change.{Change}
 use Rattle.bump_rules.specs.declared.configs.Config.{Config}
 use Rattle.bump_rules.specs.declared.places.Place.TheVariants as place
 use Rattle.bump_store.specs.Finishing.{AreOfClasses, sum_of}
-use Rattle.bump_parts.specs.Workers.{WorkerState}
-use Rattle.bump_steps.specs.declared.views.ClassPart.{ClassPart}
+use Rattle.bump_unlocked.specs.Workers.{WorkerState}
+use Rattle.bump_steps.specs.declared.views.ClassSheet.{ClassSheet}
 use Rattle.bump_store.specs.Lanes.{LaneState}
 use Rattle.bump_store.specs.Stores.{IsOfClass}
 use Rattle.bump_store.specs.declared.finishing.ClassSizes.{ClassSizes}
@@ -77,27 +77,27 @@ moves_lines class counts = numbered_text (moves_line class) 0 counts
 -- what is told of an open worker, or of one that was settled
 abbrev pub settled_told : Option WorkerState → LaneState → Settled → Settled
 settled_told None lane settled = settled
-settled_told (Some worker) lane settled = record { counts = worker.part.accounts; applied = length (entries lane.lane) }
+settled_told (Some worker) lane settled = record { counts = worker.sheet.accounts; applied = length (entries lane.lane) }
 
 -- how many moves a history has for bumps of each of so many workers
 abbrev pub moves_of_each : ℕ → List Change → List ℕ
 moves_of_each workers history = map (λ worker. moves_of worker history) (range_with_len 0 workers)
 
 -- how many moves of items of a class each lane told
-abbrev pub lane_moves_told : ClassPart → List LaneState → List ℕ
+abbrev pub lane_moves_told : ClassSheet → List LaneState → List ℕ
 lane_moves_told class lanes = map (λ this_lane. moved_in class (entries this_lane.lane)) lanes
 
 -- how many moves a class's history has for bumps of each lane's worker
-abbrev pub moves_of_lanes : ClassPart → List LaneState → List ℕ
-moves_of_lanes class lanes = map (λ this_lane. moves_of this_lane.lane.part.worker class.history) lanes
+abbrev pub moves_of_lanes : ClassSheet → List LaneState → List ℕ
+moves_of_lanes class lanes = map (λ this_lane. moves_of this_lane.lane.sheet.worker class.history) lanes
 
 -- The counts of a class: those of the history that some Book of the class has. Of each lane's worker it has as many
 -- moves as the lane told of items of the class.
 pub record AreMovesOf (config : Config) (lanes : List LaneState) (class : ℕ) (counts : List ℕ) : Type 0 where
   pub book : BookView
   pub of_class : IsOfClass class config.classes book
-  pub counted : counts ≡ moves_of_each config.workers book.part.history
-  pub told : moves_of_lanes book.part lanes ≡ lane_moves_told book.part lanes
+  pub counted : counts ≡ moves_of_each config.workers book.sheet.history
+  pub told : moves_of_lanes book.sheet lanes ≡ lane_moves_told book.sheet lanes
 
 -- for each class, how many moves there were for each worker's bumps
 pub record AreMoves (config : Config) (lanes : List LaneState) (moves : List (List ℕ)) : Type 0 where
@@ -107,7 +107,7 @@ pub record AreMoves (config : Config) (lanes : List LaneState) (moves : List (Li
 -- A lane is later: it is of the same worker, and has entries behind those that it had.
 abbrev pub IsLaterLane : LaneState → LaneState → Type 0
 IsLaterLane before after =
-    (after.lane.part.worker ≡ before.lane.part.worker) × IsPrefix (entries before.lane) (entries after.lane)
+    (after.lane.sheet.worker ≡ before.lane.sheet.worker) × IsPrefix (entries before.lane) (entries after.lane)
 
 -- The report of a run on a store of this configuration, behind whose `get` lines stand these totals, once these lanes
 -- were settled: a line of each worker; that of the totals; those of the moves of each class; and one of the sizes of

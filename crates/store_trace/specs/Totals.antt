@@ -2,8 +2,8 @@
 use Rattle.std.specs.Prelude.{ℕ, ◌+◌, ◌-◌, ◌^◌, min}
 use Rattle.bump_rules.specs.declared.commands.Touch.{Touch}
 use Rattle.bump_rules.specs.declared.commands.Touch.TheVariants as touch
-use Rattle.bump_parts.specs.declared.refusals.GetRefusal.{GetRefusal}
-use Rattle.bump_parts.specs.declared.refusals.GetRefusal.TheVariants as refusal
+use Rattle.bump_unlocked.specs.declared.refusals.GetRefusal.{GetRefusal}
+use Rattle.bump_unlocked.specs.declared.refusals.GetRefusal.TheVariants as refusal
 use Rattle.store_trace.specs.declared.totals.Totals.{Totals}
 use Rattle.trace_lines.specs.Counted.{next_count}
 

@@ -1,5 +1,6 @@
 //! The loop that never sleeps ends what has expired, until it is told to stop; the one that sleeps does so once a pause.
-ghost use Rattle.std.specs.Prelude.{◌≡◌};
+
+ghost use Rattle.bump_cache.specs.Opening.{IsNamed};
 
 use crate::stands::{Changer, EXPIRY, KEYS, LOOKS, Stand, config, open_filled};
 use bump_cache::{Cache, CacheBlank, LogName, Name};
@@ -46,10 +47,7 @@ fn run_each<N: Name + LogName, W: Wait>(
     blank: CacheBlank<u64, u64>,
     first: u64,
 ) -> Result<[u64; 4], AllocError>
-    requires table { blank.table ≡ N.table }
-    requires book { blank.log.book ≡ N.book }
-    requires name { blank.log.name ≡ N.name }
-    requires parts { blank.log.parts ≡ N.parts }
+    requires { IsNamed N.table N.book N.name N.parts blank }
 {
     let (stand, refused) = open_filled::<N, W>(rt, alloc, blank)?;
     let Stand {
@@ -132,10 +130,7 @@ fn run_until<N: Name + LogName + Send + Sync, R: Threads + Wait + Sync>(
     alloc: Global,
     blank: CacheBlank<u64, u64>,
 ) -> Result<u64, AllocError>
-    requires table { blank.table ≡ N.table }
-    requires book { blank.log.book ≡ N.book }
-    requires name { blank.log.name ≡ N.name }
-    requires parts { blank.log.parts ≡ N.parts }
+    requires { IsNamed N.table N.book N.name N.parts blank }
 {
     let (stand, _) = open_filled::<N, R>(rt, alloc, blank)?;
     let Stand {

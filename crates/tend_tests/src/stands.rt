@@ -1,5 +1,6 @@
 //! A cache with entries that expire, and two who change it.
-ghost use Rattle.std.specs.Prelude.{◌≡◌, ◌<◌};
+ghost use Rattle.std.specs.Prelude.{◌<◌};
+ghost use Rattle.bump_cache.specs.Opening.{IsNamed};
 
 use bump_cache::{
     Cache, CacheBlank, CacheConfig, CacheState, Caller, LogName, Name, Opened, Seed, open,
@@ -45,7 +46,7 @@ impl<N: Name + LogName> Changer<N> {
 
     /// How many entries have ended because they had expired.
     pub fn reclaimed<W: Wait>(&mut self, rt: &W, cache: &Cache<N, u64, u64>) -> u64 {
-        cache.stats(rt, &mut self.me).crawler_reclaimed
+        cache.stats(rt, &mut self.me).crawler_reclaimed()
     }
 }
 
@@ -76,10 +77,7 @@ pub fn open_filled<N: Name + LogName, W: Wait>(
     alloc: Global,
     blank: CacheBlank<u64, u64>,
 ) -> Result<(Stand<N>, u64), AllocError>
-    requires table { blank.table ≡ N.table }
-    requires book { blank.log.book ≡ N.book }
-    requires name { blank.log.name ≡ N.name }
-    requires parts { blank.log.parts ≡ N.parts }
+    requires { IsNamed N.table N.book N.name N.parts blank }
 {
     let Opened {
         cache,

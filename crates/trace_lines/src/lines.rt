@@ -240,62 +240,101 @@ fn four_numbers(words: LineWords<'_>) -> Result<(u32, u32, u32, u32), Fault>
     ))
 }
 
+// The line of `store`.
+fn store_line<'a>(words: LineWords<'a>) -> Result<Line<'a>, Fault>
+    ensures { Gives seen_line result (by_row Keyword.Store (words_of words.entry)) }
+{
+    let (workers, capacity, refs_limit, first_generation) = four_numbers(words)?;
+    Ok(Line::Declares(Declaration::Store(Shape {
+        workers,
+        capacity,
+        refs_limit,
+        first_generation,
+    })))
+}
+
+// The line of `class`.
+fn class_line<'a>(words: LineWords<'a>) -> Result<Line<'a>, Fault>
+    ensures { Gives seen_line result (by_row Keyword.Class (words_of words.entry)) }
+{
+    let (chunks, hot, warm) = three_numbers(words)?;
+    Ok(Line::Declares(Declaration::Class(ClassConfig { chunks, hot, warm })))
+}
+
+// The line of `set`.
+fn set_line<'a>(words: LineWords<'a>) -> Result<Line<'a>, Fault>
+    ensures { Gives seen_line result (by_row Keyword.Set (words_of words.entry)) }
+{
+    let (name, class, label) = name_and_numbers(words)?;
+    Ok(Line::Makes(Instruction::Set {
+        start: Start::Hot,
+        name,
+        class,
+        label,
+    }))
+}
+
+// The line of `temp`.
+fn temp_line<'a>(words: LineWords<'a>) -> Result<Line<'a>, Fault>
+    ensures { Gives seen_line result (by_row Keyword.Temp (words_of words.entry)) }
+{
+    let (name, class, label) = name_and_numbers(words)?;
+    Ok(Line::Makes(Instruction::Set {
+        start: Start::Temp,
+        name,
+        class,
+        label,
+    }))
+}
+
+// The line of `get`.
+fn get_line<'a>(words: LineWords<'a>) -> Result<Line<'a>, Fault>
+    ensures { Gives seen_line result (by_row Keyword.Get (words_of words.entry)) }
+{
+    let (worker, name) = number_and_name(words)?;
+    Ok(Line::Makes(Instruction::Get { worker, name }))
+}
+
+// The line of `hold`.
+fn hold_line<'a>(words: LineWords<'a>) -> Result<Line<'a>, Fault>
+    ensures { Gives seen_line result (by_row Keyword.Hold (words_of words.entry)) }
+{
+    let (worker, name, hold) = number_and_names(words)?;
+    Ok(Line::Makes(Instruction::Hold { worker, name, hold }))
+}
+
+// The line of `hit`.
+fn hit_line<'a>(words: LineWords<'a>) -> Result<Line<'a>, Fault>
+    ensures { Gives seen_line result (by_row Keyword.Hit (words_of words.entry)) }
+{
+    let (worker, hold) = number_and_name(words)?;
+    Ok(Line::Makes(Instruction::Hit { worker, hold }))
+}
+
+// The line of `pull`.
+fn pull_line<'a>(words: LineWords<'a>) -> Result<Line<'a>, Fault>
+    ensures { Gives seen_line result (by_row Keyword.Pull (words_of words.entry)) }
+{
+    let (class, tail) = number_and_segment(words)?;
+    Ok(Line::Makes(Instruction::Pull { class, tail }))
+}
+
 // The table of lines: of each first word its fields, and the line that it is with such fields.
 fn by_keyword<'a>(keyword: Keyword, words: LineWords<'a>) -> Result<Line<'a>, Fault>
     ensures { Gives seen_line result (by_row keyword (words_of words.entry)) }
 {
     let instruction = match keyword {
-        Keyword::Store => {
-            let (workers, capacity, refs_limit, first_generation) = four_numbers(words)?;
-            let shape = Shape {
-                workers,
-                capacity,
-                refs_limit,
-                first_generation,
-            };
-            return Ok(Line::Declares(Declaration::Store(shape)));
-        }
-        Keyword::Class => {
-            let (chunks, hot, warm) = three_numbers(words)?;
-            return Ok(Line::Declares(Declaration::Class(ClassConfig { chunks, hot, warm })));
-        }
-        Keyword::Set => {
-            let (name, class, label) = name_and_numbers(words)?;
-            Instruction::Set {
-                start: Start::Hot,
-                name,
-                class,
-                label,
-            }
-        }
-        Keyword::Temp => {
-            let (name, class, label) = name_and_numbers(words)?;
-            Instruction::Set {
-                start: Start::Temp,
-                name,
-                class,
-                label,
-            }
-        }
-        Keyword::Get => {
-            let (worker, name) = number_and_name(words)?;
-            Instruction::Get { worker, name }
-        }
-        Keyword::Hold => {
-            let (worker, name, hold) = number_and_names(words)?;
-            Instruction::Hold { worker, name, hold }
-        }
-        Keyword::Hit => {
-            let (worker, hold) = number_and_name(words)?;
-            Instruction::Hit { worker, hold }
-        }
+        Keyword::Store => return store_line(words),
+        Keyword::Class => return class_line(words),
+        Keyword::Set => return set_line(words),
+        Keyword::Temp => return temp_line(words),
+        Keyword::Get => return get_line(words),
+        Keyword::Hold => return hold_line(words),
+        Keyword::Hit => return hit_line(words),
+        Keyword::Pull => return pull_line(words),
         Keyword::Read => Instruction::Read { hold: name(words)? },
         Keyword::Drop => Instruction::Drop { hold: name(words)? },
         Keyword::Del => Instruction::Del { name: name(words)? },
-        Keyword::Pull => {
-            let (class, tail) = number_and_segment(words)?;
-            Instruction::Pull { class, tail }
-        }
         Keyword::Sweep => Instruction::Sweep {
             class: number(words)?,
         },

@@ -1,16 +1,17 @@
--- Each command that is allowed is its events, each enabled in its turn.
-use Rattle.std.proofs.Common.{◌≡◌, true, Some, Result, Ok, Err, refl, sym, ap, ◌∙◌, subst}
-use Rattle.std.specs.Prelude.{OnOk}
+-- Each command that is allowed is its events, each enabled in its turn, and asks for memory where one of them does.
+use Rattle.std.proofs.Common.{◌≡◌, true, false, Some, Result, Ok, Err, refl, sym, ap, ◌∙◌, subst}
+use Rattle.std.specs.Prelude.{OnOk, IfErr}
+use Rattle.std.proofs.lemmas.Bool.{both_ways}
 use Rattle.bump_rules.specs.declared.commands.Answer.{Answer}
 use Rattle.bump_rules.specs.declared.events.Refused.{Refused}
 use Rattle.bump_rules.specs.declared.events.Refused.TheVariants.{NotEnabled, OutOfMemory}
 use Rattle.bump_rules.specs.declared.commands.Command.{Command}
 use Rattle.bump_rules.specs.declared.commands.Command.TheVariants as command
 use Rattle.bump_rules.specs.declared.places.Start.TheVariants as start
-use Rattle.bump_state.specs.State.{State, SameSizes}
-use Rattle.bump_state.specs.Worlds.{IsLawful}
+use Rattle.model_state.specs.State.{State, SameSizes}
+use Rattle.model_state.specs.Worlds.{IsLawful}
 use Rattle.bump_core.specs.Runs.{run_of, made_by}
-use Rattle.bump_core.specs.Commands.{is_allowed, events_of, command_after, Commands}
+use Rattle.bump_core.specs.Commands.{is_allowed, events_of, command_after, command_asks_for_memory, Commands}
 use Rattle.bump_core.proofs.worlds.Sizes.{run_sizes}
 use Rattle.bump_core.proofs.worlds.StaysLawful.{WorldKeeps, run_keeps}
 use Rattle.bump_core.proofs.commands.EndsAsEvents.{unlink_made, sweep_made, close_made}
@@ -70,3 +71,10 @@ pub command_runs : (old : State) (c : Command) (new : State) (r : Result Answer 
     → Commands old c new r → run_of old (made_by (events_of old c) r) ≡ Some new
 command_runs old c new (Ok answer) k made = command_events old c new (Ok answer) k made
 command_runs old c new (Err r) k refused = ap (λ (s : State). Some s) (sym (refused_same old c new r refused))
+
+-- where no event of a command asks for memory, the command is never refused for want of it
+pub wants_where_asked : (old : State) (c : Command) (new : State) (r : Result Answer Refused) → Commands old c new r
+    → command_asks_for_memory old c ≡ false → IfErr r (λ e. e ≡ NotEnabled)
+wants_where_asked old c new (Ok answer) made none = tt
+wants_where_asked old c new (Err NotEnabled) refused none = refl
+wants_where_asked old c new (Err OutOfMemory) refused none = absurd (both_ways _ none refused.2)

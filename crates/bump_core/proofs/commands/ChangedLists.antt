@@ -5,9 +5,9 @@ use Rattle.std.proofs.lemmas.List.{append-nil, get_or-set_same, set-get_or, set-
 use Rattle.bump_rules.specs.declared.history.Change.{Change}
 use Rattle.bump_rules.specs.History.{subject, target, replay}
 use Rattle.bump_rules.specs.Lists.{to_front}
-use Rattle.bump_state.specs.State.{State, ClassState, class_at, no_class, with_class, with_change, with_changes, class_with_change, class_with_changes, class_of, some_and, is_under_application}
+use Rattle.model_state.specs.State.{State, ClassState, class_at, no_class, with_class, with_change, with_changes, class_with_change, class_with_changes, class_of, some_and, is_under_application}
 use Rattle.bump_rules.specs.Lanes.{applied_life}
-use Rattle.bump_state.proofs.Tiles.{class_kept}
+use Rattle.model_state.proofs.Tiles.{class_kept}
 
 module _ (s : State) (k : ℕ) (e : Change) where
   -- an entry leaves each chunk in its class

@@ -3,8 +3,15 @@
 use Rattle.std.proofs.Common.{◌≡◌, ℕ, ◌<◌, true, List, length, slice_set, sym, ap, ap₂, ◌∙◌, arith}
 use Rattle.std.proofs.lemmas.Bool.{lt-ltb}
 use Rattle.std.proofs.lemmas.List.{get_or-set_same, length-set, set-get_or, set-set}
-use Rattle.bump_state.specs.declared.chunks.Chunk.{Chunk}
-use Rattle.bump_state.specs.State.{State, ClassState, WorkerState, chunk_at, worker_at, no_chunk, new_worker, with_chunk, with_worker, is_worker}
+use Rattle.model_state.specs.declared.chunks.Chunk.{Chunk}
+use Rattle.model_state.specs.State.{State, ClassState, WorkerState, chunk_at, worker_at, no_chunk, new_worker, with_chunk, with_worker, is_worker}
+
+-- a chunk that was written, and is written again by what it became
+pub chunk_again : (s : State) (c : ℕ) (x : Chunk) (f : Chunk → Chunk) → c < length s.chunks
+    → with_chunk (with_chunk s c x) c (f (chunk_at (with_chunk s c x) c)) ≡ with_chunk s c (f x)
+chunk_again s c x f within = ap (λ xs. record s { chunks = xs })
+    (set-set s.chunks c x (f (chunk_at (with_chunk s c x) c))
+    ∙ ap (λ z. slice_set s.chunks c (f z)) (get_or-set_same s.chunks c x no_chunk within))
 
 -- a state in which a chunk, all classes and a worker are others
 abbrev pub at : State → ℕ → ℕ → List ClassState → Chunk → WorkerState → State

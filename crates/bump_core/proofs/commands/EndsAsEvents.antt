@@ -1,5 +1,5 @@
 -- Ends, sweeps and closings are their events.
-use Rattle.std.proofs.Common.{◌≡◌, ℕ, ◌<◌, ◌≤◌, ◌≢◌, eqb, Bool, true, false, not, ◌&&◌, ◌||◌, List, [], ◌∷◌, length, Some, if◌then◌else◌, refl, sym, ap, ◌∙◌, subst, arith, ne_eqb}
+use Rattle.std.proofs.Common.{rules, ◌≡◌, ℕ, ◌<◌, ◌≤◌, ◌≢◌, eqb, Bool, true, false, not, ◌&&◌, ◌||◌, List, [], ◌∷◌, length, Some, if◌then◌else◌, refl, sym, ap, ◌∙◌, subst, arith, ne_eqb}
 use Rattle.std.proofs.lemmas.Bool.{and_parts, and_from, ltb-true, lt-ltb, not-true, cond-false}
 use Rattle.std.proofs.lemmas.List.{get_or-set_same, length-set}
 use Rattle.std.specs.List.{list_any}
@@ -22,17 +22,17 @@ use Rattle.bump_rules.specs.Lists.{list_at, to_front}
 use Rattle.bump_rules.proofs.Laws.{bit_at_most}
 use Rattle.bump_rules.proofs.PlainLists.{times_same, times_rest}
 use Rattle.bump_rules.specs.Tables.{is_unheld, ended_of}
-use Rattle.bump_state.specs.State.{State, chunk_at, head_at, class_at, no_chunk, no_class, is_class, with_head, with_change, with_changes, class_with_change, class_of, is_linked, is_under_application}
-use Rattle.bump_state.specs.Worlds.{IsLawful, owns, place, place_in}
-use Rattle.bump_state.specs.Events.{is_enabled, after, unlink, close}
+use Rattle.model_state.specs.State.{State, chunk_at, head_at, class_at, no_chunk, no_class, is_class, with_head, with_change, with_changes, class_with_change, class_of, is_linked, is_under_application}
+use Rattle.model_state.specs.Worlds.{IsLawful, owns, place, place_in}
+use Rattle.model_state.specs.Events.{is_enabled, after, unlink, close}
 use Rattle.bump_core.specs.Runs.{run_of}
 use Rattle.bump_core.specs.Commands.{is_allowed, events_of, command_after, unlinked_as, with_chunk_freed, unlink_item, look_of, unlink_events, looks_at}
 use Rattle.bump_rules.specs.Sweeps.{unheld, swept_changes, swept_of}
 use Rattle.bump_rules.proofs.SixLists.{times_front}
-use Rattle.bump_state.proofs.Tiles.{class_within}
+use Rattle.model_state.proofs.Tiles.{class_within}
 use Rattle.bump_core.proofs.events.Moves.{stands_pushed}
 use Rattle.bump_core.proofs.events.Runs.{run_step}
-use Rattle.bump_state.proofs.Fronts.{once_at, listed, times_in}
+use Rattle.model_state.proofs.Fronts.{once_at, listed, times_in}
 use Rattle.bump_core.proofs.worlds.StaysLawful.{lawful_after}
 use Rattle.bump_core.proofs.commands.ChangedLists.{class_of_kept, application_kept, no_changes, changes_more}
 use Rattle.bump_core.proofs.commands.FreedChunks.{linked_from}
@@ -40,11 +40,7 @@ use Rattle.bump_rules.proofs.Unlinks.{freed_subject}
 
 -- an end that comes to Freed found nobody who holds the chunk, and else somebody does
 pub ended_freed : (h : Head) → ended_of h ≡ Freed → is_unheld h ≡ true
-ended_freed h is = by (is_unheld h) is
-  where
-    by : (b : Bool) → (if b then Freed else Deferred) ≡ Freed → b ≡ true
-    by true same = refl
-    by false same = absurd (let u : ⊥ = cc in u)
+ended_freed h is = search rules
 
 -- A chunk of DYING, while no lane applies a bump of its class.
 module _ (s : State) (o : IsLawful s) (c : ℕ) (in_range : c < length s.chunks) (dying : place s c
@@ -113,13 +109,7 @@ module _ (s : State) (o : IsLawful s) (l : ItemId) (linked : is_linked s l ≡ t
 -- an unlink of a linked life is its end
 pub unlink_made : (s : State) → IsLawful s → (l : ItemId) → is_allowed s (command.Unlink l) ≡ true
     → run_of s (events_of s (command.Unlink l)) ≡ Some (command_after s (command.Unlink l))
-unlink_made s o l allowed = by (is_linked s l) refl
-  where
-    by : (b : Bool) → is_linked s l ≡ b → run_of s (if b then unlink_events s l else [])
-        ≡ Some (if b then unlink_item s l else s)
-    by false is = refl
-    by true is = end_made s o l is (not-true _ (ap (λ b. not b || not (is_under_application s (class_of s l.chunk)))
-        (sym is) ∙ allowed))
+unlink_made s o l allowed = search (rules, end_made s o l)
 
 -- how often a chunk that isn't free stands in DYING when another one is free: as before
 dying_else : (s : State) (k c d g : ℕ) → k < length s.classes → d ≢ c

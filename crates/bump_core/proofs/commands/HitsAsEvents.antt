@@ -1,33 +1,32 @@
 -- A hit is its events.
-use Rattle.std.proofs.Common.{◌≡◌, ℕ, ◌+◌, ◌-◌, ◌<◌, ◌≤◌, ltb, eqb, Bool, true, false, not, ◌&&◌, ◌||◌, List, [], ◌∷◌, ◌++◌, length, slice_set, Some, None, if◌then◌else◌, refl, sym, ap, ◌∙◌, arith, ◌⊎◌, inl, inr, eq-eqb}
-use Rattle.std.proofs.lemmas.Bool.{and_parts, and_from, ltb-true, lt-ltb, le-ltb, cases_lt, both_ways, cond-true, cond-false, and_right}
+use Rattle.std.proofs.Common.{rules, ◌≡◌, ℕ, ◌+◌, ◌-◌, ◌<◌, ◌≤◌, ltb, eqb, Bool, true, false, not, ◌&&◌, List, [], ◌∷◌, ◌++◌, length, Some, None, refl, sym, ap, ◌∙◌, arith}
+use Rattle.std.proofs.lemmas.Bool.{and_parts, and_from, ltb-true, lt-ltb, cond-true, cond-false, and_right}
 use Rattle.std.specs.Option.{option_map_or}
 use Rattle.std.specs.Prelude.{is_some, Option}
-use Rattle.std.proofs.lemmas.List.{get_or-set_same, length-set, set-get_or, set-set}
+use Rattle.std.proofs.lemmas.List.{get_or-set_same, length-set, set-get_or}
 use Rattle.bump_rules.specs.declared.items.ItemId.{ItemId}
 use Rattle.bump_rules.specs.declared.items.Head.{Head}
 use Rattle.bump_rules.specs.declared.bumps.Accounts.{Accounts}
-use Rattle.bump_state.specs.declared.chunks.Chunk.{Chunk}
+use Rattle.model_state.specs.declared.chunks.Chunk.{Chunk}
 use Rattle.bump_rules.specs.declared.hands.Hand.{Hand}
 use Rattle.bump_rules.specs.declared.hands.Hand.TheVariants as hand
 use Rattle.bump_rules.specs.declared.events.Event.{Event}
 use Rattle.bump_rules.specs.declared.events.Event.TheVariants as event
 use Rattle.bump_rules.specs.declared.commands.Command.TheVariants as command
-use Rattle.bump_rules.specs.declared.commands.Room.TheVariants.{Known, Unknown}
 use Rattle.bump_rules.specs.declared.commands.Dropped.TheVariants.{Full, RefsFull}
 use Rattle.bump_rules.specs.declared.commands.Hit.TheVariants.{First as IsFirst, Already as IsAlready, Marked as IsMarked, Attempts}
-use Rattle.bump_rules.specs.Tables.{is_cold, dropped_for_room}
-use Rattle.bump_state.specs.State.{State, ClassState, WorkerState, chunk_at, head_at, worker_at, no_chunk, is_chunk, is_worker, with_chunk, with_head, with_worker, is_current, is_held, has_free_hold, is_open, workers_on, some_and}
-use Rattle.bump_rules.specs.Hands.{tried_life, life_in_hand, cleared_life, is_idle}
-use Rattle.bump_state.specs.Worlds.{IsLawful}
+use Rattle.bump_rules.specs.Tables.{is_cold}
+use Rattle.model_state.specs.State.{State, ClassState, WorkerState, chunk_at, head_at, worker_at, no_chunk, is_chunk, with_chunk, with_head, with_worker, is_current, is_held, some_and}
+use Rattle.bump_rules.specs.Hands.{tried_life, life_in_hand, cleared_life}
+use Rattle.model_state.specs.Worlds.{IsLawful}
 use Rattle.bump_rules.specs.Rings.{most_attempts}
 use Rattle.bump_rules.specs.Heads.{one_more, one_fewer, marked_head, cleared_head}
-use Rattle.bump_state.specs.Events.{is_enabled, after, may_hit, is_under_limit, waiting, reserve, drop_refs, push, drop_full, unmark, mark}
+use Rattle.model_state.specs.Events.{is_enabled, after, may_hit, is_under_limit, waiting, reserve, drop_refs, push, drop_full, unmark}
 use Rattle.bump_core.specs.Runs.{run_of}
-use Rattle.bump_core.specs.Commands.{is_allowed, events_of, command_after, hit_at, dropped_at, attempt, hit, is_exhausted, hit_events, attempt_events}
-use Rattle.bump_state.proofs.Enabled.{idle_from}
+use Rattle.bump_core.specs.Commands.{is_allowed, events_of, command_after, hit_at, dropped_at, attempt, hit, hit_events, attempt_events}
+use Rattle.model_state.proofs.Enabled.{idle_from}
 use Rattle.bump_core.proofs.events.Runs.{run_step}
-use Rattle.bump_core.proofs.commands.ChangedState.{at, chunk_reads, worker_reads, is_worker_there, on_worker, on_both}
+use Rattle.bump_core.proofs.commands.ChangedState.{chunk_again, at, chunk_reads, worker_reads, is_worker_there, on_worker, on_both}
 
 -- The steps of an attempt, on the life's chunk and the worker.
 module _ (s : State) (l : ItemId) (w : ℕ) (c_in : l.chunk < length s.chunks) (w_in : w < length s.workers)
@@ -138,11 +137,7 @@ back_again n = omega arith
 
 -- where the bumps that wait leave no room, those that were sent are at least the capacity
 full_where : (x : WorkerState) (capacity : ℕ) → ltb (waiting x) capacity ≡ false → ltb (length x.sent) capacity ≡ false
-full_where x capacity none = by (cases_lt (length x.sent) capacity)
-  where
-    by : (length x.sent < capacity) ⊎ (capacity ≤ length x.sent) → ltb (length x.sent) capacity ≡ false
-    by (inl below) = absurd (both_ways _ none (lt-ltb _ _ (omega arith)))
-    by (inr above) = le-ltb _ _ above
+full_where x capacity none = search (rules, arith)
 
 -- FETCHED is set where it is set
 fetched_again : (s : State) (w : ℕ) (l : ItemId) → (head_at s l.chunk).fetched ≡ true → after s (event.Fetch w l) ≡ s
@@ -186,18 +181,17 @@ module _ (s : State) (w : ℕ) (l : ItemId) (now : ℕ) (w_in : w < length s.wor
       let z : Chunk = record x { head = marked_head h } in
       let t = with_chunk s l.chunk z in
       let read : chunk_at t l.chunk ≡ z = get_or-set_same s.chunks l.chunk z no_chunk c_in in
-      let parts = and_parts (is_chunk s l.chunk) (eqb h.generation l.generation) current in
+      let inside = and_parts (is_chunk s l.chunk) (eqb h.generation l.generation) current in
       let held : is_held t l ≡ true = and_from _ _ (and_from _ _ (lt-ltb l.chunk _ (omega (
         arith,
         length-set s.chunks l.chunk z,
-      ))) (ap (λ (a : Chunk). eqb a.head.generation l.generation) read ∙ parts.1))
+      ))) (ap (λ (a : Chunk). eqb a.head.generation l.generation) read ∙ inside.1))
       (ap (λ (a : Chunk). ltb 0 a.holds) read ∙ lt-ltb 0 x.holds some) in
       run_step s s (event.Fetch w l) (event.Mark w l ∷ event.StoreTime l now ∷ []) may (fetched_again s w l set)
       ∙ (run_step s t (event.Mark w l) (event.StoreTime l now ∷ []) (mark_enabled set)
       (cond-false (not h.active && is_cold h.segment) _ _ (and_right (not h.active) (is_cold h.segment) warm))
       ∙ run_step t (hit s w l now IsMarked) (event.StoreTime l now) [] held
-      (ap (λ cs. record s { chunks = cs }) (set-set s.chunks l.chunk z (record (chunk_at t l.chunk) { time = now })
-      ∙ ap (λ (a : Chunk). slice_set s.chunks l.chunk (record a { time = now })) read)))
+      (chunk_again s l.chunk z (λ (a : Chunk). record a { time = now }) c_in))
 
   -- the accounts once the attempt began
   abbrev began : Accounts
@@ -296,75 +290,17 @@ module _ (s : State) (w : ℕ) (l : ItemId) (now : ℕ) (w_in : w < length s.wor
       })) (event.Mark w l) (attempt_events w (dropped_at s w l))
       (mark_enabled set)
       (cond-true (not h.active && is_cold h.segment) _ _ (and_from _ _ (ap not clear) cold))
-      ∙ by (is_under_limit s l.chunk) (ltb (waiting y) s.capacity) refl refl)
-    where
-      by : (a b : Bool) → is_under_limit s l.chunk ≡ a → ltb (waiting y) s.capacity ≡ b
-          → run_of (at s l.chunk w s.classes (record x { head = marked_head h }) (record y {
-            hand = hand.Trying l;
-            accounts = began;
-          })) (attempt_events w (dropped_for_room
-          (if b then Known else Unknown) (if a then None else Some RefsFull)))
-          ≡ Some (attempt s w l (dropped_for_room (if b then Known else Unknown)
-          (if a then None else Some RefsFull)))
-      by false b over room = refs_full_made clear over
-      by true true under room = queued_made under room
-      by true false under none = full_made clear under none
+      ∙ search (rules, refs_full_made, queued_made, full_made))
 
   -- a hit is what the hit table says
   hit_made : run_of s (hit_events s w l now (hit_at s l)) ≡ Some (hit s w l now (hit_at s l))
-  hit_made = by h.fetched h.active (is_cold h.segment) refl refl refl
-    where
-      by : (f a d : Bool) → h.fetched ≡ f → h.active ≡ a → is_cold h.segment ≡ d
-          → run_of s (hit_events s w l now (if not f then IsFirst else (if a then IsAlready else
-          (if a then IsAlready else (if d then Attempts else IsMarked)))))
-          ≡ Some (hit s w l now (if not f then IsFirst else (if a then IsAlready else (if a then IsAlready else
-          (if d then Attempts else IsMarked)))))
-      by false a d clear mark cold = first_made clear
-      by true true d set mark cold = already_made set
-      by true false false set clear warm = marked_made set warm
-      by true false true set clear cold = attempt_made set clear cold
+  hit_made = search (rules, first_made, already_made, marked_made, attempt_made)
 
 -- a worker that is not exhausted may still attempt a bump
 few_where : (a : ℕ) → a ≤ most_attempts → eqb a most_attempts ≡ false → ltb a most_attempts ≡ true
-few_where a most other = by (cases_lt a most_attempts)
-  where
-    by : (a < most_attempts) ⊎ (most_attempts ≤ a) → ltb a most_attempts ≡ true
-    by (inl below) = lt-ltb a most_attempts below
-    by (inr above) = absurd (both_ways _ other (eq-eqb a most_attempts (omega arith)))
+few_where a most other = search (rules, arith)
 
 -- a hit is its events
 pub touch_made : (s : State) → IsLawful s → (w : ℕ) (l : ItemId) (now : ℕ) → is_allowed s (command.Touch w l now)
     ≡ true → run_of s (events_of s (command.Touch w l now)) ≡ Some (command_after s (command.Touch w l now))
-touch_made s o w l now allowed = by (is_exhausted s w) refl
-  where
-    both : (is_open s w ≡ true) × ((has_free_hold s l && (is_exhausted s w || is_idle (worker_at s w).hand)) ≡ true)
-    both = and_parts _ _ allowed
-
-    more : (has_free_hold s l ≡ true) × ((is_exhausted s w || is_idle (worker_at s w).hand) ≡ true)
-    more = and_parts _ _ both.1
-
-    opened : (is_worker s w ≡ true) × ((worker_at s w).is_open ≡ true)
-    opened = and_parts _ _ both.0
-
-    free : (is_current s l ≡ true) × (ltb (workers_on s l) (chunk_at s l.chunk).holds ≡ true)
-    free = and_parts _ _ more.0
-
-    w_in : w < length s.workers
-    w_in = ltb-true w (length s.workers) opened.0
-
-    c_in : l.chunk < length s.chunks
-    c_in = ltb-true l.chunk (length s.chunks) (and_parts (is_chunk s l.chunk)
-        (eqb (head_at s l.chunk).generation l.generation) free.0).0
-
-    by : (b : Bool) → is_exhausted s w ≡ b → run_of s (if b then [] else hit_events s w l now (hit_at s l))
-        ≡ Some (if b then s else hit s w l now (hit_at s l))
-    by true done = refl
-    by false still =
-        let idle : is_idle (worker_at s w).hand ≡ true = ap (λ (b : Bool). b || is_idle (worker_at s w).hand)
-        (sym still) ∙ more.1 in
-        hit_made s w l now w_in c_in free.0 (omega (
-          arith,
-          ltb-true (workers_on s l) (chunk_at s l.chunk).holds free.1,
-        )) opened.1 (idle_from (worker_at s w).hand idle)
-        (and_from _ _ both.0 (and_from _ _ idle more.0)) (few_where (worker_at s w).accounts.attempted
-        (o.workers w w_in).accounts.most still)
+touch_made s o w l now allowed = search (rules, arith, hit_made s w l now, idle_from, ltb-true, few_where, o.workers w)

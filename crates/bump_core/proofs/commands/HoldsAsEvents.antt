@@ -1,14 +1,14 @@
 -- The commands of holds are their events: a get, the label of what is held, and a release.
-use Rattle.std.proofs.Common.{◌≡◌, ℕ, ltb, eqb, Bool, true, false, not, ◌&&◌, [], ◌∷◌, Some, if◌then◌else◌, refl, ◌∙◌}
+use Rattle.std.proofs.Common.{rules, ◌≡◌, ℕ, ltb, eqb, Bool, true, not, ◌&&◌, [], Some, if◌then◌else◌, refl}
 use Rattle.std.proofs.lemmas.Bool.{and_parts, and_from}
 use Rattle.bump_rules.specs.declared.items.ItemId.{ItemId}
 use Rattle.bump_rules.specs.declared.events.Event.TheVariants as event
 use Rattle.bump_rules.specs.declared.commands.Command.TheVariants as command
-use Rattle.bump_state.specs.State.{State, chunk_at, head_at, is_chunk, is_linked}
-use Rattle.bump_state.specs.Events.{is_under_limit, with_hold}
+use Rattle.model_state.specs.State.{State, chunk_at, head_at, is_chunk, is_linked}
+use Rattle.model_state.specs.Events.{is_under_limit}
 use Rattle.bump_core.specs.Runs.{run_of}
-use Rattle.bump_core.specs.Commands.{is_allowed, events_of, command_after, get_at, get_events, held_by_get}
-use Rattle.bump_rules.specs.Tables.{Get, IsStale, IsRefsFull, IsHeld}
+use Rattle.bump_core.specs.Commands.{is_allowed, events_of, command_after, get_at}
+use Rattle.bump_rules.specs.Tables.{IsStale, IsRefsFull, IsHeld}
 use Rattle.bump_core.proofs.events.Runs.{run_step}
 
 -- the label of a held item is one load
@@ -26,26 +26,15 @@ release_made s l allowed = run_step s _ (event.Release l) [] allowed refl
 -- a get that comes to a hold found a linked word of the generation, and a count under the limit
 held_from : (on same few : Bool) → (if not (on && same) then IsStale else (if few then IsHeld else IsRefsFull))
     ≡ IsHeld → (on ≡ true) × (same ≡ true) × (few ≡ true)
-held_from true true true is = (refl, refl, refl)
-held_from true true false is = absurd (let u : ⊥ = cc in u)
-held_from true false few is = absurd (let u : ⊥ = cc in u)
-held_from false same few is = absurd (let u : ⊥ = cc in u)
+held_from on same few is = search rules
 
 -- a hold is taken by a load and, if the item is linked and its count under the limit, an exchange
 pub take_made : (s : State) (w : ℕ) (l : ItemId) → is_allowed s (command.Take w l) ≡ true
     → run_of s (events_of s (command.Take w l)) ≡ Some (command_after s (command.Take w l))
-take_made s w l allowed = by (is_chunk s l.chunk) (get_at s l) refl refl
+take_made s w l allowed = search (rules, may)
   where
     may : is_chunk s l.chunk ≡ true → get_at s l ≡ IsHeld → (is_linked s l && is_under_limit s l.chunk) ≡ true
     may in_range is =
         let found = held_from (head_at s l.chunk).linked (eqb (head_at s l.chunk).generation l.generation)
         (ltb (head_at s l.chunk).refs s.refs_limit) is in
         and_from _ _ (and_from _ _ (and_from _ _ in_range found.1) found.0) found.2
-
-    by : (a : Bool) (g : Get) → is_chunk s l.chunk ≡ a → get_at s l ≡ g
-        → run_of s (if a then event.Load l.chunk ∷ get_events w l g else []) ≡ Some (if a then held_by_get s l g else s)
-    by false g out is = refl
-    by true IsStale in_range is = run_step s s (event.Load l.chunk) [] in_range refl
-    by true IsRefsFull in_range is = run_step s s (event.Load l.chunk) [] in_range refl
-    by true IsHeld in_range is = run_step s s (event.Load l.chunk) (event.Take w l ∷ []) in_range refl
-        ∙ run_step s (with_hold s l.chunk) (event.Take w l) [] (and_from _ _ allowed (may in_range is)) refl

@@ -1,7 +1,7 @@
 -- Applying a bump is its events.
 use Rattle.std.specs.Prelude.{is_some}
-use Rattle.std.proofs.Common.{◌≡◌, ℕ, ◌<◌, Bool, true, false, not, ◌&&◌, List, [], ◌∷◌, ◌++◌, length, slice_set, Option, Some, None, if◌then◌else◌, refl, sym, ap, ◌∙◌, subst, arith}
-use Rattle.std.proofs.lemmas.Bool.{and_parts, and_from, ltb-true, lt-ltb, both_ways, not-true}
+use Rattle.std.proofs.Common.{rules, ◌≡◌, ℕ, ◌<◌, Bool, true, false, not, ◌&&◌, List, [], ◌∷◌, ◌++◌, length, slice_set, Option, Some, None, if◌then◌else◌, refl, sym, ap, ◌∙◌, subst, arith}
+use Rattle.std.proofs.lemmas.Bool.{and_from, ltb-true, lt-ltb}
 use Rattle.std.proofs.lemmas.Option.{slice_get_within}
 use Rattle.std.specs.Option.{option_map_or}
 use Rattle.std.specs.Prelude.{option_map}
@@ -9,7 +9,7 @@ use Rattle.std.proofs.lemmas.List.{length-set, set-get_or}
 use Rattle.bump_rules.specs.declared.places.Segment.TheVariants as segment
 use Rattle.bump_rules.specs.declared.items.ItemId.{ItemId}
 use Rattle.bump_rules.specs.declared.items.Head.{Head}
-use Rattle.bump_state.specs.declared.chunks.Chunk.{Chunk}
+use Rattle.model_state.specs.declared.chunks.Chunk.{Chunk}
 use Rattle.bump_rules.specs.declared.history.Cause.TheVariants.{Bump as BumpOf}
 use Rattle.bump_rules.specs.declared.history.Change.{Change}
 use Rattle.bump_rules.specs.declared.history.Change.TheVariants as change
@@ -22,18 +22,17 @@ use Rattle.bump_rules.specs.declared.bumps.Outcome.TheVariants as outcome
 use Rattle.bump_rules.specs.declared.events.Event.{Event}
 use Rattle.bump_rules.specs.declared.events.Event.TheVariants as event
 use Rattle.bump_rules.specs.declared.commands.Command.TheVariants as command
-use Rattle.bump_rules.specs.Lives.{count_of}
 use Rattle.bump_rules.specs.Tables.{is_cold, ended_of}
-use Rattle.bump_state.specs.State.{State, ClassState, WorkerState, chunk_at, head_at, class_at, worker_at, no_chunk, class_with_change, is_worker, with_worker, with_change, class_from, class_of, some_and, applies_in, is_under_application}
-use Rattle.bump_state.specs.Worlds.{references, in_lane_of, place, IsLawful}
+use Rattle.model_state.specs.State.{State, ClassState, WorkerState, chunk_at, head_at, class_at, worker_at, no_chunk, class_with_change, with_worker, with_change, class_from, class_of, some_and, applies_in, is_under_application}
+use Rattle.model_state.specs.Worlds.{references, place, IsLawful}
 use Rattle.bump_rules.specs.Heads.{one_fewer, cleared_head, moved_head}
-use Rattle.bump_state.specs.Events.{is_enabled, after, next_bump, ending, with_time, take_bump, with_lane, clear_for, move_for, alight}
-use Rattle.bump_rules.specs.Lanes.{carried, tried, applied_now, cleared_active, is_empty, outcome_tried, ending_at, bump_of, applied_bump, is_half_made}
+use Rattle.model_state.specs.Events.{is_enabled, after, next_bump, ending, with_time, take_bump, with_lane, clear_for, move_for, alight}
+use Rattle.bump_rules.specs.Lanes.{carried, tried, applied_now, cleared_active, is_empty, outcome_tried, ending_at, bump_of, applied_bump}
 use Rattle.bump_core.specs.Runs.{run_of}
 use Rattle.bump_core.specs.Commands.{is_allowed, events_of, command_after, bump_next, outcome_next, gone_as, bumped_chunk, bumped_worker, bumped_lists, with_chunk_freed, look_of, apply_bump, take_events, apply_events}
 use Rattle.bump_rules.proofs.Laws.{dying_where_unlinked}
-use Rattle.bump_state.proofs.Ring.{next_in_ring}
-use Rattle.bump_state.proofs.LawfulStates.{one_if_same, referred_in_range, referred_used, referred_current, in_ring_referred, aboard_referred}
+use Rattle.model_state.proofs.LawfulStates.{referred_in_range, referred_used, referred_current}
+use Rattle.bump_core.proofs.commands.NextBumps.{next_referred}
 use Rattle.bump_core.proofs.worlds.StaysLawful.{lawful_after, run_lawful}
 use Rattle.bump_core.proofs.events.Runs.{run_step}
 use Rattle.bump_rules.proofs.Updates.{none_written}
@@ -239,20 +238,7 @@ module _ (s : State) (b : Bump) (w now : ℕ) (c_in : b.life.chunk < length s.ch
       → run_of taken (apply_events h w now c)
       ≡ Some (bumped_lists (at s c w s.classes (bumped_chunk x now (outcome_next s b)) (z (outcome_next s b))) w b
       (outcome_next s b) (gone_as s c))
-  applied_made o lawful some = by h.linked (is_cold h.segment) h.active refl refl refl
-    where
-      by : (i d a : Bool) → h.linked ≡ i → is_cold h.segment ≡ d → h.active ≡ a
-          → run_of taken
-          (if not i then event.Try w ∷ event.Alight w ∷ look_of c (ended_of (one_fewer h)) ∷ []
-          else (if not d then event.Try w ∷ event.BumpTime w now ∷ event.Alight w ∷ []
-          else (if a then event.Try w ∷ event.BumpTime w now ∷ event.ClearFor w ∷ event.MoveFor w ∷ event.Alight w ∷ []
-          else event.Try w ∷ event.BumpTime w now ∷ event.ClearFor w ∷ event.Alight w ∷ [])))
-          ≡ Some (bumped_lists (at s c w s.classes (bumped_chunk x now (out i d a)) (z (out i d a))) w b (out i d a)
-          (gone_as s c))
-      by false d a is cold mark = gone o lawful some is
-      by true false a is warm mark = timed is warm
-      by true true true is cold set = moved is cold set
-      by true true false is cold clear = unmarked is cold clear
+  applied_made o lawful some = search (rules, gone o lawful some, timed, moved, unmarked)
 
 -- what is to be shown, by the next bump
 abbrev Made : State → ℕ → ℕ → Option Bump → Type 0
@@ -268,32 +254,22 @@ pub next_made : (s : State) → IsLawful s → (w now : ℕ) → is_allowed s (c
     → run_of s (events_of s (command.Next w now)) ≡ Some (command_after s (command.Next w now))
 next_made s o w now allowed = by (worker_at s w).lane refl
   where
-    both : (is_worker s w ≡ true) × ((not (is_half_made (worker_at s w).lane) && option_map_or
-        (λ b. not (is_under_application s (class_of s b.life.chunk))) (bump_next (worker_at s w)) true) ≡ true)
-    both = and_parts _ _ allowed
-
-    more : (not (is_half_made (worker_at s w).lane) ≡ true)
-        × (option_map_or (λ b. not (is_under_application s (class_of s b.life.chunk)))
-        (bump_next (worker_at s w)) true ≡ true)
-    more = and_parts _ _ both.1
-
     w_in : w < length s.workers
-    w_in = ltb-true w (length s.workers) both.0
+    w_in = search (rules, ltb-true)
 
     -- no lane applies a bump of the class of the next one
     rests : (b : Bump) → bump_next (worker_at s w) ≡ Some b → is_under_application s (class_of s b.life.chunk) ≡ false
-    rests b is = not-true _ (ap (λ m. option_map_or (λ (a : Bump). not (is_under_application s
-        (class_of s a.life.chunk))) m true) (sym is) ∙ more.1)
+    rests b is = search rules
 
     -- the bump that the lane carries is applied
     ends : (b : Bump) (r : List ItemId) → bump_next (worker_at s w) ≡ Some b
-        → 0 < references s b.life.chunk b.life.generation
         → IsLawful (at s b.life.chunk w s.classes (chunk_at s b.life.chunk) (laned s w r (lane.Carrying b)))
         → r ≡ (bumped_worker (worker_at s w) b (outcome_next s b)).received
         → run_of (at s b.life.chunk w s.classes (chunk_at s b.life.chunk) (laned s w r (lane.Carrying b)))
         (apply_events (head_at s b.life.chunk) w now b.life.chunk) ≡ Some (apply_bump s w now b)
-    ends b r is some lawful same = applied_made s b w now
-        (referred_in_range s o b.life.chunk b.life.generation some) w_in (rests b is) r o lawful some
+    ends b r is lawful same = applied_made s b w now
+        (referred_in_range s o b.life.chunk b.life.generation (next_referred s o w w_in b is)) w_in (rests b is) r o
+        lawful (next_referred s o w w_in b is)
         ∙ ap (λ (q : List ItemId). Some (bumped_lists (at s b.life.chunk w s.classes
         (bumped_chunk (chunk_at s b.life.chunk) now (outcome_next s b))
         (record (worker_at s w) {
@@ -307,12 +283,11 @@ next_made s o w now allowed = by (worker_at s w).lane refl
     aboard_made : (b : Bump) → (worker_at s w).lane ≡ lane.Carrying b → Made s w now (Some b)
     aboard_made b is =
         let bump : bump_next (worker_at s w) ≡ Some b = ap (λ l. bump_next (record (worker_at s w) { lane = l })) is in
-        let some = aboard_referred s o w b.life w_in (omega (arith, ap (in_lane_of b.life) is, one_if_same b.life)) in
         let start = at_start s b.life.chunk w ∙ ap (λ l. at s b.life.chunk w s.classes (chunk_at s b.life.chunk)
         (laned s w (worker_at s w).received l)) is in
         ap (λ l. run_of s (take_events w l ++ apply_events (head_at s b.life.chunk) w now b.life.chunk)) is
         ∙ (ap (λ u. run_of u (apply_events (head_at s b.life.chunk) w now b.life.chunk)) start
-        ∙ ends b (worker_at s w).received bump some (subst IsLawful start o)
+        ∙ ends b (worker_at s w).received bump (subst IsLawful start o)
         (ap (λ l. (bumped_worker (record (worker_at s w) { lane = l }) b (outcome_next s b)).received) (sym is)))
 
     -- a bump that waits in the ring
@@ -321,11 +296,6 @@ next_made s o w now allowed = by (worker_at s w).lane refl
         → Made s w now (Some (bump_of (length (worker_at s w).received) l))
     waiting_made l is next bump =
         let b = bump_of (length (worker_at s w).received) l in
-        let some = in_ring_referred s o w l w_in (omega (
-          arith,
-          ap (count_of l) (next_in_ring (worker_at s w) l next),
-          one_if_same l,
-        )) in
         let r = (worker_at s w).received ++ l ∷ [] in
         let enabled : is_enabled s (event.TakeBump w) ≡ true = and_from _ _ (ap is_empty is)
         (lt-ltb _ _ (slice_get_within (worker_at s w).sent (length (worker_at s w).received) l next)) in
@@ -336,7 +306,7 @@ next_made s o w now allowed = by (worker_at s w).lane refl
         ap (λ m. run_of s (take_events w m ++ apply_events (head_at s l.chunk) w now l.chunk)) is
         ∙ (run_step s (at s l.chunk w s.classes (chunk_at s l.chunk) (laned s w r (lane.Carrying b)))
         (event.TakeBump w) (apply_events (head_at s l.chunk) w now l.chunk) enabled takes
-        ∙ ends b r bump some (subst IsLawful takes (lawful_after s o (event.TakeBump w) enabled))
+        ∙ ends b r bump (subst IsLawful takes (lawful_after s o (event.TakeBump w) enabled))
         (ap (λ m. (bumped_worker (record (worker_at s w) { lane = m }) b (outcome_next s b)).received) (sym is)))
 
     -- the lane is empty
@@ -356,6 +326,6 @@ next_made s o w now allowed = by (worker_at s w).lane refl
     by (lane.Carrying b) is = subst (Made s w now) (sym (ap (λ l. bump_next (record (worker_at s w) {
       lane = l;
     })) is)) (aboard_made b is)
-    by (lane.Tried b) is = absurd (both_ways _ (not-true _ more.0) (ap is_half_made is))
-    by (lane.Cleared b found) is = absurd (both_ways _ (not-true _ more.0) (ap is_half_made is))
-    by (lane.Moved b) is = absurd (both_ways _ (not-true _ more.0) (ap is_half_made is))
+    by (lane.Tried b) is = search rules
+    by (lane.Cleared b found) is = search rules
+    by (lane.Moved b) is = search rules

@@ -8,12 +8,12 @@ use Rattle.bump_rules.specs.declared.lanes.LaneStage.{LaneStage}
 use Rattle.bump_rules.specs.declared.lanes.LaneStage.TheVariants as lane
 use Rattle.bump_rules.specs.Lives.{one_if, count_of}
 use Rattle.bump_rules.specs.Lanes.{bump_of}
-use Rattle.bump_state.specs.State.{State, WorkerState, worker_at}
-use Rattle.bump_state.specs.Events.{next_bump}
+use Rattle.model_state.specs.State.{State, WorkerState, worker_at}
+use Rattle.model_state.specs.Events.{next_bump}
 use Rattle.bump_core.specs.Commands.{bump_next}
-use Rattle.bump_state.specs.Worlds.{IsLawful, in_lane_of, bumps_of, references}
-use Rattle.bump_state.proofs.LawfulStates.{one_if_same, bumps_counted, referred_in_range}
-use Rattle.bump_state.proofs.Ring.{next_in_ring}
+use Rattle.model_state.specs.Worlds.{IsLawful, in_lane_of, bumps_of, references}
+use Rattle.model_state.proofs.LawfulStates.{one_if_same, bumps_counted, referred_in_range}
+use Rattle.model_state.proofs.Ring.{next_in_ring}
 
 -- the next bump has a reference
 next_counted : (x : WorkerState) (b : Bump) → bump_next x ≡ Some b → 0 < bumps_of b.life x
@@ -42,7 +42,7 @@ next_counted x b next = by x.lane refl
 
 module _ (s : State) (o : IsLawful s) (w : ℕ) (within : w < length s.workers) where
   -- the next bump's life has a reference
-  next_referred : (b : Bump) → bump_next (worker_at s w) ≡ Some b → 0 < references s b.life.chunk b.life.generation
+  pub next_referred : (b : Bump) → bump_next (worker_at s w) ≡ Some b → 0 < references s b.life.chunk b.life.generation
   next_referred b next = omega (arith, bumps_counted s b.life w within, next_counted (worker_at s w) b next)
 
   -- its chunk is in range

@@ -1,14 +1,11 @@
 -- The command of a pull is its events.
-use Rattle.std.proofs.Common.{◌≡◌, ℕ, ◌<◌, Bool, true, false, not, [], ◌∷◌, length, slice_set, Option, Some, None, if◌then◌else◌, refl, sym, ap, ap₂, ◌∙◌, eq-eqb}
+use Rattle.std.proofs.Common.{rules, ◌≡◌, ℕ, ◌<◌, Bool, true, false, not, [], ◌∷◌, length, slice_set, Option, Some, None, refl, sym, ap, ap₂, ◌∙◌, eq-eqb}
 use Rattle.std.proofs.lemmas.Bool.{and_from, lt-ltb, not-true}
-use Rattle.std.specs.Option.{option_map_or}
 use Rattle.std.proofs.lemmas.List.{get_or-set_same, set-get_or, set-set}
 use Rattle.bump_rules.specs.declared.places.Limits.{Limits}
 use Rattle.bump_rules.specs.declared.places.Segment.{Segment}
-use Rattle.bump_rules.specs.declared.places.Segment.TheVariants as segment
 use Rattle.bump_rules.specs.declared.places.Tail.{Tail}
 use Rattle.bump_rules.specs.declared.places.Tail.TheVariants as tail
-use Rattle.bump_rules.specs.declared.commands.Pulled.TheVariants as pulled
 use Rattle.bump_rules.specs.declared.items.Head.{Head}
 use Rattle.bump_rules.specs.declared.items.ItemId.{ItemId}
 use Rattle.bump_rules.specs.Lists.{Lists}
@@ -20,13 +17,13 @@ use Rattle.bump_rules.specs.declared.events.Event.TheVariants as event
 use Rattle.bump_rules.specs.declared.commands.Command.TheVariants as command
 use Rattle.bump_rules.specs.Heads.{cleared_head, moved_head}
 use Rattle.bump_rules.specs.Lives.{life}
-use Rattle.bump_rules.specs.Tables.{is_over, cold_or_stay, pulled_of, pulled_to, segment_of, may_move}
-use Rattle.bump_state.specs.State.{State, chunk_at, class_at, head_at, no_chunk, with_head, with_change, class_of, is_under_application}
-use Rattle.bump_state.specs.Worlds.{IsLawful}
-use Rattle.bump_state.specs.Events.{is_enabled, after}
+use Rattle.bump_rules.specs.Tables.{pulled_of, pulled_to, segment_of, may_move}
+use Rattle.model_state.specs.State.{State, chunk_at, class_at, head_at, no_chunk, with_head, with_change, class_of, is_under_application}
+use Rattle.model_state.specs.Worlds.{IsLawful}
+use Rattle.model_state.specs.Events.{is_enabled, after}
 use Rattle.bump_core.specs.Runs.{run_of}
 use Rattle.bump_core.specs.Commands.{is_allowed, events_of, command_after, last_pulled_in, limits_in, pulled_at, pull_to, pull, move_events, pull_events, unlinked_as, unlink_item, unlink_events}
-use Rattle.bump_state.proofs.Fronts.{last_linked}
+use Rattle.model_state.proofs.Fronts.{last_linked}
 use Rattle.bump_core.proofs.events.Runs.{run_step}
 use Rattle.bump_core.proofs.commands.EndsAsEvents.{end_made}
 use Rattle.bump_core.proofs.commands.LinksAsEvents.{at_rest}
@@ -34,28 +31,9 @@ use Rattle.bump_core.proofs.commands.LinksAsEvents.{at_rest}
 -- a pull moves its item as it may be moved
 tail_moves : (t : Tail) (found : Head) (lists : Lists) (limits : Limits) (ended : Ended) (l : ItemId) (to : Segment)
     → pulled_to (pulled_of t found lists limits ended l) ≡ Some to → may_move (segment_of t) to ≡ true
-tail_moves tail.Hot found lists limits ended l to is = by found.active (is_over (length lists.hot) limits.hot) is
-  where
-    by : (active over : Bool)
-        → pulled_to (if active then pulled.Warm l else (if over then pulled.Cold l else pulled.Stay l)) ≡ Some to
-        → may_move segment.Hot to ≡ true
-    by true over is = let same : segment.Warm ≡ to = cc in ap (may_move segment.Hot) (sym same)
-    by false true is = let same : segment.Cold ≡ to = cc in ap (may_move segment.Hot) (sym same)
-    by false false is = absurd (let u : ⊥ = cc in u)
-tail_moves tail.Warm found lists limits ended l to is = by found.active (is_over (length lists.warm) limits.warm) is
-  where
-    by : (active over : Bool)
-        → pulled_to (if active then pulled.Again l else (if over then pulled.Cold l else pulled.Stay l)) ≡ Some to
-        → may_move segment.Warm to ≡ true
-    by true over is = let same : segment.Warm ≡ to = cc in ap (may_move segment.Warm) (sym same)
-    by false true is = let same : segment.Cold ≡ to = cc in ap (may_move segment.Warm) (sym same)
-    by false false is = absurd (let u : ⊥ = cc in u)
-tail_moves tail.Cold found lists limits ended l to is = by found.active is
-  where
-    by : (active : Bool)
-        → pulled_to (if active then pulled.Warm l else pulled.Stay l) ≡ Some to → may_move segment.Cold to ≡ true
-    by true is = let same : segment.Warm ≡ to = cc in ap (may_move segment.Cold) (sym same)
-    by false is = absurd (let u : ⊥ = cc in u)
+tail_moves tail.Hot found lists limits ended l to is = search rules
+tail_moves tail.Warm found lists limits ended l to is = search rules
+tail_moves tail.Cold found lists limits ended l to is = search rules
 tail_moves tail.Evict found lists limits Freed l to is = absurd (let u : ⊥ = cc in u)
 tail_moves tail.Evict found lists limits Deferred l to is = absurd (let u : ⊥ = cc in u)
 
@@ -67,26 +45,9 @@ MovesItem _ = Unit {0}
 -- an item that stays has ACTIVE clear
 tail_stays : (t : Tail) → MovesItem t → (found : Head) (lists : Lists) (limits : Limits) (ended : Ended) (l : ItemId)
     → pulled_to (pulled_of t found lists limits ended l) ≡ None → found.active ≡ false
-tail_stays tail.Hot moving found lists limits ended l is = by found.active is
-  where
-    by : (active : Bool)
-        → pulled_to (if active then pulled.Warm l else cold_or_stay (length lists.hot) limits.hot l) ≡ None → active
-        ≡ false
-    by true is = absurd (let u : ⊥ = cc in u)
-    by false is = refl
-tail_stays tail.Warm moving found lists limits ended l is = by found.active is
-  where
-    by : (active : Bool)
-        → pulled_to (if active then pulled.Again l else cold_or_stay (length lists.warm) limits.warm l) ≡ None
-        → active ≡ false
-    by true is = absurd (let u : ⊥ = cc in u)
-    by false is = refl
-tail_stays tail.Cold moving found lists limits ended l is = by found.active is
-  where
-    by : (active : Bool)
-        → pulled_to (if active then pulled.Warm l else pulled.Stay l) ≡ None → active ≡ false
-    by true is = absurd (let u : ⊥ = cc in u)
-    by false is = refl
+tail_stays tail.Hot moving found lists limits ended l is = search rules
+tail_stays tail.Warm moving found lists limits ended l is = search rules
+tail_stays tail.Cold moving found lists limits ended l is = search rules
 tail_stays tail.Evict moving found lists limits ended l is = absurd moving
 
 -- ACTIVE is cleared where it is clear
@@ -168,9 +129,4 @@ found_made s o k tail.Evict c is allowed = ended_made s o k tail.Evict c is allo
 -- and one that found none has none
 pub pull_made : (s : State) → IsLawful s → (k : ℕ) (t : Tail) → is_allowed s (command.Pull k t) ≡ true
     → run_of s (events_of s (command.Pull k t)) ≡ Some (command_after s (command.Pull k t))
-pull_made s o k t allowed = by (last_pulled_in s k t) refl
-  where
-    by : (m : Option ℕ) → last_pulled_in s k t ≡ m → run_of s (option_map_or (pull_events s k t) m [])
-        ≡ Some (option_map_or (pull s k t) m s)
-    by None is = refl
-    by (Some c) is = found_made s o k t c is allowed
+pull_made s o k t allowed = search (rules, found_made s o k t)

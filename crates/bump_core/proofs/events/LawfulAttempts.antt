@@ -8,19 +8,19 @@ use Rattle.bump_rules.specs.declared.items.Head.{Head}
 use Rattle.bump_rules.specs.declared.hands.Hand.TheVariants as hand
 use Rattle.bump_rules.specs.declared.events.Event.TheVariants as event
 use Rattle.bump_rules.specs.Lives.{life, one_if, count_of}
-use Rattle.bump_state.specs.Rings.{in_ring, IsWorker}
+use Rattle.model_state.specs.Rings.{in_ring, IsWorker}
 use Rattle.bump_rules.specs.Rings.{attempts_of}
-use Rattle.bump_state.specs.State.{State, WorkerState, head_at, worker_at, with_head, with_worker, is_open, is_worker}
+use Rattle.model_state.specs.State.{State, WorkerState, head_at, worker_at, with_head, with_worker, is_open, is_worker}
 use Rattle.bump_rules.specs.Hands.{is_on, tried_life, life_in_hand, cleared_life}
 use Rattle.bump_rules.specs.Heads.{one_more, one_fewer, cleared_head}
-use Rattle.bump_state.specs.Events.{is_under_limit, waiting, is_enabled, after, reserve, drop_refs, drop_busy, push, drop_full, unmark}
-use Rattle.bump_state.specs.Worlds.{in_hand_of, bumps_of, references, first_hits_of, place, IsLawful}
+use Rattle.model_state.specs.Events.{is_under_limit, waiting, is_enabled, after, reserve, drop_refs, drop_busy, push, drop_full, unmark}
+use Rattle.model_state.specs.Worlds.{in_hand_of, bumps_of, references, first_hits_of, place, IsLawful}
 use Rattle.bump_rules.proofs.Laws.{relawful, referred}
-use Rattle.bump_state.proofs.Ring.{in_ring_push}
+use Rattle.model_state.proofs.Ring.{in_ring_push}
 use Rattle.bump_rules.proofs.Updates.{count_push}
-use Rattle.bump_state.proofs.LawfulStates.{one_if_elsewhere, one_if_at, one_if_not_at, referred_used, tried_referred, tried_in_range, tried_current, in_hand_in_range, in_hand_current, cleared_in_range, received_within}
+use Rattle.model_state.proofs.LawfulStates.{one_if_elsewhere, one_if_at, one_if_not_at, referred_used, tried_referred, tried_in_range, tried_current, in_hand_in_range, in_hand_current, cleared_in_range, received_within}
 use Rattle.bump_core.proofs.worlds.Frames.{worker_lawful, waits_kept, both_marked, both_unreferred, both_lawful_off_lane, references_after, first_hits_after, alone_kept, tells_kept}
-use Rattle.bump_state.proofs.Enabled.{some_and_parts, some_from, worker_there, lawful_by_some, trying_from, in_hand_from, clearing_from, worker_from}
+use Rattle.model_state.proofs.Enabled.{some_and_parts, some_from, worker_there, lawful_by_some, trying_from, in_hand_from, clearing_from, worker_from}
 
 -- under the limit the attempted bump gets its reference
 pub reserve_lawful : (s : State) (w : ℕ) (l : ItemId) → IsLawful s → w < length s.workers → (worker_at s w).hand
@@ -252,13 +252,13 @@ after_drop_busy s w o enabled = let found = some_from (tried_life (worker_at s w
 -- the ring takes the bump
 pub after_push : (s : State) (w : ℕ) → IsLawful s → is_enabled s (event.Push w) ≡ true
     → IsLawful (after s (event.Push w))
-after_push s w o enabled = let parts = and_parts (is_open s w) (is_some (life_in_hand (worker_at s w).hand) && nat_lt
+after_push s w o enabled = let inside = and_parts (is_open s w) (is_some (life_in_hand (worker_at s w).hand) && nat_lt
     (waiting (worker_at s w)) s.capacity) enabled in
     let more = and_parts (is_some (life_in_hand (worker_at s w).hand))
-    (nat_lt (waiting (worker_at s w)) s.capacity) parts.1 in
+    (nat_lt (waiting (worker_at s w)) s.capacity) inside.1 in
     let found = some_from (life_in_hand (worker_at s w).hand) more.0 in
     lawful_by_some (push s w) s (life_in_hand (worker_at s w).hand) found.0 found.1
-    (push_lawful s w found.0 o (worker_from s w (and_parts (is_worker s w) (worker_at s w).is_open parts.0).0)
+    (push_lawful s w found.0 o (worker_from s w (and_parts (is_worker s w) (worker_at s w).is_open inside.0).0)
     (in_hand_from (worker_at s w).hand found.0 found.1) (ltb-true (waiting (worker_at s w)) s.capacity more.1))
 
 -- the bump is dropped for want of room

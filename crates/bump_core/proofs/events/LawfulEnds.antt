@@ -12,16 +12,16 @@ use Rattle.bump_rules.specs.Entries.{names_bump}
 use Rattle.bump_rules.specs.History.{subject, target, freed_change}
 use Rattle.bump_rules.specs.Lawful.{Shows}
 use Rattle.bump_rules.specs.Lives.{life}
-use Rattle.bump_state.specs.State.{State, head_at, class_of, with_change}
+use Rattle.model_state.specs.State.{State, head_at, class_of, with_change}
 use Rattle.bump_rules.specs.Lanes.{applied_life}
-use Rattle.bump_state.specs.Events.{is_enabled, after}
-use Rattle.bump_state.specs.Worlds.{references, first_hits_of, place, IsLawful}
+use Rattle.model_state.specs.Events.{is_enabled, after}
+use Rattle.model_state.specs.Worlds.{references, first_hits_of, place, IsLawful}
 use Rattle.bump_rules.proofs.Laws.{unlinked, ended}
-use Rattle.bump_state.proofs.Tiles.{class_within, class_owns}
-use Rattle.bump_state.proofs.Enabled.{unlink_from, sweep_from, none_applies}
+use Rattle.model_state.proofs.Tiles.{class_within, class_owns}
+use Rattle.model_state.proofs.Enabled.{unlink_from, sweep_from, none_applies}
 use Rattle.bump_core.proofs.events.Moves.{change_lawful}
 use Rattle.bump_core.proofs.worlds.Frames.{same_head}
-use Rattle.bump_state.proofs.Fronts.{listed}
+use Rattle.model_state.proofs.Fronts.{listed}
 
 -- What a sweep finds and enters.
 

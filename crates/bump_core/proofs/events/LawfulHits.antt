@@ -8,17 +8,17 @@ use Rattle.bump_rules.specs.declared.events.Event.TheVariants as event
 use Rattle.bump_rules.specs.Lawful.{bit}
 use Rattle.bump_rules.specs.Lives.{life, one_if}
 use Rattle.bump_rules.specs.Rings.{most_attempts, attempts_of}
-use Rattle.bump_state.specs.Rings.{IsWorker}
+use Rattle.model_state.specs.Rings.{IsWorker}
 use Rattle.bump_rules.specs.Tables.{is_cold}
-use Rattle.bump_state.specs.State.{State, WorkerState, chunk_at, head_at, worker_at, with_head, with_worker, workers_on}
+use Rattle.model_state.specs.State.{State, WorkerState, chunk_at, head_at, worker_at, with_head, with_worker, workers_on}
 use Rattle.bump_rules.specs.Heads.{fetched_head, marked_head}
-use Rattle.bump_state.specs.Events.{may_hit, is_enabled, after, fetch, mark}
-use Rattle.bump_state.specs.Worlds.{holds_of, in_hand_of, references, first_hits_of, place, IsLawful}
+use Rattle.model_state.specs.Events.{may_hit, is_enabled, after, fetch, mark}
+use Rattle.model_state.specs.Worlds.{holds_of, in_hand_of, references, first_hits_of, place, IsLawful}
 use Rattle.bump_rules.proofs.Laws.{relawful, named_first, fetched_again, marked}
 use Rattle.bump_rules.proofs.Updates.{count_push}
-use Rattle.bump_state.proofs.LawfulStates.{held_at, one_if_same, one_if_elsewhere, one_if_at, one_if_not_at, one_if_cases}
+use Rattle.model_state.proofs.LawfulStates.{held_at, one_if_same, one_if_elsewhere, one_if_at, one_if_not_at, one_if_cases}
 use Rattle.bump_core.proofs.worlds.Frames.{alone_kept, tells_kept, waits_kept, both_marked, head_lawful, time_lawful, both_lawful_off_lane, references_after, first_hits_after}
-use Rattle.bump_state.proofs.Enabled.{by_test, may_hit_from}
+use Rattle.model_state.proofs.Enabled.{by_test, may_hit_from}
 
 -- a hit of a current life sets FETCHED, and the first one joins the worker's first hits
 pub fetch_lawful : (s : State) (w : ℕ) (l : ItemId) → IsLawful s → w < length s.workers → l.chunk < length s.chunks
@@ -134,11 +134,11 @@ after_fetch s w l o enabled = let hits = may_hit_from s w l enabled in fetch_law
 -- the second step of a hit
 pub after_mark : (s : State) (w : ℕ) (l : ItemId) → IsLawful s → is_enabled s (event.Mark w l) ≡ true
     → IsLawful (after s (event.Mark w l))
-after_mark s w l o enabled = let parts = and_parts (may_hit s w l) ((head_at s l.chunk).fetched && nat_lt
+after_mark s w l o enabled = let inside = and_parts (may_hit s w l) ((head_at s l.chunk).fetched && nat_lt
     (worker_at s w).accounts.attempted most_attempts) enabled in
-    let hits = may_hit_from s w l parts.0 in
+    let hits = may_hit_from s w l inside.0 in
     let marks = and_parts (head_at s l.chunk).fetched
-    (nat_lt (worker_at s w).accounts.attempted most_attempts) parts.1 in
+    (nat_lt (worker_at s w).accounts.attempted most_attempts) inside.1 in
     mark_lawful s w l o hits.0 hits.1 hits.2 hits.3 hits.4 marks.0
     (ltb-true (worker_at s w).accounts.attempted most_attempts marks.1)
 

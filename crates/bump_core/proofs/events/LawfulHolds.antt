@@ -4,17 +4,17 @@ use Rattle.std.proofs.lemmas.Bool.{and_parts, ltb-true}
 use mathlib.Core.Logic.{dite}
 use native.Mathlib.Decide.{ℕ_discrete}
 use Rattle.bump_rules.specs.declared.items.ItemId.{ItemId}
-use Rattle.bump_state.specs.declared.chunks.Chunk.{Chunk}
+use Rattle.model_state.specs.declared.chunks.Chunk.{Chunk}
 use Rattle.bump_rules.specs.declared.events.Event.TheVariants as event
 use Rattle.bump_rules.specs.Lives.{life}
-use Rattle.bump_state.specs.State.{State, chunk_at, head_at, with_chunk, workers_on, is_current, is_linked, is_open}
+use Rattle.model_state.specs.State.{State, chunk_at, head_at, with_chunk, workers_on, is_current, is_linked, is_open}
 use Rattle.bump_rules.specs.Heads.{one_more, one_fewer}
-use Rattle.bump_state.specs.Events.{is_under_limit, is_enabled, after, with_hold, without_hold}
-use Rattle.bump_state.specs.Worlds.{holds_of, references, first_hits_of, place, IsLawful}
+use Rattle.model_state.specs.Events.{is_under_limit, is_enabled, after, with_hold, without_hold}
+use Rattle.model_state.specs.Worlds.{holds_of, references, first_hits_of, place, IsLawful}
 use Rattle.bump_rules.proofs.Laws.{used_where_linked, referred, unreferred}
-use Rattle.bump_state.proofs.LawfulStates.{held_by, held_here, held_else}
+use Rattle.model_state.proofs.LawfulStates.{held_by, held_here, held_else}
 use Rattle.bump_core.proofs.worlds.Frames.{chunk_here, chunk_lawful}
-use Rattle.bump_state.proofs.Enabled.{current_from, free_hold_from}
+use Rattle.model_state.proofs.Enabled.{current_from, free_hold_from}
 
 -- a linked chunk under the limit gets one more hold
 pub hold_lawful : (s : State) (c : ℕ) → IsLawful s → (head_at s c).linked ≡ true → c < length s.chunks
@@ -69,11 +69,11 @@ after_load s c o enabled = o
 -- a hold is taken
 pub after_take : (s : State) (w : ℕ) (l : ItemId) → IsLawful s → is_enabled s (event.Take w l) ≡ true
     → IsLawful (after s (event.Take w l))
-after_take s w l o enabled = let parts = and_parts (is_linked s l) (is_under_limit s l.chunk) (and_parts (is_open s w)
+after_take s w l o enabled = let inside = and_parts (is_linked s l) (is_under_limit s l.chunk) (and_parts (is_open s w)
     (is_linked s l && is_under_limit s l.chunk) enabled).1 in
-    let linked = and_parts (is_current s l) (head_at s l.chunk).linked parts.0 in
+    let linked = and_parts (is_current s l) (head_at s l.chunk).linked inside.0 in
     hold_lawful s l.chunk o linked.1 (current_from s l linked.0).0
-    (ltb-true (head_at s l.chunk).refs s.refs_limit parts.1)
+    (ltb-true (head_at s l.chunk).refs s.refs_limit inside.1)
 
 -- a hold is given back
 pub after_release : (s : State) (l : ItemId) → IsLawful s → is_enabled s (event.Release l) ≡ true

@@ -16,27 +16,27 @@ use Rattle.bump_rules.specs.Lives.{life, is_same, one_if, count_of}
 use Rattle.bump_rules.specs.Totals.{total, how_many}
 use Rattle.bump_rules.specs.Entries.{is_move_for, is_unlink_of, is_gone, is_told_moved, is_told_gone, moving, moves_told}
 use Rattle.bump_rules.specs.Tables.{is_cold}
-use Rattle.bump_state.specs.Rings.{in_ring, IsWorker}
+use Rattle.model_state.specs.Rings.{in_ring, IsWorker}
 use Rattle.bump_rules.specs.Rings.{aboard, bump_applied}
-use Rattle.bump_state.specs.State.{State, WorkerState, chunk_at, head_at, class_at, worker_at, class_of, with_head, is_under_application, new_worker}
+use Rattle.model_state.specs.State.{State, WorkerState, chunk_at, head_at, class_at, worker_at, class_of, with_head, is_under_application, new_worker}
 use Rattle.bump_rules.specs.Hands.{is_on}
 use Rattle.bump_rules.specs.Lanes.{ending_at, applied_life, bump_of, carried, tried, applied_now, is_empty, cleared_active}
 use Rattle.bump_rules.specs.Heads.{cleared_head, moved_head}
-use Rattle.bump_state.specs.Events.{with_time, next_bump, ending, is_enabled, after, take_bump, with_lane, clear_for, alight, move_for}
-use Rattle.bump_state.specs.Worlds.{in_lane_of, bumps_of, WaitsToMove, is_of_class, WasUnlinked, IsLawful, place, references, first_hits_of}
-use Rattle.bump_state.proofs.Ring.{lane_further, next_in_ring, numbered_append}
-use Rattle.bump_state.proofs.LawfulStates.{linked_in_range, same_lives, aboard_in_range, aboard_current, aboard_referred, applied_aboard, waiting_linked}
+use Rattle.model_state.specs.Events.{with_time, next_bump, ending, is_enabled, after, take_bump, with_lane, clear_for, alight, move_for}
+use Rattle.model_state.specs.Worlds.{in_lane_of, bumps_of, WaitsToMove, is_of_class, WasUnlinked, IsLawful, place, references, first_hits_of}
+use Rattle.model_state.proofs.Ring.{lane_further, next_in_ring, numbered_append}
+use Rattle.model_state.proofs.LawfulStates.{linked_in_range, same_lives, aboard_in_range, aboard_current, aboard_referred, applied_aboard, waiting_linked}
 use Rattle.bump_core.proofs.worlds.Frames.{hits_in, worker_here, each_worker, worker_lawful, both_marked, both_unreferred, alone_after, alone_kept, tells_further, chunk_here, time_lawful}
 use Rattle.bump_core.proofs.worlds.Unlinked.{referred_unlinked}
 use Rattle.bump_rules.proofs.Updates.{total_kept}
 use Rattle.bump_rules.proofs.Counted.{how_many_push}
 use Rattle.bump_rules.proofs.Endings.{told_by_ending, gone_by_ending}
 use Rattle.bump_rules.proofs.ToldMoves.{tests_turned}
-use Rattle.bump_state.proofs.Enabled.{some_and_parts, some_from, worker_there, lawful_by_some, empty_from, carrying_from, tried_from, cold_from, applied_from, none_applies, applied_by_ending, move_for_from, cleared_from}
+use Rattle.model_state.proofs.Enabled.{some_and_parts, some_from, worker_there, lawful_by_some, empty_from, carrying_from, tried_from, cold_from, applied_from, none_applies, applied_by_ending, move_for_from, cleared_from}
 use Rattle.bump_rules.specs.declared.history.Change.{Change}
 use Rattle.bump_rules.specs.declared.history.Change.TheVariants as change
 use Rattle.bump_rules.specs.declared.history.Cause.TheVariants.{Bump as BumpOf}
-use Rattle.bump_state.proofs.Tiles.{class_within, class_owns}
+use Rattle.model_state.proofs.Tiles.{class_within, class_owns}
 use Rattle.bump_rules.proofs.Laws.{bit_some, moved}
 use Rattle.bump_core.proofs.events.Moves.{WorkersFit, counted_changed, change_among}
 use Rattle.bump_rules.specs.Lawful.{bit}

@@ -1,10 +1,10 @@
 -- The events of links leave a lawful state lawful: the next item's label and time, and the link.
 use Rattle.std.proofs.Common.{◌≡◌, ℕ, true, false, refl, arith, ◌<◌, length, ◌+◌, cond, eqb, Bool, Some, sym, ap, ◌∙◌, subst}
 use Rattle.bump_rules.specs.declared.events.Event.TheVariants as event
-use Rattle.bump_state.specs.State.{State, head_at, chunk_at, class_at}
-use Rattle.bump_state.specs.Events.{next_chunk, may_link, is_enabled, after, with_time, with_label, next_life, link, link_next}
-use Rattle.bump_state.specs.Worlds.{references, first_hits_of, place, IsLawful, owns}
-use Rattle.bump_state.proofs.Enabled.{next_from, lawful_by_some}
+use Rattle.model_state.specs.State.{State, head_at, chunk_at, class_at}
+use Rattle.model_state.specs.Events.{next_chunk, may_link, is_enabled, after, with_time, with_label, next_life, link, link_next}
+use Rattle.model_state.specs.Worlds.{references, first_hits_of, place, IsLawful, owns}
+use Rattle.model_state.proofs.Enabled.{next_from, lawful_by_some}
 use Rattle.bump_core.proofs.worlds.Frames.{time_lawful, label_lawful}
 use Rattle.std.proofs.lemmas.Bool.{both_ways}
 use Rattle.bump_rules.specs.declared.items.Head.{Head}
@@ -15,11 +15,11 @@ use Rattle.bump_rules.specs.declared.places.Start.{Start}
 use Rattle.bump_rules.specs.Starts.{begun_change}
 use Rattle.bump_rules.specs.Lawful.{Lawful}
 use Rattle.bump_rules.proofs.Beginnings.{begun_subject, begun_target, begun_quiet}
-use Rattle.bump_state.specs.declared.chunks.Chunk.{Chunk}
+use Rattle.model_state.specs.declared.chunks.Chunk.{Chunk}
 use Rattle.bump_rules.specs.Heads.{linked_head}
-use Rattle.bump_state.proofs.Tiles.{class_owns}
-use Rattle.bump_state.proofs.Fronts.{next_front}
-use Rattle.bump_state.proofs.LawfulStates.{unused_shown, held_by, held_here, unused_unreferred, waiting_linked}
+use Rattle.model_state.proofs.Tiles.{class_owns}
+use Rattle.model_state.proofs.Fronts.{next_front}
+use Rattle.model_state.proofs.LawfulStates.{unused_shown, held_by, held_here, unused_unreferred, waiting_linked}
 use Rattle.bump_rules.proofs.Laws.{born}
 use Rattle.bump_core.proofs.events.Moves.{change_lawful}
 

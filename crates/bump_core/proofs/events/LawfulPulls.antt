@@ -2,19 +2,19 @@
 use Rattle.std.proofs.Common.{◌≡◌, ℕ, true, false, not, refl, arith, ◌<◌, length, ap}
 use Rattle.std.proofs.lemmas.Bool.{and_parts}
 use Rattle.bump_rules.specs.declared.events.Event.TheVariants as event
-use Rattle.bump_state.specs.State.{State, head_at, class_of, is_under_application, with_head}
+use Rattle.model_state.specs.State.{State, head_at, class_of, is_under_application, with_head}
 use Rattle.bump_rules.specs.Lanes.{applied_life}
 use Rattle.bump_rules.specs.Heads.{cleared_head, moved_head}
-use Rattle.bump_state.specs.Events.{is_enabled, after}
-use Rattle.bump_state.specs.Worlds.{references, first_hits_of, place, IsLawful}
+use Rattle.model_state.specs.Events.{is_enabled, after}
+use Rattle.model_state.specs.Worlds.{references, first_hits_of, place, IsLawful}
 use Rattle.bump_rules.proofs.Laws.{marked, moved}
-use Rattle.bump_state.proofs.Enabled.{linked_there, move_from, none_applies}
+use Rattle.model_state.proofs.Enabled.{linked_there, move_from, none_applies}
 use Rattle.bump_core.proofs.worlds.Frames.{head_lawful}
 use Rattle.bump_rules.specs.declared.places.Segment.{Segment}
 use Rattle.bump_rules.specs.declared.history.Change.TheVariants as change
 use Rattle.bump_rules.specs.declared.history.Cause.TheVariants.{Pull}
 use Rattle.bump_rules.specs.Lives.{life}
-use Rattle.bump_state.proofs.Tiles.{class_within, class_owns}
+use Rattle.model_state.proofs.Tiles.{class_within, class_owns}
 use Rattle.bump_core.proofs.events.Moves.{change_lawful}
 
 -- a pull clears ACTIVE

@@ -1,12 +1,12 @@
 -- The event of a ring that closes leaves a lawful state lawful.
 use Rattle.std.proofs.Common.{◌≡◌, ℕ, true, false, refl, arith}
 use Rattle.bump_rules.specs.declared.events.Event.TheVariants as event
-use Rattle.bump_state.specs.State.{State, WorkerState, worker_at}
-use Rattle.bump_state.specs.Events.{is_enabled, after}
-use Rattle.bump_state.specs.Rings.{IsWorker}
-use Rattle.bump_state.specs.Worlds.{IsLawful}
+use Rattle.model_state.specs.State.{State, WorkerState, worker_at}
+use Rattle.model_state.specs.Events.{is_enabled, after}
+use Rattle.model_state.specs.Rings.{IsWorker}
+use Rattle.model_state.specs.Worlds.{IsLawful}
 use Rattle.bump_core.proofs.worlds.Frames.{worker_lawful, alone_kept, tells_kept}
-use Rattle.bump_state.proofs.Enabled.{close_from}
+use Rattle.model_state.proofs.Enabled.{close_from}
 
 -- a worker's ring closes
 pub after_close : (s : State) (w : ℕ) → IsLawful s → is_enabled s (event.Close w) ≡ true

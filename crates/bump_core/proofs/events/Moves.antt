@@ -13,17 +13,17 @@ use Rattle.bump_rules.specs.declared.lanes.LaneStage.TheVariants as lane
 use Rattle.bump_rules.specs.Lawful.{bit, Lawful}
 use Rattle.bump_rules.specs.Lives.{life}
 use Rattle.bump_rules.specs.Totals.{total, how_many}
-use Rattle.bump_state.specs.Rings.{IsWorker}
+use Rattle.model_state.specs.Rings.{IsWorker}
 use Rattle.bump_rules.specs.Entries.{names_bump, is_stray, is_move_for, is_unlink_of, moves_told}
 use Rattle.bump_rules.specs.History.{Standing, subject, target}
 use Rattle.bump_rules.specs.Lists.{to_front, opening}
-use Rattle.bump_state.specs.State.{State, ClassState, WorkerState, chunk_at, head_at, class_at, worker_at, no_chunk, no_class, new_worker, with_head, with_change, class_with_change, class_of, workers_on}
+use Rattle.model_state.specs.State.{State, ClassState, WorkerState, chunk_at, head_at, class_at, worker_at, no_chunk, no_class, new_worker, with_head, with_change, class_with_change, class_of, workers_on}
 use Rattle.bump_rules.specs.Hands.{is_on}
 use Rattle.bump_rules.specs.Lanes.{applied_life}
-use Rattle.bump_state.specs.Worlds.{Tiles, IsLawful, IsClass, WaitsToMove, is_of_class, WasUnlinked, owns, stands_in, standing, place, references, first_hits_of, holds_of, bumps_of}
+use Rattle.model_state.specs.Worlds.{Tiles, IsLawful, IsClass, WaitsToMove, is_of_class, WasUnlinked, owns, stands_in, standing, place, references, first_hits_of, holds_of, bumps_of}
 use Rattle.bump_rules.proofs.Replay.{replay_push, standing_push, are_between_push}
-use Rattle.bump_state.proofs.Tiles.{class_kept, tiles_kept, owner, owned_in_range}
-use Rattle.bump_state.proofs.LawfulStates.{held_by}
+use Rattle.model_state.proofs.Tiles.{class_kept, tiles_kept, owner, owned_in_range}
+use Rattle.model_state.proofs.LawfulStates.{held_by}
 use Rattle.bump_core.proofs.worlds.Frames.{hits_in}
 use Rattle.bump_rules.proofs.Laws.{lawful_same, relawful}
 use Rattle.bump_rules.proofs.Counted.{how_many_push}

@@ -7,9 +7,9 @@ use Rattle.bump_rules.specs.declared.events.Event.{Event}
 use Rattle.bump_rules.specs.declared.events.Reply.{Reply}
 use Rattle.bump_rules.specs.declared.events.Refused.{Refused}
 use Rattle.bump_rules.specs.declared.events.Refused.TheVariants.{NotEnabled, OutOfMemory}
-use Rattle.bump_core.specs.Runs.{Steps, Runs, run_of, made_by}
-use Rattle.bump_state.specs.State.{State}
-use Rattle.bump_state.specs.Events.{is_enabled, asks_for_memory, after}
+use Rattle.bump_core.specs.Runs.{Runs, run_of, made_by}
+use Rattle.model_state.specs.State.{State}
+use Rattle.model_state.specs.Events.{Steps, is_enabled, asks_for_memory, after}
 
 -- an enabled event, and then the others
 pub run_step : (s t : State) (e : Event) (es : List Event) → is_enabled s e ≡ true → after s e ≡ t → run_of s (e ∷ es)
@@ -32,8 +32,8 @@ pub run_push : (s : State) (es : List Event) (t : State) (e : Event) → run_of 
     → run_of s (es ++ e ∷ []) ≡ Some (after t e)
 run_push s [] t e ends enabled = let same : s ≡ t = cc in run_step s (after s e) e [] (ap (λ x. is_enabled x e) same
     ∙ enabled) refl ∙ ap (λ x. Some (after x e)) same
-run_push s (d ∷ es) t e ends enabled = let parts = run_parts s d es t ends in
-    run_step s (after s d) d (es ++ e ∷ []) parts.0 refl ∙ run_push (after s d) es t e parts.1 enabled
+run_push s (d ∷ es) t e ends enabled = let inside = run_parts s d es t ends in
+    run_step s (after s d) d (es ++ e ∷ []) inside.0 refl ∙ run_push (after s d) es t e inside.1 enabled
 
 -- a run of the first events, and the one behind them
 pub run_more : (s : State) (es : List Event) (n : ℕ) (d : Event) (t new : State) → n < length es
@@ -85,8 +85,8 @@ by_step P old e new (Err r) before behind refused = subst P (sym (refused_same o
 pub by_run : (P : State → Type 0) → ((s : State) → P s → (e : Event) → is_enabled s e ≡ true → P (after s e))
     → (s : State) (es : List Event) (t : State) → P s → run_of s es ≡ Some t → P t
 by_run P kept s [] t p ends = let same : s ≡ t = cc in subst P same p
-by_run P kept s (e ∷ es) t p ends = let parts = run_parts s e es t ends in
-    by_run P kept (after s e) es t (kept s p e parts.0) parts.1
+by_run P kept s (e ∷ es) t p ends = let inside = run_parts s e es t ends in
+    by_run P kept (after s e) es t (kept s p e inside.0) inside.1
 
 -- a step leaves the state that the events that it made leave
 pub step_runs : (old : State) (e : Event) (new : State) (r : Result Reply Refused) → Steps old e new r

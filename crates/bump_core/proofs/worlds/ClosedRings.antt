@@ -7,14 +7,14 @@ use native.Mathlib.Decide.{ℕ_discrete}
 use Rattle.bump_rules.specs.declared.events.Event.{Event}
 use Rattle.bump_rules.specs.declared.events.Event.TheVariants as event
 use Rattle.bump_rules.specs.declared.places.Start.TheVariants as start
-use Rattle.bump_state.specs.Events.{is_enabled, after, next_chunk, next_bump, ending, waiting, reserve, drop_refs, drop_busy, push, drop_full, unmark, with_label, with_time, link, take_bump, clear_for, move_for, alight}
+use Rattle.model_state.specs.Events.{is_enabled, after, next_chunk, next_bump, ending, waiting, reserve, drop_refs, drop_busy, push, drop_full, unmark, with_label, with_time, link, take_bump, clear_for, move_for, alight}
 use Rattle.bump_rules.specs.Lanes.{carried, tried, applied_now, cleared_active}
 use Rattle.bump_core.specs.Headline.{ClosedStay, ClosedStayFrom}
 use Rattle.bump_core.specs.Runs.{run_of}
-use Rattle.bump_state.specs.State.{State, WorkerState, head_at, worker_at, new_worker, with_worker, is_worker, is_open}
+use Rattle.model_state.specs.State.{State, WorkerState, head_at, worker_at, new_worker, with_worker, is_worker, is_open}
 use Rattle.bump_rules.specs.Hands.{tried_life, life_in_hand, cleared_life}
 use Rattle.bump_rules.specs.Tables.{is_cold}
-use Rattle.bump_state.proofs.Enabled.{close_from, by_test, by_value}
+use Rattle.model_state.proofs.Enabled.{close_from, by_test, by_value}
 use Rattle.bump_core.proofs.events.Runs.{by_run, run_parts}
 use Rattle.bump_rules.proofs.Updates.{same_read}
 

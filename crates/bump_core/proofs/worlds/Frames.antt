@@ -6,22 +6,22 @@ use mathlib.Core.Logic.{dite}
 use native.Mathlib.Decide.{ℕ_discrete}
 use Rattle.bump_rules.specs.declared.items.ItemId.{ItemId}
 use Rattle.bump_rules.specs.declared.items.Head.{Head}
-use Rattle.bump_state.specs.declared.chunks.Chunk.{Chunk}
+use Rattle.model_state.specs.declared.chunks.Chunk.{Chunk}
 use Rattle.bump_rules.specs.declared.lanes.LaneStage.{LaneStage}
 use Rattle.bump_rules.specs.declared.lanes.LaneStage.TheVariants as lane
 use Rattle.bump_rules.specs.Lawful.{bit, Lawful}
 use Rattle.bump_rules.specs.Lives.{life, one_if, count_of}
 use Rattle.bump_rules.specs.Totals.{total, how_many}
 use Rattle.bump_rules.specs.Entries.{is_told_gone, moving, moves_told}
-use Rattle.bump_state.specs.Rings.{IsWorker}
-use Rattle.bump_state.specs.State.{State, WorkerState, chunk_at, head_at, worker_at, no_chunk, new_worker, with_chunk, with_head, with_worker, class_of, workers_on}
+use Rattle.model_state.specs.Rings.{IsWorker}
+use Rattle.model_state.specs.State.{State, WorkerState, chunk_at, head_at, worker_at, no_chunk, new_worker, with_chunk, with_head, with_worker, class_of, workers_on}
 use Rattle.bump_rules.specs.Hands.{is_on}
 use Rattle.bump_rules.specs.Lanes.{applied_life}
 use Rattle.bump_rules.specs.Heads.{one_fewer}
-use Rattle.bump_state.specs.Events.{with_time, with_label}
-use Rattle.bump_state.specs.Worlds.{holds_of, bumps_of, references, first_hits_of, place, Tiles, WaitsToMove, is_of_class, CountsMoves, WasUnlinked, IsLawful}
+use Rattle.model_state.specs.Events.{with_time, with_label}
+use Rattle.model_state.specs.Worlds.{holds_of, bumps_of, references, first_hits_of, place, Tiles, WaitsToMove, is_of_class, CountsMoves, WasUnlinked, IsLawful}
 use Rattle.bump_rules.proofs.Laws.{relawful, marked, unreferred}
-use Rattle.bump_state.proofs.LawfulStates.{held_by, one_if_elsewhere, one_if_at, one_if_not_at}
+use Rattle.model_state.proofs.LawfulStates.{held_by, one_if_elsewhere, one_if_at, one_if_not_at}
 use Rattle.bump_rules.proofs.Updates.{same_read, total_written}
 
 -- the state with other chunks and workers

@@ -8,14 +8,14 @@ use Rattle.bump_rules.specs.History.{is_place}
 use Rattle.bump_rules.specs.Lawful.{bit, IsUsed, Shows}
 use Rattle.bump_links.specs.Lists.{times}
 use Rattle.bump_rules.specs.Lists.{list_at, times_in_all}
-use Rattle.bump_state.specs.Rings.{in_ring, IsWorker}
+use Rattle.model_state.specs.Rings.{in_ring, IsWorker}
 use Rattle.bump_rules.specs.Rings.{numbered_from}
-use Rattle.bump_state.specs.State.{State, WorkerState, class_at, head_at, worker_at}
-use Rattle.bump_state.specs.Worlds.{owns, place, place_in, stands_in, is_of_class, IsLawful}
-use Rattle.bump_state.proofs.LawfulStates.{referred_in_range, referred_used}
-use Rattle.bump_state.proofs.Fronts.{times_in, listed, never_at}
+use Rattle.model_state.specs.State.{State, WorkerState, class_at, head_at, worker_at}
+use Rattle.model_state.specs.Worlds.{owns, place, place_in, stands_in, is_of_class, IsLawful}
+use Rattle.model_state.proofs.LawfulStates.{referred_in_range, referred_used}
+use Rattle.model_state.proofs.Fronts.{times_in, listed, never_at}
 use Rattle.bump_core.proofs.worlds.TrueEntries.{named_once, move_shown, not_named, true_entry}
-use Rattle.bump_state.proofs.Ring.{numbered_append}
+use Rattle.model_state.proofs.Ring.{numbered_append}
 use Rattle.bump_rules.proofs.MovesOf.{moves_as_told}
 use Rattle.bump_rules.proofs.Standings.{other_place, once_in_places}
 

@@ -4,7 +4,7 @@ use Rattle.std.proofs.lemmas.Bool.{and_parts, and_from, both_ways}
 use Rattle.std.proofs.lemmas.List.{get_or-set_same, get_or-set_other}
 use Rattle.std.specs.Option.{option_map_or}
 use native.Mathlib.Decide.{ℕ_discrete}
-use Rattle.bump_state.specs.declared.chunks.Chunk.{Chunk}
+use Rattle.model_state.specs.declared.chunks.Chunk.{Chunk}
 use Rattle.bump_rules.specs.declared.events.Event.{Event}
 use Rattle.bump_rules.specs.declared.events.Event.TheVariants as event
 use Rattle.bump_rules.specs.declared.history.Cause.TheVariants.{Pull, Bump as BumpOf}
@@ -19,7 +19,7 @@ use Rattle.bump_rules.specs.declared.places.Segment.TheVariants as segment
 use Rattle.bump_rules.specs.declared.places.Start.{Start}
 use Rattle.bump_rules.specs.declared.places.Start.TheVariants as start
 use Rattle.bump_rules.specs.Heads.{linked_head, moved_head, one_more, one_fewer, fetched_head, marked_head, cleared_head, unlinked_head}
-use Rattle.bump_state.specs.Events.{is_enabled, after, may_link, link_next, next_chunk, next_life, next_bump, ending, reserve, drop_refs, drop_busy, push, drop_full, unmark, with_label, with_time, link, take_bump, clear_for, move_for, alight, unlink, sweep}
+use Rattle.model_state.specs.Events.{is_enabled, after, may_link, link_next, next_chunk, next_life, next_bump, ending, reserve, drop_refs, drop_busy, push, drop_full, unmark, with_label, with_time, link, take_bump, clear_for, move_for, alight, unlink, sweep}
 use Rattle.bump_rules.specs.Lanes.{carried, tried, applied_now, cleared_active}
 use Rattle.bump_rules.specs.History.{subject, freed_change}
 use Rattle.bump_rules.specs.Starts.{begun_change}
@@ -31,21 +31,21 @@ use Rattle.bump_core.specs.Labels.{label_steps, IsLabel, KeepsLabels}
 use Rattle.bump_rules.specs.Lawful.{IsUsed}
 use Rattle.bump_rules.specs.Lives.{life, is_same}
 use Rattle.bump_core.specs.Runs.{run_of}
-use Rattle.bump_state.specs.State.{State, WorkerState, chunk_at, head_at, class_at, worker_at, no_chunk, with_chunk, with_head, with_change, class_of}
+use Rattle.model_state.specs.State.{State, WorkerState, chunk_at, head_at, class_at, worker_at, no_chunk, with_chunk, with_head, with_change, class_of}
 use Rattle.bump_rules.specs.Hands.{tried_life, life_in_hand, cleared_life}
 use Rattle.bump_rules.specs.Tables.{is_cold}
-use Rattle.bump_state.specs.Worlds.{IsLawful, owns, place}
-use Rattle.bump_state.proofs.Enabled.{next_from, unlink_from, sweep_from, move_from, move_for_from, by_test, by_value, cleared_from}
+use Rattle.model_state.specs.Worlds.{IsLawful, owns, place}
+use Rattle.model_state.proofs.Enabled.{next_from, unlink_from, sweep_from, move_from, move_for_from, by_test, by_value, cleared_from}
 use Rattle.bump_core.proofs.events.LawfulEnds.{swept_dying, freed}
 use Rattle.bump_core.proofs.events.Runs.{run_parts}
 use Rattle.bump_rules.proofs.Updates.{same_read}
 use Rattle.bump_core.proofs.worlds.Frames.{same_head}
-use Rattle.bump_state.proofs.Fronts.{next_front}
-use Rattle.bump_state.proofs.LawfulStates.{linked_in_range, waiting_linked}
+use Rattle.model_state.proofs.Fronts.{next_front}
+use Rattle.model_state.proofs.LawfulStates.{linked_in_range, waiting_linked}
 use Rattle.bump_rules.proofs.Laws.{used_where_linked}
 use Rattle.bump_core.proofs.events.Moves.{chunk_changed, chunk_unchanged, place_unchanged}
 use Rattle.bump_core.proofs.worlds.StaysLawful.{lawful_after}
-use Rattle.bump_state.proofs.Tiles.{class_within, class_owns}
+use Rattle.model_state.proofs.Tiles.{class_within, class_owns}
 
 -- What an event leaves of a chunk that begins no life and gets no label.
 
@@ -308,30 +308,30 @@ begun_later : (es : List Event) (s t : State) → IsLawful s → run_of s es ≡
     → label_of_life l x (label_steps s es) ≡ Some y → (head_at s l.chunk).generation < l.generation
 begun_later [] s t o ends l x y is = absurd (let u : ⊥ = cc in u)
 begun_later (event.PutLabel k z ∷ es) s t o ends l x y is =
-    let parts = run_parts s (event.PutLabel k z) es t ends in
+    let inside = run_parts s (event.PutLabel k z) es t ends in
     let u = after s (event.PutLabel k z) in
     let rest = stored_begins (next_chunk s k) z l x y (label_steps u es) is in
     omega (
       arith,
-      begun_later es u t (lawful_after s o (event.PutLabel k z) parts.0) parts.1 l rest.0 y rest.1,
-      later_after s o (event.PutLabel k z) parts.0 l.chunk,
+      begun_later es u t (lawful_after s o (event.PutLabel k z) inside.0) inside.1 l rest.0 y rest.1,
+      later_after s o (event.PutLabel k z) inside.0 l.chunk,
     )
 begun_later (event.Link k ∷ es) s t o ends l x y is =
-    let parts = run_parts s (event.Link k) es t ends in
+    let inside = run_parts s (event.Link k) es t ends in
     let u = after s (event.Link k) in
-    begun_behind s o start.Hot k parts.0 l x y (label_steps u es)
-    (λ behind. begun_later es u t (lawful_after s o (event.Link k) parts.0) parts.1 l x y behind) is
+    begun_behind s o start.Hot k inside.0 l x y (label_steps u es)
+    (λ behind. begun_later es u t (lawful_after s o (event.Link k) inside.0) inside.1 l x y behind) is
 begun_later (event.LinkTemp k ∷ es) s t o ends l x y is =
-    let parts = run_parts s (event.LinkTemp k) es t ends in
+    let inside = run_parts s (event.LinkTemp k) es t ends in
     let u = after s (event.LinkTemp k) in
-    begun_behind s o start.Temp k parts.0 l x y (label_steps u es)
-    (λ behind. begun_later es u t (lawful_after s o (event.LinkTemp k) parts.0) parts.1 l x y behind) is
+    begun_behind s o start.Temp k inside.0 l x y (label_steps u es)
+    (λ behind. begun_later es u t (lawful_after s o (event.LinkTemp k) inside.0) inside.1 l x y behind) is
 begun_later (e ∷ es) s t o ends l x y is =
-    let parts = run_parts s e es t ends in
+    let inside = run_parts s e es t ends in
     omega (
       arith,
-      begun_later es (after s e) t (lawful_after s o e parts.0) parts.1 l x y is,
-      later_after s o e parts.0 l.chunk,
+      begun_later es (after s e) t (lawful_after s o e inside.0) inside.1 l x y is,
+      later_after s o e inside.0 l.chunk,
     )
 
 -- Labels from one state to the next.
@@ -464,29 +464,29 @@ keeps_labels [] s t o ends c used = let same : s ≡ t = cc in record {
   label = ap (λ (u : State). (chunk_at u c).label) same;
 }
 keeps_labels (event.PutLabel k z ∷ es) s t o ends c used =
-    let parts = run_parts s (event.PutLabel k z) es t ends in
+    let inside = run_parts s (event.PutLabel k z) es t ends in
     let u = after s (event.PutLabel k z) in
     stored_by s k z c (head_at t c).generation (chunk_at t c).label (label_steps u es) (next_chunk s k)
-    (λ d is. let at = next_front s o k d (next_from s k parts.0).1 is in (at.1, at.2))
-    (keeps_labels es u t (lawful_after s o (event.PutLabel k z) parts.0) parts.1 c used)
+    (λ d is. let at = next_front s o k d (next_from s k inside.0).1 is in (at.1, at.2))
+    (keeps_labels es u t (lawful_after s o (event.PutLabel k z) inside.0) inside.1 c used)
 keeps_labels (event.Link k ∷ es) s t o ends c used =
-    let parts = run_parts s (event.Link k) es t ends in
+    let inside = run_parts s (event.Link k) es t ends in
     let u = after s (event.Link k) in
-    let p = lawful_after s o (event.Link k) parts.0 in
-    begun_by s o start.Hot k (next_from s k parts.0).1 c (head_at t c).generation (chunk_at t c).label
+    let p = lawful_after s o (event.Link k) inside.0 in
+    begun_by s o start.Hot k (next_from s k inside.0).1 c (head_at t c).generation (chunk_at t c).label
     (label_steps u es) (next_chunk s k) refl
-    (λ y is. begun_later es u t p parts.1 (life c (head_at t c).generation) (chunk_at u c).label y is)
-    (keeps_labels es u t p parts.1 c used)
+    (λ y is. begun_later es u t p inside.1 (life c (head_at t c).generation) (chunk_at u c).label y is)
+    (keeps_labels es u t p inside.1 c used)
 keeps_labels (event.LinkTemp k ∷ es) s t o ends c used =
-    let parts = run_parts s (event.LinkTemp k) es t ends in
+    let inside = run_parts s (event.LinkTemp k) es t ends in
     let u = after s (event.LinkTemp k) in
-    let p = lawful_after s o (event.LinkTemp k) parts.0 in
-    begun_by s o start.Temp k (next_from s k parts.0).1 c (head_at t c).generation (chunk_at t c).label
+    let p = lawful_after s o (event.LinkTemp k) inside.0 in
+    begun_by s o start.Temp k (next_from s k inside.0).1 c (head_at t c).generation (chunk_at t c).label
     (label_steps u es) (next_chunk s k) refl
-    (λ y is. begun_later es u t p parts.1 (life c (head_at t c).generation) (chunk_at u c).label y is)
-    (keeps_labels es u t p parts.1 c used)
+    (λ y is. begun_later es u t p inside.1 (life c (head_at t c).generation) (chunk_at u c).label y is)
+    (keeps_labels es u t p inside.1 c used)
 keeps_labels (e ∷ es) s t o ends c used =
-    let parts = run_parts s e es t ends in
+    let inside = run_parts s e es t ends in
     still s (after s e) c (head_at t c).generation (chunk_at t c).label (label_steps (after s e) es)
-    (stays_after s o e parts.0 tt c)
-    (keeps_labels es (after s e) t (lawful_after s o e parts.0) parts.1 c used)
+    (stays_after s o e inside.0 tt c)
+    (keeps_labels es (after s e) t (lawful_after s o e inside.0) inside.1 c used)

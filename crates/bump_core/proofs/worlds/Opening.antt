@@ -5,7 +5,7 @@ use Rattle.std.proofs.lemmas.Bool.{cases_lt}
 use Rattle.std.proofs.lemmas.List.{length-replicate, get_or_past}
 use Rattle.bump_rules.specs.declared.configs.ClassConfig.{ClassConfig}
 use Rattle.bump_rules.specs.declared.configs.Config.{Config}
-use Rattle.bump_state.specs.declared.chunks.Chunk.{Chunk}
+use Rattle.model_state.specs.declared.chunks.Chunk.{Chunk}
 use Rattle.bump_rules.specs.declared.places.Place.TheVariants.{Unused}
 use Rattle.bump_rules.specs.Totals.{total, how_many}
 use Rattle.bump_rules.specs.Entries.{is_move_for, is_told_gone, moves_told}
@@ -17,13 +17,13 @@ use Rattle.bump_rules.specs.Heads.{fresh_head}
 use Rattle.bump_rules.specs.Lawful.{Lawful}
 use Rattle.bump_rules.specs.History.{standing_from}
 use Rattle.bump_rules.specs.Lives.{life, count_of}
-use Rattle.bump_state.specs.Rings.{IsWorker}
-use Rattle.bump_state.specs.State.{State, ClassState, WorkerState, head_at, class_at, no_chunk, no_class, new_worker, class_of}
+use Rattle.model_state.specs.Rings.{IsWorker}
+use Rattle.model_state.specs.State.{State, ClassState, WorkerState, head_at, class_at, no_chunk, no_class, new_worker, class_of}
 use Rattle.bump_rules.specs.Lanes.{applied_life}
 use Rattle.bump_rules.specs.Hands.{is_on}
-use Rattle.bump_state.specs.Opening.{fresh_chunk, classes_from, new_state}
-use Rattle.bump_state.specs.Worlds.{IsLawful, IsClass, Tiles, references, first_hits_of, holds_of, bumps_of, standing, place, WaitsToMove, is_of_class}
-use Rattle.bump_state.proofs.Tiles.{class_within, class_out}
+use Rattle.model_state.specs.Opening.{fresh_chunk, classes_from, new_state}
+use Rattle.model_state.specs.Worlds.{IsLawful, IsClass, Tiles, references, first_hits_of, holds_of, bumps_of, standing, place, WaitsToMove, is_of_class}
+use Rattle.model_state.proofs.Tiles.{class_within, class_out}
 use Rattle.bump_core.proofs.worlds.StaysLawful.{WorldKeeps}
 
 -- the classes of a new World stand one behind the other

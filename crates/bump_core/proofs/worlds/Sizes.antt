@@ -1,7 +1,7 @@
 -- No event makes or takes away chunks, classes or workers.
 use Rattle.std.proofs.Common.{◌≡◌, ℕ, List, Some, Result, Err, refl, ◌∙◌}
 use Rattle.std.proofs.lemmas.List.{length-set}
-use Rattle.bump_state.specs.declared.chunks.Chunk.{Chunk}
+use Rattle.model_state.specs.declared.chunks.Chunk.{Chunk}
 use Rattle.bump_rules.specs.declared.places.Segment.TheVariants as segment
 use Rattle.bump_rules.specs.declared.places.Start.TheVariants as start
 use Rattle.bump_rules.specs.declared.history.Cause.TheVariants.{Pull, Bump as BumpOf}
@@ -12,12 +12,12 @@ use Rattle.bump_rules.specs.declared.events.Event.TheVariants as event
 use Rattle.bump_rules.specs.declared.events.Reply.{Reply}
 use Rattle.bump_rules.specs.declared.events.Refused.{Refused}
 use Rattle.bump_rules.specs.Lives.{life}
-use Rattle.bump_state.specs.State.{State, ClassState, WorkerState, SameSizes, class_at, head_at, worker_at, with_chunk, with_class, with_worker, with_change, class_with_change}
+use Rattle.model_state.specs.State.{State, ClassState, WorkerState, SameSizes, class_at, head_at, worker_at, with_chunk, with_class, with_worker, with_change, class_with_change}
 use Rattle.bump_rules.specs.Hands.{tried_life, life_in_hand, cleared_life}
-use Rattle.bump_state.specs.Events.{after, reserve, drop_refs, drop_busy, push, drop_full, unmark, with_label, with_time, link, take_bump, clear_for, move_for, alight, next_chunk, next_life, next_bump, ending}
+use Rattle.model_state.specs.Events.{Steps, after, reserve, drop_refs, drop_busy, push, drop_full, unmark, with_label, with_time, link, take_bump, clear_for, move_for, alight, next_chunk, next_life, next_bump, ending}
 use Rattle.bump_rules.specs.Lanes.{carried, applied_now, tried, cleared_active}
-use Rattle.bump_core.specs.Runs.{Steps, run_of}
-use Rattle.bump_state.proofs.Enabled.{by_test, by_value}
+use Rattle.bump_core.specs.Runs.{run_of}
+use Rattle.model_state.proofs.Enabled.{by_test, by_value}
 use Rattle.bump_core.proofs.events.Runs.{by_step, by_run, refused_stays}
 
 -- a changed chunk

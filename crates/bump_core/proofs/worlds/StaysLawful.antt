@@ -6,10 +6,10 @@ use Rattle.bump_rules.specs.declared.events.Event.TheVariants as event
 use Rattle.bump_rules.specs.declared.events.Reply.{Reply}
 use Rattle.bump_rules.specs.declared.places.Start.TheVariants as start
 use Rattle.bump_rules.specs.declared.events.Refused.{Refused}
-use Rattle.bump_core.specs.Runs.{Steps, run_of}
-use Rattle.bump_state.specs.State.{State, SameSizes}
-use Rattle.bump_state.specs.Events.{is_enabled, after}
-use Rattle.bump_state.specs.Worlds.{IsLawful, IsSized}
+use Rattle.bump_core.specs.Runs.{run_of}
+use Rattle.model_state.specs.State.{State, SameSizes}
+use Rattle.model_state.specs.Events.{Steps, is_enabled, after}
+use Rattle.model_state.specs.Worlds.{IsLawful, IsSized}
 use Rattle.bump_core.proofs.worlds.Sizes.{after_sizes}
 use Rattle.bump_core.proofs.events.Runs.{by_step, by_run}
 use Rattle.bump_core.proofs.events.LawfulHolds.{after_load, after_take, after_release}

@@ -16,13 +16,13 @@ use Rattle.bump_core.specs.Headline.{moves_for}
 use Rattle.bump_rules.specs.Lawful.{bit}
 use Rattle.bump_rules.specs.Lives.{is_same}
 use Rattle.bump_rules.specs.Rings.{aboard, bump_applied, numbered_from}
-use Rattle.bump_state.specs.State.{State, ClassState, WorkerState, class_at, worker_at, class_of, no_class, new_worker}
+use Rattle.model_state.specs.State.{State, ClassState, WorkerState, class_at, worker_at, class_of, no_class, new_worker}
 use Rattle.bump_rules.specs.Totals.{how_many}
-use Rattle.bump_state.specs.Worlds.{is_of_class, IsLawful}
+use Rattle.model_state.specs.Worlds.{is_of_class, IsLawful}
 use Rattle.bump_rules.proofs.Counted.{contained_counted, total_of_none, total_at_most_one}
 use Rattle.bump_rules.proofs.Laws.{bit_at_most}
 use Rattle.bump_rules.proofs.ToldMoves.{told_apart, told_below, told_once, told_never, told_shows}
-use Rattle.bump_state.proofs.LawfulStates.{same_life, same_lives}
+use Rattle.model_state.proofs.LawfulStates.{same_life, same_lives}
 
 -- a number is not two numbers
 one_of_two : (n j k : ℕ) → j ≢ k → bit ((n == j) && true) + bit ((n == k) && true) ≤ 1

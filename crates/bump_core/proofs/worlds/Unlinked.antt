@@ -4,11 +4,11 @@ use Rattle.bump_rules.specs.declared.places.Place.TheVariants.{Dying, Unused}
 use Rattle.bump_rules.specs.Lives.{life}
 use Rattle.bump_rules.specs.Totals.{how_many}
 use Rattle.bump_rules.specs.Entries.{is_unlink_of}
-use Rattle.bump_state.specs.State.{State, head_at, class_at, class_of}
-use Rattle.bump_state.specs.Worlds.{references, place, IsLawful}
+use Rattle.model_state.specs.State.{State, head_at, class_at, class_of}
+use Rattle.model_state.specs.Worlds.{references, place, IsLawful}
 use Rattle.bump_rules.proofs.Laws.{dying_where_unlinked}
 use Rattle.bump_rules.proofs.Unlinks.{unlinked_where_dying}
-use Rattle.bump_state.proofs.LawfulStates.{referred_current, referred_used}
+use Rattle.model_state.proofs.LawfulStates.{referred_current, referred_used}
 
 -- UNUSED is not DYING
 unused_not_dying : Unused ≢ Dying

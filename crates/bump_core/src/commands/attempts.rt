@@ -4,26 +4,26 @@ ghost use Rattle.bump_core.specs.Commands.{attempt, room_at, dropped_at};
 ghost use Rattle.bump_rules.specs.Accounts.{counted};
 ghost use Rattle.bump_rules.specs.Tables.{attempted_of};
 ghost use Rattle.bump_rules.specs.Rings.{most_attempts};
-ghost use Rattle.bump_state.specs.State.{worker_at, with_worker};
-ghost use Rattle.bump_state.specs.Views.{state_of};
-ghost use Rattle.bump_state.specs.Worlds.{IsLawful};
+ghost use Rattle.model_state.specs.State.{worker_at, with_worker};
+ghost use Rattle.model_state.specs.Views.{state_of};
+ghost use Rattle.model_state.specs.Worlds.{IsLawful};
 
 use bump_rules::{Accounts, Dropped, Head, ItemId, Room, Touch};
-use bump_state::WorldParts;
+use model_state::WorldState;
 use std::alloc::AllocError;
 
 // The worker's attempt ends with a drop, which leaves the item as it was.
-fn count_drop(parts: &mut WorldParts, worker: u32, dropped: Dropped)
-    requires worker { worker < length (state_of parts.old).workers }
-    requires room { (worker_at (state_of parts.old) worker).accounts.attempted < most_attempts }
-    requires lawful { IsLawful (state_of parts.old) }
-    ensures { state_of parts.new ≡
-        with_worker (state_of parts.old) worker (record (worker_at (state_of parts.old) worker) {
-          accounts = counted (Some dropped) (worker_at (state_of parts.old) worker).accounts;
+fn count_drop(inside: &mut WorldState, worker: u32, dropped: Dropped)
+    requires worker { worker < length (state_of inside.old).workers }
+    requires room { (worker_at (state_of inside.old) worker).accounts.attempted < most_attempts }
+    requires lawful { IsLawful (state_of inside.old) }
+    ensures { state_of inside.new ≡
+        with_worker (state_of inside.old) worker (record (worker_at (state_of inside.old) worker) {
+          accounts = counted (Some dropped) (worker_at (state_of inside.old) worker).accounts;
         }) }
 {
-    let hand = parts.hand(worker);
-    let accounts = parts.accounts(worker);
+    let hand = inside.hand(worker);
+    let accounts = inside.accounts(worker);
     let attempted = accounts.attempted + 1;
     let after = match dropped {
         Dropped::Full => Accounts {
@@ -42,16 +42,16 @@ fn count_drop(parts: &mut WorldParts, worker: u32, dropped: Dropped)
             ..accounts
         },
     };
-    parts.set_hand(worker, hand, after);
+    inside.set_hand(worker, hand, after);
 }
 
 // Whether the worker's ring shows room.
-fn room(parts: &WorldParts, worker: u32) -> Room
-    requires worker { worker < length (state_of parts.now).workers }
-    requires lawful { IsLawful (state_of parts.now) }
-    ensures { result ≡ room_at (state_of parts.now) worker }
+fn room(inside: &WorldState, worker: u32) -> Room
+    requires worker { worker < length (state_of inside.now).workers }
+    requires lawful { IsLawful (state_of inside.now) }
+    ensures { result ≡ room_at (state_of inside.now) worker }
 {
-    if parts.waiting(worker) < parts.capacity as usize {
+    if inside.waiting(worker) < inside.capacity as usize {
         Room::Known
     } else {
         Room::Unknown
@@ -59,28 +59,28 @@ fn room(parts: &WorldParts, worker: u32) -> Room
 }
 
 /// A bump of a held item is attempted.
-pub fn attempt(parts: &mut WorldParts, worker: u32, life: ItemId) -> Result<Touch, AllocError>
-    requires worker { worker < length (state_of parts.old).workers }
-    requires chunk { life.chunk < length (state_of parts.old).chunks }
-    requires room { (worker_at (state_of parts.old) worker).accounts.attempted < most_attempts }
-    requires lawful { IsLawful (state_of parts.old) }
-    ensures ok { OnOk result (state_of parts.new ≡
-        attempt (state_of parts.old) worker life (dropped_at (state_of parts.old) worker life)) }
+pub fn attempt(inside: &mut WorldState, worker: u32, life: ItemId) -> Result<Touch, AllocError>
+    requires worker { worker < length (state_of inside.old).workers }
+    requires chunk { life.chunk < length (state_of inside.old).chunks }
+    requires room { (worker_at (state_of inside.old) worker).accounts.attempted < most_attempts }
+    requires lawful { IsLawful (state_of inside.old) }
+    ensures ok { OnOk result (state_of inside.new ≡
+        attempt (state_of inside.old) worker life (dropped_at (state_of inside.old) worker life)) }
     ensures answer { IfOk result (λ t. t ≡
-        attempted_of (dropped_at (state_of parts.old) worker life)
-        (length (worker_at (state_of parts.old) worker).sent)) }
-    ensures err { OnErr result (state_of parts.new ≡ state_of parts.old) }
-    ensures memory { OnErr result (dropped_at (state_of parts.old) worker life ≡ None) }
+        attempted_of (dropped_at (state_of inside.old) worker life)
+        (length (worker_at (state_of inside.old) worker).sent)) }
+    ensures err { OnErr result (state_of inside.new ≡ state_of inside.old) }
+    ensures memory { OnErr result (dropped_at (state_of inside.old) worker life ≡ None) }
 {
-    let head = parts.head(life.chunk);
+    let head = inside.head(life.chunk);
     // nothing comes between the events of a command, so no exchange fails
-    if let Some(dropped) = head.dropped(parts.refs_limit, 0, room(parts, worker)) {
-        count_drop(parts, worker, dropped);
+    if let Some(dropped) = head.dropped(inside.refs_limit, 0, room(inside, worker)) {
+        count_drop(inside, worker, dropped);
         return Ok(Touch::Dropped(dropped));
     }
-    let accounts = parts.accounts(worker);
-    let number = parts.sent_bumps(worker).len() as u64;
-    parts.queue(
+    let accounts = inside.accounts(worker);
+    let number = inside.sent_bumps(worker).len() as u64;
+    inside.queue(
         worker,
         life,
         Accounts {
@@ -89,7 +89,7 @@ pub fn attempt(parts: &mut WorldParts, worker: u32, life: ItemId) -> Result<Touc
             ..accounts
         },
     )?;
-    parts.set_head(
+    inside.set_head(
         life.chunk,
         Head {
             active: true,

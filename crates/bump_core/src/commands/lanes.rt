@@ -1,13 +1,13 @@
 //! The command of a lane: the next bump is applied at once, by the update table.
 ghost use Rattle.std.specs.Prelude.{◌≡◌, ◌<◌, [], ◌∷◌, ◌++◌, IfSome, IfOk, OnOk, OnErr, Some, false, length};
-ghost use Rattle.bump_state.specs.State.{class_at, class_of, head_at, worker_at, with_worker};
+ghost use Rattle.model_state.specs.State.{class_at, class_of, head_at, worker_at, with_worker};
 ghost use Rattle.bump_rules.specs.Lanes.{applied_bump, is_half_made};
-ghost use Rattle.bump_state.specs.Events.{next_bump};
+ghost use Rattle.model_state.specs.Events.{next_bump};
 ghost use Rattle.bump_core.specs.Commands.{Commands, bump_next, bumped_chunk, bumped_worker, bumped_lists, apply_bump};
 ghost use Rattle.bump_core.specs.Commands.{entry_next};
-ghost use Rattle.bump_state.specs.Views.{state_of};
-ghost use Rattle.bump_state.specs.Workers.{HasRoomToApply};
-ghost use Rattle.bump_state.specs.Worlds.{IsLawful};
+ghost use Rattle.model_state.specs.Views.{state_of};
+ghost use Rattle.model_state.specs.Workers.{HasRoomToApply};
+ghost use Rattle.model_state.specs.Worlds.{IsLawful};
 ghost use Rattle.bump_rules.specs.declared.commands.Command.TheVariants as command;
 ghost use Rattle.bump_rules.specs.declared.lanes.LaneStage.TheVariants as lane;
 ghost use Rattle.bump_rules.specs.declared.bumps.Outcome.TheVariants.{Moved, Gone};
@@ -17,7 +17,7 @@ use bump_rules::{
     Answer, Applied, AppliedBump, Bump, Cause, Change, Ended, Entry, Head, LaneStage, Outcome,
     Refused, Segment,
 };
-use bump_state::{Chunk, WorldParts};
+use model_state::{Chunk, WorldState};
 use std::alloc::AllocError;
 
 // The chunk of a bump that was applied: the bump's reference is given back.
@@ -45,14 +45,14 @@ fn bumped(chunk: Chunk, now: u64, outcome: Outcome) -> Chunk
 }
 
 // The bump that a lane applies next: the one aboard, or else the first that waits.
-fn bump_of(parts: &WorldParts, worker: u32) -> Option<Bump>
-    requires { worker < length (state_of parts.now).workers }
-    ensures { result ≡ bump_next (worker_at (state_of parts.now) worker) }
+fn bump_of(inside: &WorldState, worker: u32) -> Option<Bump>
+    requires { worker < length (state_of inside.now).workers }
+    ensures { result ≡ bump_next (worker_at (state_of inside.now) worker) }
 {
-    match parts.lane(worker) {
+    match inside.lane(worker) {
         LaneStage::Empty => {
-            let number = parts.received_bumps(worker).len() as u64;
-            match parts.next_bump(worker) {
+            let number = inside.received_bumps(worker).len() as u64;
+            match inside.next_bump(worker) {
                 Some(life) => Some(Bump { number, life }),
                 None => None,
             }
@@ -63,49 +63,49 @@ fn bump_of(parts: &WorldParts, worker: u32) -> Option<Bump>
 }
 
 // The same, with its chunk in range.
-fn bump_next(parts: &WorldParts, worker: u32) -> Option<Bump>
-    requires worker { worker < length (state_of parts.now).workers }
-    requires lawful { IsLawful (state_of parts.now) }
-    ensures bump { result ≡ bump_next (worker_at (state_of parts.now) worker) }
-    ensures chunk { IfSome result (λ b. b.life.chunk < length (state_of parts.now).chunks) }
+fn bump_next(inside: &WorldState, worker: u32) -> Option<Bump>
+    requires worker { worker < length (state_of inside.now).workers }
+    requires lawful { IsLawful (state_of inside.now) }
+    ensures bump { result ≡ bump_next (worker_at (state_of inside.now) worker) }
+    ensures chunk { IfSome result (λ b. b.life.chunk < length (state_of inside.now).chunks) }
 {
-    bump_of(parts, worker)
+    bump_of(inside, worker)
 }
 
 // A lane is done with a bump.
-fn finish(parts: &mut WorldParts, worker: u32, bump: Bump, outcome: Outcome)
-    requires worker { worker < length (state_of parts.old).workers }
-    requires room { HasRoomToApply parts.old.workers worker }
-    requires next { bump_next (worker_at (state_of parts.old) worker) ≡ Some bump }
-    ensures { state_of parts.new ≡
-        with_worker (state_of parts.old) worker (bumped_worker (worker_at (state_of parts.old) worker) bump outcome) }
+fn finish(inside: &mut WorldState, worker: u32, bump: Bump, outcome: Outcome)
+    requires worker { worker < length (state_of inside.old).workers }
+    requires room { HasRoomToApply inside.old.workers worker }
+    requires next { bump_next (worker_at (state_of inside.old) worker) ≡ Some bump }
+    ensures { state_of inside.new ≡
+        with_worker (state_of inside.old) worker (bumped_worker (worker_at (state_of inside.old) worker) bump outcome) }
 {
-    match parts.lane(worker) {
-        LaneStage::Empty => parts.finish_taken(worker, bump, outcome),
+    match inside.lane(worker) {
+        LaneStage::Empty => inside.finish_taken(worker, bump, outcome),
         LaneStage::Carrying(_)
         | LaneStage::Tried(_)
         | LaneStage::Cleared(_, _)
-        | LaneStage::Moved(_) => { parts.finish_aboard(worker, bump, outcome) }
+        | LaneStage::Moved(_) => { inside.finish_aboard(worker, bump, outcome) }
     }
 }
 
 // The lists of the bump's class: its item is moved, or its chunk is free.
 fn change_for(
-    parts: &mut WorldParts,
+    inside: &mut WorldState,
     worker: u32,
     bump: Bump,
     outcome: Outcome,
     ended: Ended,
 ) -> Result<(), AllocError>
-    requires chunk { bump.life.chunk < length (state_of parts.old).chunks }
-    requires lawful { IsLawful (state_of parts.old) }
-    ensures ok { OnOk result (state_of parts.new ≡ bumped_lists (state_of parts.old) worker bump outcome ended) }
-    ensures err { OnErr result (state_of parts.new ≡ state_of parts.old) }
-    ensures workers { parts.new.workers ≡ parts.old.workers }
+    requires chunk { bump.life.chunk < length (state_of inside.old).chunks }
+    requires lawful { IsLawful (state_of inside.old) }
+    ensures ok { OnOk result (state_of inside.new ≡ bumped_lists (state_of inside.old) worker bump outcome ended) }
+    ensures err { OnErr result (state_of inside.new ≡ state_of inside.old) }
+    ensures workers { inside.new.workers ≡ inside.old.workers }
 {
-    let class = parts.class_of(bump.life.chunk);
+    let class = inside.class_of(bump.life.chunk);
     match (outcome, ended) {
-        (Outcome::Moved, _) => parts.change_class(
+        (Outcome::Moved, _) => inside.change_chunk(
             class,
             Change::Moved(
                 bump.life,
@@ -114,28 +114,28 @@ fn change_for(
                 Cause::Bump(worker, bump.number),
             ),
         ),
-        (Outcome::Gone, Ended::Freed) => parts.change_class(class, Change::freed(bump.life)),
+        (Outcome::Gone, Ended::Freed) => inside.free_chunk(class, bump.life),
         _ => Ok(()),
     }
 }
 
 // Applies a bump.
-fn apply(parts: &mut WorldParts, worker: u32, now: u64, bump: Bump) -> Result<Entry, AllocError>
-    requires worker { worker < length (state_of parts.old).workers }
-    requires lawful { IsLawful (state_of parts.old) }
-    requires next { bump_next (worker_at (state_of parts.old) worker) ≡ Some bump }
-    requires chunk { bump.life.chunk < length (state_of parts.old).chunks }
-    ensures ok { OnOk result (state_of parts.new ≡ apply_bump (state_of parts.old) worker now bump) }
-    ensures entry { IfOk result (λ e. e ≡ entry_next (state_of parts.old) bump) }
-    ensures err { OnErr result (state_of parts.new ≡ state_of parts.old) }
+fn apply(inside: &mut WorldState, worker: u32, now: u64, bump: Bump) -> Result<Entry, AllocError>
+    requires worker { worker < length (state_of inside.old).workers }
+    requires lawful { IsLawful (state_of inside.old) }
+    requires next { bump_next (worker_at (state_of inside.old) worker) ≡ Some bump }
+    requires chunk { bump.life.chunk < length (state_of inside.old).chunks }
+    ensures ok { OnOk result (state_of inside.new ≡ apply_bump (state_of inside.old) worker now bump) }
+    ensures entry { IfOk result (λ e. e ≡ entry_next (state_of inside.old) bump) }
+    ensures err { OnErr result (state_of inside.new ≡ state_of inside.old) }
 {
-    let chunk = parts.chunk(bump.life.chunk);
+    let chunk = inside.chunk(bump.life.chunk);
     let outcome = chunk.head.outcome(chunk.head);
     let ended = chunk.head.one_fewer().ended();
-    parts.reserve_applied(worker)?;
-    change_for(parts, worker, bump, outcome, ended)?;
-    finish(parts, worker, bump, outcome);
-    parts.set_chunk(bump.life.chunk, bumped(chunk, now, outcome));
+    inside.reserve_applied(worker)?;
+    change_for(inside, worker, bump, outcome, ended)?;
+    finish(inside, worker, bump, outcome);
+    inside.set_chunk(bump.life.chunk, bumped(chunk, now, outcome));
     let applied = match outcome {
         Outcome::Moved => Applied::Moved,
         Outcome::TimeOnly => Applied::TimeOnly,
@@ -149,19 +149,19 @@ fn apply(parts: &mut WorldParts, worker: u32, now: u64, bump: Bump) -> Result<En
 }
 
 /// Applies the next bump of a worker.
-pub fn call_next(parts: &mut WorldParts, worker: u32, now: u64) -> Result<Answer, Refused>
-    requires { IsLawful (state_of parts.old) }
-    ensures { Commands (state_of parts.old) (command.Next worker now) (state_of parts.new) result }
+pub fn call_next(inside: &mut WorldState, worker: u32, now: u64) -> Result<Answer, Refused>
+    requires { IsLawful (state_of inside.old) }
+    ensures { Commands (state_of inside.old) (command.Next worker now) (state_of inside.new) result }
 {
-    if !parts.has_worker(worker) || parts.lane(worker).is_half_made() {
+    if !inside.has_worker(worker) || inside.lane(worker).is_half_made() {
         return Err(Refused::NotEnabled);
     }
-    let Some(bump) = bump_next(parts, worker) else {
+    let Some(bump) = bump_next(inside, worker) else {
         return Ok(Answer::Nothing);
     };
-    if parts.is_under_application(parts.class_of(bump.life.chunk)) {
+    if inside.is_under_application(inside.class_of(bump.life.chunk)) {
         return Err(Refused::NotEnabled);
     }
-    let entry = apply(parts, worker, now, bump)?;
+    let entry = apply(inside, worker, now, bump)?;
     Ok(Answer::Bumped(entry))
 }

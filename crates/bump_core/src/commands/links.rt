@@ -1,42 +1,41 @@
 //! The commands of a link: an item is stored at once, in HOT or in TEMP.
 ghost use Rattle.std.specs.Prelude.{◌≡◌};
 ghost use Rattle.bump_core.specs.Commands.{Stores};
-ghost use Rattle.bump_state.specs.Views.{state_of};
-ghost use Rattle.bump_state.specs.Worlds.{IsLawful};
+ghost use Rattle.model_state.specs.Views.{state_of};
+ghost use Rattle.model_state.specs.Worlds.{IsLawful};
 
-use bump_rules::{Answer, Change, Head, ItemId, Refused, Start};
-use bump_state::{Chunk, WorldParts};
+use bump_rules::{Answer, ItemId, Refused, Start};
+use model_state::{Chunk, WorldState};
 
 /// Stores an item in a class, where it begins.
 pub fn call_link(
-    parts: &mut WorldParts,
+    inside: &mut WorldState,
     start: Start,
     class: u32,
     label: u64,
     now: u64,
 ) -> Result<Answer, Refused>
-    requires { IsLawful (state_of parts.old) }
-    ensures { Stores (state_of parts.old) start class label now (state_of parts.new) result }
+    requires { IsLawful (state_of inside.old) }
+    ensures { Stores (state_of inside.old) start class label now (state_of inside.new) result }
 {
-    if !parts.has_class(class) {
+    if !inside.has_class(class) {
         return Err(Refused::NotEnabled);
     }
-    let Some(next) = parts.next_chunk(class) else {
+    let Some(next) = inside.next_chunk(class) else {
         return Ok(Answer::NoFreeChunk);
     };
-    if parts.is_under_application(class as usize) {
-        return Err(Refused::NotEnabled);
-    }
-    let chunk = parts.chunk(next);
+    let chunk = inside.chunk(next);
     let life = ItemId {
         chunk: next,
         generation: chunk.head.generation + 1,
     };
-    parts.change_class(class as usize, Change::begun(start, life))?;
-    parts.set_chunk(
+    // it alone may be refused, so it comes before the label and the time
+    inside.begin_life(class, start)?;
+    let head = inside.head(next);
+    inside.set_chunk(
         next,
         Chunk {
-            head: Head::after_link(start, life.generation),
+            head,
             time: now,
             label,
             ..chunk

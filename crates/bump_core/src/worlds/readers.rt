@@ -1,10 +1,10 @@
 //! What the World tells of itself.
 ghost use Rattle.std.specs.Prelude.{◌≡◌, ◌<◌, All, length};
 ghost use Rattle.bump_links.specs.Lists.{last_of};
-ghost use Rattle.bump_state.specs.State.{head_at, is_open};
+ghost use Rattle.model_state.specs.State.{head_at, is_open};
 ghost use Rattle.bump_core.specs.Headline.{Headline};
 ghost use Rattle.bump_rules.specs.Entries.{moves_of};
-ghost use Rattle.bump_state.specs.Worlds.{IsLawful};
+ghost use Rattle.model_state.specs.Worlds.{IsLawful};
 ghost use Rattle.bump_core.specs.Readers.{class_list, history_of, time_of, label_of, holds_at, accounts_of, sent_of};
 ghost use Rattle.bump_core.specs.Readers.{received_of, applied_of, limits_of};
 
@@ -16,35 +16,35 @@ impl World {
     pub fn classes(&self) -> u32
         ensures { result ≡ length self.now.classes }
     {
-        self.parts.classes.len() as u32
+        self.inside.classes.len() as u32
     }
 
     /// How many chunks all classes have together: 1 to 1,000,000. They are numbered from 0.
     pub fn chunks(&self) -> u32
         ensures { result ≡ length self.now.chunks }
     {
-        self.parts.chunks.len() as u32
+        self.inside.chunks.len() as u32
     }
 
     /// How many workers there are: 1 to 64. They are numbered from 0.
     pub fn workers(&self) -> u32
         ensures { result ≡ length self.now.workers }
     {
-        self.parts.workers.len()
+        self.inside.workers.len()
     }
 
     /// How many bumps a ring has room for: 1 to 65,536.
     pub fn capacity(&self) -> u32
         ensures { result ≡ self.now.capacity }
     {
-        self.parts.capacity
+        self.inside.capacity
     }
 
     /// The limit of a reference count: 2 to 1,048,575.
     pub fn refs_limit(&self) -> u32
         ensures { result ≡ self.now.refs_limit }
     {
-        self.parts.refs_limit
+        self.inside.refs_limit
     }
 
     /// The limits of a class: a pull takes from HOT where it has more items than the first, and from WARM where it
@@ -53,7 +53,7 @@ impl World {
         requires { class < length self.now.classes }
         ensures { result ≡ limits_of self.now class }
     {
-        let class = &self.parts.classes[class as usize];
+        let class = &self.inside.classes[class as usize];
         (class.hot_limit, class.warm_limit)
     }
 
@@ -62,7 +62,7 @@ impl World {
         requires { worker < length self.now.workers }
         ensures { result ≡ is_open self.now worker }
     {
-        self.parts.is_open(worker)
+        self.inside.is_open(worker)
     }
 
     /// The promise, for whoever holds a World: it is lawful at every moment. Does nothing.
@@ -70,7 +70,7 @@ impl World {
         ensures lawful { IsLawful self.now }
         ensures headline { Headline self.now }
     {
-        let _ = &self.parts;
+        let _ = &self.inside;
     }
 
     /// The chunks of a class's list, front first. The class is one of the configuration's. It takes no memory, and the
@@ -80,7 +80,7 @@ impl World {
         ensures chunks { result ≡ class_list self.now class place }
         ensures in_range { All (λ c. c < length self.now.chunks) result }
     {
-        self.parts.list(class, place)
+        self.inside.list(class, place)
     }
 
     /// The last chunk of a class's list, or `None` where it is empty: the one that a pull looks at in HOT, WARM or
@@ -89,7 +89,7 @@ impl World {
         requires { class < length self.now.classes }
         ensures { result ≡ last_of (class_list self.now class place) }
     {
-        self.parts.list_back(class, place)
+        self.inside.list_back(class, place)
     }
 
     /// How many chunks a class's list has. The class is one of the configuration's. It takes constant time.
@@ -97,7 +97,7 @@ impl World {
         requires { class < length self.now.classes }
         ensures { result ≡ length (class_list self.now class place) }
     {
-        self.parts.classes[class as usize].lists.len(place)
+        self.inside.classes[class as usize].lists.len(place)
     }
 
     /// What happened to the lists of a class, in order: they are its replay. The class is one of the
@@ -106,7 +106,7 @@ impl World {
         requires { class < length self.now.classes }
         ensures { result.now ≡ history_of self.now class }
     {
-        self.parts.classes[class as usize].history.as_slice()
+        self.inside.classes[class as usize].history.as_slice()
     }
 
     /// How many moves for bumps of a worker the history of a class has. Both are of the configuration's. It takes no
@@ -130,7 +130,7 @@ impl World {
         requires { chunk < length self.now.chunks }
         ensures { result ≡ head_at self.now chunk }
     {
-        self.parts.head(chunk)
+        self.inside.head(chunk)
     }
 
     /// A chunk's time, in the caller's ticks. The chunk is one of the configuration's.
@@ -138,7 +138,7 @@ impl World {
         requires { chunk < length self.now.chunks }
         ensures { result ≡ time_of self.now chunk }
     {
-        self.parts.chunk(chunk).time
+        self.inside.chunk(chunk).time
     }
 
     /// A chunk's label. The chunk is one of the configuration's.
@@ -146,7 +146,7 @@ impl World {
         requires { chunk < length self.now.chunks }
         ensures { result ≡ label_of self.now chunk }
     {
-        self.parts.chunk(chunk).label
+        self.inside.chunk(chunk).label
     }
 
     /// How many holds a chunk's life has. The chunk is one of the configuration's.
@@ -154,7 +154,7 @@ impl World {
         requires { chunk < length self.now.chunks }
         ensures { result ≡ holds_at self.now chunk }
     {
-        self.parts.chunk(chunk).holds
+        self.inside.chunk(chunk).holds
     }
 
     /// A worker's counts of bumps. The worker is one of the configuration's.
@@ -162,7 +162,7 @@ impl World {
         requires { worker < length self.now.workers }
         ensures { result ≡ accounts_of self.now worker }
     {
-        self.parts.accounts(worker)
+        self.inside.accounts(worker)
     }
 
     /// The bumps that a worker's ring accepted, in order. The worker is one of the configuration's.
@@ -170,7 +170,7 @@ impl World {
         requires { worker < length self.now.workers }
         ensures { result.now ≡ sent_of self.now worker }
     {
-        self.parts.sent_bumps(worker)
+        self.inside.sent_bumps(worker)
     }
 
     /// The bumps that a worker's lane took, in order. The worker is one of the configuration's.
@@ -178,7 +178,7 @@ impl World {
         requires { worker < length self.now.workers }
         ensures { result.now ≡ received_of self.now worker }
     {
-        self.parts.received_bumps(worker)
+        self.inside.received_bumps(worker)
     }
 
     /// The bumps that a worker's lane applied, in order. The worker is one of the configuration's.
@@ -186,6 +186,6 @@ impl World {
         requires { worker < length self.now.workers }
         ensures { result.now ≡ applied_of self.now worker }
     {
-        self.parts.applied_bumps(worker)
+        self.inside.applied_bumps(worker)
     }
 }

@@ -79,11 +79,3 @@ goes_on c left xs next amid is =
         next = b.next once ∙ ap (λ j. first_of (drop j xs)) behind;
       };
     }
-
--- a walk that has none next is at the end
-pub ended : (left : ℕ) (xs : List ℕ) (next : Option ℕ) → IsAmid xs left next → next ≡ None → last_part left xs ≡ []
-ended left xs next amid is = none (last_part left xs) (sym amid.next ∙ is)
-  where
-    none : (ys : List ℕ) → first_of ys ≡ None → ys ≡ []
-    none [] e = refl
-    none (y ∷ ys) e = absurd (let u : ⊥ = cc in u)

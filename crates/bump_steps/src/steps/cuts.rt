@@ -60,7 +60,7 @@ impl Split<View> for FirstLane {
 }
 
 impl<L: RowLaw> Words<L> {
-    /// Joins another seat to this one, which has the parts of both from then on. The other one may not have taken a
+    /// Joins another seat to this one, which has the sheets of both from then on. The other one may not have taken a
     /// slot.
     pub fn join(&self, seat: &mut Seat, other: Seat)
         requires { (seat.old.table_id ≡ words_id self.now) × (other.table_id ≡ words_id self.now) × (other.me.1 ≡ [])
@@ -71,56 +71,56 @@ impl<L: RowLaw> Words<L> {
         self.table.shared.join_seat::<Both>(seat, other);
     }
 
-    /// Cuts the lanes' parts off the seat, into a seat of their own.
+    /// Cuts the lanes' sheets off the seat, into a seat of their own.
     pub fn part_lanes(&self, seat: &mut Seat) -> Seat
         requires { (seat.old.table_id ≡ words_id self.now) × (0 < (words_id self.now).words) }
         ensures same { (seat.new.table_id ≡ seat.old.table_id) × (seat.new.id ≡ seat.old.id)
             × (result.table_id ≡ seat.old.table_id) }
-        ensures parts { (seat.new.me ≡ (without_lanes seat.old.me.0, seat.old.me.1))
+        ensures sheets { (seat.new.me ≡ (without_lanes seat.old.me.0, seat.old.me.1))
             × (result.me ≡ (lanes_only seat.old.me.0, [])) }
     {
         self.table.shared.split_seat::<LanesOut>(seat)
     }
 
-    /// Cuts the holds' parts off the seat, into a seat of their own.
+    /// Cuts the holds' sheets off the seat, into a seat of their own.
     pub fn part_holds(&self, seat: &mut Seat) -> Seat
         requires { (seat.old.table_id ≡ words_id self.now) × (0 < (words_id self.now).words) }
         ensures same { (seat.new.table_id ≡ seat.old.table_id) × (seat.new.id ≡ seat.old.id)
             × (result.table_id ≡ seat.old.table_id) }
-        ensures parts { (seat.new.me ≡ (without_holds seat.old.me.0, seat.old.me.1))
+        ensures sheets { (seat.new.me ≡ (without_holds seat.old.me.0, seat.old.me.1))
             × (result.me ≡ (holds_only seat.old.me.0, [])) }
     {
         self.table.shared.split_seat::<HoldsOut>(seat)
     }
 
-    /// Cuts the first class's part off the seat, into a seat of its own.
+    /// Cuts the first class's sheet off the seat, into a seat of its own.
     pub fn part_class(&self, seat: &mut Seat) -> Seat
         requires { (seat.old.table_id ≡ words_id self.now) × (0 < (words_id self.now).words) }
         ensures same { (seat.new.table_id ≡ seat.old.table_id) × (seat.new.id ≡ seat.old.id)
             × (result.table_id ≡ seat.old.table_id) }
-        ensures parts { (seat.new.me ≡ (without_class seat.old.me.0, seat.old.me.1))
+        ensures sheets { (seat.new.me ≡ (without_class seat.old.me.0, seat.old.me.1))
             × (result.me ≡ (class_only seat.old.me.0, [])) }
     {
         self.table.shared.split_seat::<FirstClass>(seat)
     }
 
-    /// Cuts the first worker's part off the seat, into a seat of its own.
+    /// Cuts the first worker's sheet off the seat, into a seat of its own.
     pub fn part_worker(&self, seat: &mut Seat) -> Seat
         requires { (seat.old.table_id ≡ words_id self.now) × (0 < (words_id self.now).words) }
         ensures same { (seat.new.table_id ≡ seat.old.table_id) × (seat.new.id ≡ seat.old.id)
             × (result.table_id ≡ seat.old.table_id) }
-        ensures parts { (seat.new.me ≡ (without_worker seat.old.me.0, seat.old.me.1))
+        ensures sheets { (seat.new.me ≡ (without_worker seat.old.me.0, seat.old.me.1))
             × (result.me ≡ (worker_only seat.old.me.0, [])) }
     {
         self.table.shared.split_seat::<FirstWorker>(seat)
     }
 
-    /// Cuts the first lane's part off the seat, into a seat of its own.
+    /// Cuts the first lane's sheet off the seat, into a seat of its own.
     pub fn part_lane(&self, seat: &mut Seat) -> Seat
         requires { (seat.old.table_id ≡ words_id self.now) × (0 < (words_id self.now).words) }
         ensures same { (seat.new.table_id ≡ seat.old.table_id) × (seat.new.id ≡ seat.old.id)
             × (result.table_id ≡ seat.old.table_id) }
-        ensures parts { (seat.new.me ≡ (without_lane seat.old.me.0, seat.old.me.1))
+        ensures sheets { (seat.new.me ≡ (without_lane seat.old.me.0, seat.old.me.1))
             × (result.me ≡ (lane_only seat.old.me.0, [])) }
     {
         self.table.shared.split_seat::<FirstLane>(seat)

@@ -253,7 +253,7 @@ impl<L: RowLaw> Words<L> {
             .load_new_seat::<LoadWithoutSeat<B>>(self.head_at(chunk))
     }
 
-    /// A load of a head word, without a seat. It makes one, which has that load in its list and no part.
+    /// A load of a head word, without a seat. It makes one, which has that load in its list and no sheet.
     pub fn see(&self, chunk: u32) -> (u64, Seat)
         requires { HasChunk (words_id self.now) chunk }
         ensures found { Found result.0 (IsAnyHead (config_of self.now).refs_limit) }

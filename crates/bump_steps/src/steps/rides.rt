@@ -227,7 +227,7 @@ impl<L: RowLaw> Words<L> {
         requires { (seat.old.table_id ≡ words_id self.now) × (0 < (words_id self.now).words) }
         ensures same { (seat.new.table_id ≡ seat.old.table_id) × (seat.new.id ≡ seat.old.id)
             × (result.table_id ≡ seat.old.table_id) }
-        ensures parts { (seat.new.me ≡ (without_ride seat.old.me.0, seat.old.me.1))
+        ensures sheets { (seat.new.me ≡ (without_ride seat.old.me.0, seat.old.me.1))
             × (result.me ≡ (ride_only seat.old.me.0, [])) }
     {
         self.table.shared.split_seat::<RideOut>(seat)

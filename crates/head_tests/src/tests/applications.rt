@@ -3,7 +3,7 @@ ghost use Rattle.std.specs.Prelude.{◌≡◌, IsSome, None, Some, true, false};
 ghost use Rattle.bump_heads.specs.RulesLives.{life as life_of};
 ghost use Rattle.bump_heads.specs.Applying.{carried_by};
 ghost use Rattle.bump_heads.specs.Applications.{class_at_rest};
-ghost use Rattle.bump_heads.specs.Rule.{lane_part};
+ghost use Rattle.bump_heads.specs.Rule.{lane_sheet};
 ghost use Rattle.bump_heads.specs.ReadersSeats.{row_in};
 ghost use Rattle.bump_heads.specs.Taking.{whole_hold};
 ghost use Rattle.bump_heads.specs.Making.{lane_seen};
@@ -51,11 +51,11 @@ fn apply_front<N: Name>(
     now: u64,
 ) -> Applied
     requires alone { class.old.lane ≡ None }
-    requires own { owns bump.life.chunk class.old.part ≡ true }
+    requires own { owns bump.life.chunk class.old.sheet ≡ true }
     requires carries { carried_by lane.old ≡ Some bump }
     ensures alone { class.new.lane ≡ None }
     ensures whole { IsSome lane.new }
-    ensures gone { result.tried.linked ≡ false → class.new.part ≡ class_at_rest class.old.part }
+    ensures gone { result.tried.linked ≡ false → class.new.sheet ≡ class_at_rest class.old.sheet }
 {
     let chunk = bump.life.chunk;
     let place = class.head_at(chunk);
@@ -94,11 +94,11 @@ fn carry<N: Name>(
     lane: &mut LaneSeat<N>,
 ) -> Hold<N>
     requires new { IsNew heads.now class.old worker.old }
-    requires lane { lane.old ≡ lane_seen (lane_part 0) }
+    requires lane { lane.old ≡ lane_seen (lane_sheet 0) }
     ensures alone { class.new.lane ≡ None }
-    ensures own { owns 0 class.new.part ≡ true }
+    ensures own { owns 0 class.new.sheet ≡ true }
     ensures carries { carried_by lane.new ≡ Some (record { number = 0; life = life_of 0 1 }) }
-    ensures hold { result ≡ whole_hold (life_of 0 1) (row_in result.part) }
+    ensures hold { result ≡ whole_hold (life_of 0 1) (row_in result.sheet) }
 {
     let life = begin_in_cold(class);
     expect_seen(rt, heads, 0, (head(1, "l", Segment::Cold, 1), 1));
@@ -132,7 +132,7 @@ pub fn move_item<N: Name>(
     lane: &mut LaneSeat<N>,
 )
     requires new { IsNew heads.now class.old worker.old }
-    requires lane { lane.old ≡ lane_seen (lane_part 0) }
+    requires lane { lane.old ≡ lane_seen (lane_sheet 0) }
 {
     let hold = carry(rt, heads, class, worker, lane);
     let bump = Bump {

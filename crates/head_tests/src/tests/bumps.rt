@@ -19,10 +19,10 @@ use std::test::Fail;
 /// The first life of chunk 0 begins, at time 1, and goes to COLD.
 pub fn begin_in_cold<N: Name>(class: &mut ClassSeat<N>) -> ItemId
     requires alone { class.old.lane ≡ None }
-    requires first { class.old.part ≡ fresh_class }
+    requires first { class.old.sheet ≡ fresh_class }
     ensures alone { class.new.lane ≡ None }
-    ensures own { owns 0 class.new.part ≡ true }
-    ensures stands { standing class.new.part 0 ≡ (place.Cold, 1) }
+    ensures own { owns 0 class.new.sheet ≡ true }
+    ensures stands { standing class.new.sheet 0 ≡ (place.Cold, 1) }
     ensures life { result ≡ life_of 0 1 }
 {
     let place = class.head_at(0);
@@ -41,11 +41,11 @@ pub fn attempt<N: Name>(
     hold: &mut Hold<N>,
 )
     requires ready { MayHit heads.now worker.old hold.old }
-    ensures trying { worker.new.part.hand ≡ Trying hold.old.life }
-    ensures joined { worker.new.hold ≡ Some (new_hold hold.old.life (row_in hold.old.part)) }
-    ensures accepted { worker.new.part.accounts.accepted ≡ 0 }
-    ensures number { worker.new.part.worker ≡ worker.old.part.worker }
-    ensures hollow { hold.new ≡ record hold.old { part = None } }
+    ensures trying { worker.new.sheet.hand ≡ Trying hold.old.life }
+    ensures joined { worker.new.hold ≡ Some (new_hold hold.old.life (row_in hold.old.sheet)) }
+    ensures accepted { worker.new.sheet.accounts.accepted ≡ 0 }
+    ensures number { worker.new.sheet.worker ≡ worker.old.sheet.worker }
+    ensures hollow { hold.new ≡ record hold.old { sheet = None } }
 {
     let life = hold.life();
     let place = hold.place();
@@ -70,7 +70,7 @@ pub fn send_off<N: Name>(
     hold: &mut Hold<N>,
 ) -> Rider<N>
     requires ready { MayHit heads.now worker.old hold.old }
-    ensures rider { result ≡ record { worker = worker.old.part.worker; number = 0; life = hold.old.life } }
+    ensures rider { result ≡ record { worker = worker.old.sheet.worker; number = 0; life = hold.old.life } }
     ensures hold { hold.new ≡ hold.old }
 {
     attempt(rt, heads, worker, hold);

@@ -20,7 +20,7 @@ pub fn mark_in_hot<N: Name>(
     hold: &mut Hold<N>,
 )
     requires ready { MayHit heads.now worker.old hold.old }
-    ensures idle { worker.new.part.hand ≡ Idle }
+    ensures idle { worker.new.sheet.hand ≡ Idle }
     ensures alone { worker.new.hold ≡ None }
     ensures hold { hold.new ≡ hold.old }
 {

@@ -26,13 +26,17 @@ fn open_in<N: Name>(
     requires name { blank.table ≡ N.table }
     requires config { blank.config ≡ config.now }
 {
-    let Ok(parts) = Heads::<N>::new(alloc, blank, config) else {
+    let Ok(sheets) = Heads::<N>::new(alloc, blank, config) else {
         return Err("Heads::new");
     };
     let never = head(0, "", Segment::Hot, 0);
-    expect_seen(rt, &parts.heads, 0, (never, 0));
-    expect_seen(rt, &parts.heads, 1, (never, 0));
-    let seats = (parts.classes.len(), parts.workers.len(), parts.lanes.len());
+    expect_seen(rt, &sheets.heads, 0, (never, 0));
+    expect_seen(rt, &sheets.heads, 1, (never, 0));
+    let seats = (
+        sheets.classes.len(),
+        sheets.workers.len(),
+        sheets.lanes.len(),
+    );
     expect(rt, "the seats", &seats, &(1, 1, 1));
     Ok(())
 }

@@ -3,7 +3,7 @@ ghost use Rattle.std.specs.Prelude.{◌≡◌, ◌<◌, None, Some, IfOk, IfSome
 ghost use Rattle.std.specs.Arc.{arc_value};
 ghost use Rattle.bump_rules.specs.declared.hands.Hand.TheVariants.{Idle};
 ghost use Rattle.bump_heads.specs.References.{new_hold};
-ghost use Rattle.bump_heads.specs.Rule.{chunks as all_chunks, lane_part};
+ghost use Rattle.bump_heads.specs.Rule.{chunks as all_chunks, lane_sheet};
 ghost use Rattle.bump_heads.specs.Making.{lane_seen};
 ghost use Rattle.bump_heads.specs.ReadersSeats.{row_in};
 ghost use Rattle.bump_heads.specs.Taking.{whole_hold};
@@ -43,7 +43,7 @@ pub fn open<N: Name>(alloc: Global, blank: Blank, config: &Config) -> Result<Sma
     requires config { blank.config ≡ config.now }
     requires small { IsSmall config.now }
     ensures new { IfOk result (λ s. IsNew (arc_value s.heads) s.class s.worker) }
-    ensures lane { IfOk result (λ s. s.lane ≡ lane_seen (lane_part 0)) }
+    ensures lane { IfOk result (λ s. s.lane ≡ lane_seen (lane_sheet 0)) }
 {
     let HeadParts {
         heads,
@@ -87,8 +87,8 @@ pub fn refusal<N: Name>(
     requires alone { worker.old.hold ≡ None }
     requires chunk { life.chunk < all_chunks heads.now }
     ensures hold { worker.new.hold ≡ None }
-    ensures hand { worker.new.part.hand ≡ worker.old.part.hand }
-    ensures accounts { worker.new.part.accounts ≡ worker.old.part.accounts }
+    ensures hand { worker.new.sheet.hand ≡ worker.old.sheet.hand }
+    ensures accounts { worker.new.sheet.accounts ≡ worker.old.sheet.accounts }
 {
     match heads.take(worker, life) {
         Ok(hold) => {
@@ -101,9 +101,9 @@ pub fn refusal<N: Name>(
 
 /// Splits a hold that looked at no head off the worker's seat, to which it was joined.
 pub fn let_out<N: Name>(heads: &Heads<N>, worker: &mut WorkerSeat<N>, hold: &mut Hold<N>)
-    requires idle { worker.old.part.hand ≡ Idle }
+    requires idle { worker.old.sheet.hand ≡ Idle }
     requires joined { worker.old.hold ≡ Some (new_hold hold.old.life (row_in worker.old.hold)) }
-    requires hollow { hold.old.part ≡ None }
+    requires hollow { hold.old.sheet ≡ None }
     ensures worker { worker.new ≡ record worker.old { hold = None } }
     ensures hold { hold.new ≡ whole_hold hold.old.life (row_in worker.old.hold) }
 {

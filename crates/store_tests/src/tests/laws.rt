@@ -2,10 +2,10 @@
 ghost use Rattle.std.specs.Prelude.{◌≡◌, [], ◌∷◌, IfSome};
 
 use super::expecting::expect;
-use bump_parts::StoreParts;
 use bump_store::{
     Blank, Book, ClassConfig, Config, ItemId, LinkRefusal, Name, ReaderHeads, RowLaw, Worker,
 };
+use bump_unlocked::UnlockedStore;
 use std::alloc::Global;
 use std::marker::Brand;
 use std::process::Abort;
@@ -60,11 +60,11 @@ fn run<N: Name, R: Abort>(
     requires config { blank.config ≡ config.now }
     requires wide { N.table.slots ≡ 1 }
 {
-    let mut parts = StoreParts::<N, Repeats>::open(alloc, blank, config)?;
-    let mut book = parts.books.pop().expect(rt, "there is a class");
-    let mut worker = parts.workers.pop().expect(rt, "there is a worker");
+    let mut sheets = UnlockedStore::<N, Repeats>::open(alloc, blank, config)?;
+    let mut book = sheets.books.pop().expect(rt, "there is a class");
+    let mut worker = sheets.workers.pop().expect(rt, "there is a worker");
     let id = link(&mut book, 7, 1).expect(rt, "a chunk is free");
-    let both = read(&mut worker, &parts.heads, id.chunk);
+    let both = read(&mut worker, &sheets.heads, id.chunk);
     expect(rt, "the words", &both, &Some((7, 7)));
     Ok(())
 }

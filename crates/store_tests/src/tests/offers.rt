@@ -3,8 +3,8 @@ ghost use Rattle.std.specs.Prelude.{◌≡◌, ◌+◌, ◌<◌, Some, length, I
 ghost use Rattle.bump_rules.specs.declared.hands.Hand.TheVariants.{Idle, Trying};
 ghost use Rattle.bump_rules.specs.Rings.{most_attempts};
 ghost use Rattle.bump_steps.specs.Places.{head_place};
-ghost use Rattle.bump_store.specs.Rule.{chunks as all_chunks, worker_part, no_accounts};
-ghost use Rattle.bump_steps.specs.declared.views.HoldPart.{HoldPart as TheHoldPart};
+ghost use Rattle.bump_store.specs.Rule.{chunks as all_chunks, worker_sheet, no_accounts};
+ghost use Rattle.bump_steps.specs.declared.views.HoldSheet.{HoldSheet as TheHoldSheet};
 ghost use Rattle.bump_readers.specs.Riding.{ride_of};
 ghost use Rattle.bump_readers.specs.Workers.{worker_seen};
 
@@ -37,14 +37,14 @@ fn attempt<N: Name>(
     place: usize,
 )
     requires place { place ≡ head_place N.table.slots life.chunk }
-    requires held { (h : TheHoldPart) × (seat.old.hold ≡ Some h) × (h.life ≡ life) }
-    requires idle { seat.old.part.hand ≡ Idle }
-    requires attempts { seat.old.part.accounts.attempted < most_attempts }
-    ensures trying { seat.new.part.hand ≡ Trying life }
+    requires held { (h : TheHoldSheet) × (seat.old.hold ≡ Some h) × (h.life ≡ life) }
+    requires idle { seat.old.sheet.hand ≡ Idle }
+    requires attempts { seat.old.sheet.accounts.attempted < most_attempts }
+    ensures trying { seat.new.sheet.hand ≡ Trying life }
     ensures hold { seat.new.hold ≡ seat.old.hold }
-    ensures worker { seat.new.part.worker ≡ seat.old.part.worker }
-    ensures accounts { seat.new.part.accounts ≡ record seat.old.part.accounts {
-      attempted = seat.old.part.accounts.attempted + 1;
+    ensures worker { seat.new.sheet.worker ≡ seat.old.sheet.worker }
+    ensures accounts { seat.new.sheet.accounts ≡ record seat.old.sheet.accounts {
+      attempted = seat.old.sheet.accounts.attempted + 1;
     } }
 {
     heads.mark_fetched(seat, life, place);
@@ -62,14 +62,14 @@ fn send_off<N: Name>(
     place: usize,
 ) -> Rider<N>
     requires place { place ≡ head_place N.table.slots life.chunk }
-    requires held { (h : TheHoldPart) × (seat.old.hold ≡ Some h) × (h.life ≡ life) }
-    requires trying { seat.old.part.hand ≡ Trying life }
-    ensures rider { result ≡ ride_of seat.old seat.old.part.accounts.accepted life }
-    ensures idle { seat.new.part.hand ≡ Idle }
+    requires held { (h : TheHoldSheet) × (seat.old.hold ≡ Some h) × (h.life ≡ life) }
+    requires trying { seat.old.sheet.hand ≡ Trying life }
+    ensures rider { result ≡ ride_of seat.old seat.old.sheet.accounts.accepted life }
+    ensures idle { seat.new.sheet.hand ≡ Idle }
     ensures hold { seat.new.hold ≡ seat.old.hold }
-    ensures worker { seat.new.part.worker ≡ seat.old.part.worker }
-    ensures accounts { seat.new.part.accounts ≡ record seat.old.part.accounts {
-      accepted = seat.old.part.accounts.accepted + 1;
+    ensures worker { seat.new.sheet.worker ≡ seat.old.sheet.worker }
+    ensures accounts { seat.new.sheet.accounts ≡ record seat.old.sheet.accounts {
+      accepted = seat.old.sheet.accounts.accepted + 1;
     } }
 {
     match heads.ride(seat, life, place) {
@@ -87,15 +87,15 @@ fn give_up<N: Name>(
     place: usize,
 )
     requires place { place ≡ head_place N.table.slots life.chunk }
-    requires held { (h : TheHoldPart) × (seat.old.hold ≡ Some h) × (h.life ≡ life) }
-    requires idle { seat.old.part.hand ≡ Idle }
-    requires own { rider.worker ≡ seat.old.part.worker }
+    requires held { (h : TheHoldSheet) × (seat.old.hold ≡ Some h) × (h.life ≡ life) }
+    requires idle { seat.old.sheet.hand ≡ Idle }
+    requires own { rider.worker ≡ seat.old.sheet.worker }
     requires life { rider.life ≡ life }
-    requires last { rider.number + 1 ≡ seat.old.part.accounts.accepted }
-    ensures idle { seat.new.part.hand ≡ Idle }
+    requires last { rider.number + 1 ≡ seat.old.sheet.accounts.accepted }
+    ensures idle { seat.new.sheet.hand ≡ Idle }
     ensures hold { seat.new.hold ≡ seat.old.hold }
-    ensures attempted { seat.new.part.accounts.attempted ≡ seat.old.part.accounts.attempted }
-    ensures accepted { seat.new.part.accounts.accepted ≡ rider.number }
+    ensures attempted { seat.new.sheet.accounts.attempted ≡ seat.old.sheet.accounts.attempted }
+    ensures accepted { seat.new.sheet.accounts.accepted ≡ rider.number }
 {
     heads.rider_back(seat, rider);
     heads.give_back_bump(seat, life, place);
@@ -153,14 +153,14 @@ fn offer<N: Name>(
     number: Option<u64>,
 )
     requires place { place ≡ head_place N.table.slots life.chunk }
-    requires held { (h : TheHoldPart) × (seat.old.hold ≡ Some h) × (h.life ≡ life) }
-    requires idle { seat.old.part.hand ≡ Idle }
-    requires attempts { seat.old.part.accounts.attempted < most_attempts }
-    requires accepted { seat.old.part.accounts.accepted ≡ length sender.old.sent }
-    ensures idle { seat.new.part.hand ≡ Idle }
+    requires held { (h : TheHoldSheet) × (seat.old.hold ≡ Some h) × (h.life ≡ life) }
+    requires idle { seat.old.sheet.hand ≡ Idle }
+    requires attempts { seat.old.sheet.accounts.attempted < most_attempts }
+    requires accepted { seat.old.sheet.accounts.accepted ≡ length sender.old.sent }
+    ensures idle { seat.new.sheet.hand ≡ Idle }
     ensures hold { seat.new.hold ≡ seat.old.hold }
-    ensures accepted { seat.new.part.accounts.accepted ≡ length sender.new.sent }
-    ensures attempted { seat.new.part.accounts.attempted ≡ seat.old.part.accounts.attempted + 1 }
+    ensures accepted { seat.new.sheet.accounts.accepted ≡ length sender.new.sent }
+    ensures attempted { seat.new.sheet.accounts.attempted ≡ seat.old.sheet.accounts.attempted + 1 }
     ensures ring { sender.new.ring ≡ sender.old.ring }
 {
     attempt(rt, heads, seat, life, place);
@@ -188,11 +188,11 @@ fn offer_each<N: Name>(
     place: usize,
 )
     requires place { place ≡ head_place N.table.slots life.chunk }
-    requires held { (h : TheHoldPart) × (seat.old.hold ≡ Some h) × (h.life ≡ life) }
-    requires idle { seat.old.part.hand ≡ Idle }
-    requires none { seat.old.part.accounts ≡ no_accounts }
+    requires held { (h : TheHoldSheet) × (seat.old.hold ≡ Some h) × (h.life ≡ life) }
+    requires idle { seat.old.sheet.hand ≡ Idle }
+    requires none { seat.old.sheet.accounts ≡ no_accounts }
     requires empty { (sender.old.sent ≡ []) × (receiver.old.received ≡ []) }
-    ensures idle { seat.new.part.hand ≡ Idle }
+    ensures idle { seat.new.sheet.hand ≡ Idle }
     ensures hold { seat.new.hold ≡ seat.old.hold }
     ensures rings { (sender.new.ring ≡ sender.old.ring) × (receiver.new.ring ≡ receiver.old.ring) }
 {
@@ -223,7 +223,7 @@ fn hold_and_offer<N: Name>(
     sender: &mut Sender<N>,
     receiver: &mut Receiver<N>,
 )
-    requires new { seat.old ≡ worker_seen (worker_part 0) }
+    requires new { seat.old ≡ worker_seen (worker_sheet 0) }
     requires some { all_chunks heads.now ≡ 1 }
     requires empty { (sender.old.sent ≡ []) × (receiver.old.received ≡ []) }
     ensures rings { (sender.new.ring ≡ sender.old.ring) × (receiver.new.ring ≡ receiver.old.ring) }

@@ -2,7 +2,7 @@
 ghost use Rattle.std.specs.Prelude.{◌≡◌, IfSome, [], ◌∷◌};
 ghost use Rattle.bump_readers.specs.Workers.{worker_seen};
 ghost use Rattle.bump_store.specs.Making.{lane_seen};
-ghost use Rattle.bump_store.specs.Rule.{worker_part, lane_part};
+ghost use Rattle.bump_store.specs.Rule.{worker_sheet, lane_sheet};
 
 use super::refused_memory::{Call, make_again, walk_again};
 use super::rings::{close_ring, cross};
@@ -71,8 +71,8 @@ fn ends_of<N: Name>(
     capacity: u32,
     is_bare: bool,
 ) -> Result<(Worker<N>, End<N>), AllocError>
-    requires workers { workers.items ≡ worker_seen (worker_part 0) ∷ [] }
-    requires lanes { lanes.items ≡ lane_seen (lane_part 0) ∷ [] }
+    requires workers { workers.items ≡ worker_seen (worker_sheet 0) ∷ [] }
+    requires lanes { lanes.items ≡ lane_seen (lane_sheet 0) ∷ [] }
 {
     let mut workers = workers;
     let mut lanes = lanes;
@@ -98,7 +98,7 @@ fn open<N: Name>(
     requires config { blank.config ≡ config.now }
     requires small { (config.now.workers ≡ 1) × (config.now.classes ≡ CLASS ∷ CLASS ∷ []) }
 {
-    let Ok(parts) = Heads::<N>::new(alloc, blank, config) else {
+    let Ok(sheets) = Heads::<N>::new(alloc, blank, config) else {
         return Err("Heads::new");
     };
     let HeadParts {
@@ -106,7 +106,7 @@ fn open<N: Name>(
         mut classes,
         workers,
         lanes,
-    } = parts;
+    } = sheets;
     let Ok((worker, end)) = ends_of(rt, alloc, workers, lanes, config.capacity, is_bare) else {
         return Err("ring");
     };

@@ -4,10 +4,10 @@ ghost use Rattle.std.specs.Prelude.{◌≡◌};
 
 use super::expecting::expect_of;
 use bump_heads::Heads;
-use bump_parts::StoreParts;
 use bump_store::{
     Blank, Book, ClassConfig, Config, Ended, Hold, ItemId, Name, Place, Pulled, Tail, Worker,
 };
+use bump_unlocked::UnlockedStore;
 use std::alloc::{AllocError, Global};
 use std::marker::Brand;
 use std::process::Abort;
@@ -520,12 +520,12 @@ fn play_in<N: Name, R: Abort>(
     requires name { blank.table ≡ N.table }
     requires config { blank.config ≡ config.now }
 {
-    let StoreParts {
+    let UnlockedStore {
         heads,
         mut books,
         mut workers,
         ..
-    } = StoreParts::<N>::open(alloc, blank, config)?;
+    } = UnlockedStore::<N>::open(alloc, blank, config)?;
     let mut side = Side {
         heads,
         book: books.pop().expect(rt, "there is a class"),

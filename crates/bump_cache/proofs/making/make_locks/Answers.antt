@@ -5,7 +5,7 @@ use Rattle.call_log.specs.Blanks.{LogsView}
 use Rattle.call_log.specs.Logs.{LogView}
 use Rattle.bump_cache.specs.States.{PartState}
 use Rattle.bump_cache.proofs.Beginning.{begins_more, begins_new}
-use Rattle.cache_making.proofs.Places.{drop_first}
+use Rattle.cache_config.proofs.Places.{drop_first}
 use Rattle.bump_cache.proofs.making.make_locks.Goals as goal
 
 pub take-log-requires : goal.take-log-requires

@@ -3,7 +3,7 @@ use Rattle.std.proofs.lemmas.List.{append_assoc}
 use Rattle.std.specs.Vec.Iter.{into_iter_items}
 use Rattle.cache_shelf.specs.Shelves.{ShelfView}
 use Rattle.bump_cache.specs.Opening.{IsWide}
-use Rattle.cache_making.proofs.Places.{all_rest}
+use Rattle.cache_config.proofs.Places.{all_rest}
 use Rattle.bump_cache.proofs.making.make_pairs.Goals as goal
 
 pub loop-shelf-preserved : goal.loop-shelf-preserved

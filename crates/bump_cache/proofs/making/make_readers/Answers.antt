@@ -2,9 +2,9 @@ use Rattle.std.proofs.Common.{rules, ◌≡◌, ◌++◌, List, [], ◌∷◌, l
 use Rattle.std.proofs.lemmas.List.{append_assoc}
 use Rattle.std.specs.Vec.Iter.{into_iter_items}
 use Rattle.cache_readers.specs.Readers.{ReaderView}
-use Rattle.cache_making.specs.Choosing.{IsPartCount}
+use Rattle.cache_config.specs.Choosing.{IsPartCount}
 use Rattle.bump_cache.specs.Readers.{CacheReaderView, readers_by}
-use Rattle.cache_making.proofs.Places.{all_rest}
+use Rattle.cache_config.proofs.Places.{all_rest}
 use Rattle.bump_cache.proofs.making.make_readers.Goals as goal
 
 pub loop-row-preserved : goal.loop-row-preserved

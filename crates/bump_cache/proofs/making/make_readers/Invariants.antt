@@ -2,7 +2,7 @@ use Rattle.std.proofs.Common.{◌≡◌, ◌++◌, List, length, map}
 use Rattle.std.specs.List.{All}
 use Rattle.std.specs.Vec.Iter.{into_iter_items}
 use Rattle.cache_readers.specs.Readers.{ReaderView}
-use Rattle.cache_making.specs.Choosing.{IsPartCount}
+use Rattle.cache_config.specs.Choosing.{IsPartCount}
 use Rattle.bump_cache.specs.Readers.{readers_by}
 use Rattle.bump_cache.proofs.making.make_readers.Given as goal
 

@@ -6,9 +6,9 @@ use Rattle.bump_cache.specs.Readers.{CacheReaderView}
 use Rattle.cache_shelf.specs.Shelves.{ShelfView}
 use Rattle.bump_cache.proofs.NewParts.{opened_readers, part_new, shelves_wide}
 use Rattle.bump_cache.proofs.NewReaders.{rows_all}
-use Rattle.cache_making.proofs.Openings.{books_new}
-use Rattle.cache_making.proofs.RowLemmas.{rows_counted}
-use Rattle.cache_making.proofs.Soundness.{sound}
+use Rattle.cache_config.proofs.Openings.{books_new}
+use Rattle.cache_config.proofs.RowLemmas.{rows_counted}
+use Rattle.cache_config.proofs.Soundness.{sound}
 use Rattle.bump_cache.proofs.opening.open.Goals as goal
 
 pub returns-clause-count : goal.returns-clause-count

@@ -11,7 +11,7 @@ use Rattle.bump_class.proofs.applications.update.Goals.{in-Cold, in_default}
 
 pub try_front-tried-requires-clause-own : goal.try_front-tried-requires-clause-own
 try_front-tried-requires-clause-own g c =
-    on.own_aboard c.args.bump c.args.lane.now c.args.class.now.part c.requires.carries c.requires.own
+    on.own_aboard c.args.bump c.args.lane.now c.args.class.now.sheet c.requires.carries c.requires.own
 
 pub alight-requires-clause-ends : goal.alight-requires-clause-ends
 alight-requires-clause-ends g c =
@@ -71,7 +71,7 @@ returns-then-not-tried g c =
     t.ensures.fits c.requires.own in
     let all = updates v o m.0 b c.args.now c.requires.alone m.1 Gone found t.ensures.found
     (sym (gone_by t.result t.result c.if-not-tried.true)) t.new.self a.new.self a.new.lane _ _ is
-    (rests v.part c.requires.idle) refl refl a.ensures.class a.ensures.lane a.ensures.entry a.ensures.once a.ensures.moves in
+    (rests v.sheet c.requires.idle) refl refl a.ensures.class a.ensures.lane a.ensures.entry a.ensures.once a.ensures.moves in
     record { whole = all.0; updates = all.1 }
 
 pub returns-then-not-matches : goal.returns-then-not-matches
@@ -91,11 +91,11 @@ returns-then-not-matches g c =
     let p = c.put_time in
     let is = on.put_time_is v t.new.self o m.0 b b.life.chunk t.result m.1 refl t.ensures.tried t.ensures.found
     t.ensures.fits c.requires.own c.args.now p.new.self p.ensures.timed in
-    let timed = class_with_time m.0.worker b c.args.now v.part in
-    let part = sym (ap (λ (x : Bool). if x then with_clearing m.0.worker b t.result timed else timed) elsewhere) in
+    let timed = class_with_time m.0.worker b c.args.now v.sheet in
+    let sheet = sym (ap (λ (x : Bool). if x then with_clearing m.0.worker b t.result timed else timed) elsewhere) in
     let all = updates v o m.0 b c.args.now c.requires.alone m.1 TimeOnly found t.ensures.found
     (sym (elsewhere_by t.result t.result c.if-not-tried.false elsewhere)) p.new.self a.new.self a.new.lane _ _ is
-    (rests timed c.requires.idle ∙ part) refl refl a.ensures.class a.ensures.lane a.ensures.entry a.ensures.once a.ensures.moves in
+    (rests timed c.requires.idle ∙ sheet) refl refl a.ensures.class a.ensures.lane a.ensures.entry a.ensures.once a.ensures.moves in
     record { whole = all.0; updates = all.1 }
 
 pub returns-then-not-cleared : goal.returns-then-not-cleared
@@ -115,11 +115,11 @@ returns-then-not-cleared g c =
     let p = c.put_time in
     let is = on.clear_active_is v t.new.self o m.0 b b.life.chunk t.result m.1 refl t.ensures.tried t.ensures.found
     t.ensures.fits c.requires.own c.args.now p.new.self p.ensures.timed d.result d.new.self d.ensures.cleared in
-    let timed = class_with_time m.0.worker b c.args.now v.part in
-    let part = sym (ap (λ (x : Bool). if x then with_clearing m.0.worker b d.result timed else timed) cold) in
+    let timed = class_with_time m.0.worker b c.args.now v.sheet in
+    let sheet = sym (ap (λ (x : Bool). if x then with_clearing m.0.worker b d.result timed else timed) cold) in
     let all = updates v o m.0 b c.args.now c.requires.alone m.1 TimeOnly found t.ensures.found
     (sym (clear_by t.result d.result c.if-not-tried.false cold c.if-not-cleared.true)) d.new.self a.new.self
-    a.new.lane _ _ is (rests (with_clearing m.0.worker b d.result timed) c.requires.idle ∙ part) refl refl a.ensures.class a.ensures.lane a.ensures.entry a.ensures.once
+    a.new.lane _ _ is (rests (with_clearing m.0.worker b d.result timed) c.requires.idle ∙ sheet) refl refl a.ensures.class a.ensures.lane a.ensures.entry a.ensures.once
     a.ensures.moves in
     record { whole = all.0; updates = all.1 }
 
@@ -145,6 +145,6 @@ returns g c =
     let all = updates v o m.0 b c.args.now c.requires.alone m.1 Moved found t.ensures.found
     (sym (moved_by t.result d.result c.if-not-tried.false cold c.if-not-cleared.false)) s.new.self a.new.self
     a.new.lane _ _ is (rests (with_move m.0.worker b s.result (with_clearing m.0.worker b d.result
-    (class_with_time m.0.worker b c.args.now v.part))) c.requires.idle) refl refl a.ensures.class a.ensures.lane a.ensures.entry a.ensures.once
+    (class_with_time m.0.worker b c.args.now v.sheet))) c.requires.idle) refl refl a.ensures.class a.ensures.lane a.ensures.entry a.ensures.once
     a.ensures.moves in
     record { whole = all.0; updates = all.1 }

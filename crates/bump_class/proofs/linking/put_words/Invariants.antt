@@ -4,6 +4,6 @@ use Rattle.bump_class.proofs.linking.put_words.Given as goal
 
 abbrev pub invariant-loop-index : goal.invariant-loop-index
 invariant-loop-index g l = record {
-  putting : Putting l.fn.chunk l.index l.fn.words l.fn.seat.part l.seat.part;
+  putting : Putting l.fn.chunk l.index l.fn.words l.fn.seat.sheet l.seat.sheet;
   lane : l.seat.lane ≡ l.fn.seat.lane;
 }

@@ -9,5 +9,5 @@ invariant-loop-class g l = record {
   rest : l.seat.me ≡ (record l.fn.seat.me.0 { classes = l.seat.me.0.classes }, []);
   count : l.class + length l.seat.me.0.classes ≡ l.fn.count;
   numbers : AreNewClasses (rows g.N.Name.table) l.class l.seat.me.0.classes;
-  parts : l.seats.items ++ map class_seen l.seat.me.0.classes ≡ map class_seen l.fn.seat.me.0.classes;
+  sheets : l.seats.items ++ map class_seen l.seat.me.0.classes ≡ map class_seen l.fn.seat.me.0.classes;
 }

@@ -8,5 +8,5 @@ invariant-loop-worker g l = record {
   rest : l.seat.me ≡ (record l.fn.seat.me.0 { lanes = l.seat.me.0.lanes }, []);
   count : l.worker + length l.seat.me.0.lanes ≡ l.fn.count;
   empty : AreNewLanes l.worker l.seat.me.0.lanes;
-  parts : l.seats.items ++ map lane_seen l.seat.me.0.lanes ≡ map lane_seen l.fn.seat.me.0.lanes;
+  sheets : l.seats.items ++ map lane_seen l.seat.me.0.lanes ≡ map lane_seen l.fn.seat.me.0.lanes;
 }

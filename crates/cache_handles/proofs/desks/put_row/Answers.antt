@@ -3,10 +3,8 @@ use Rattle.cache_handles.proofs.desks.put_row.Goals as goal
 
 pub returns-in-Ok-clause-puts : goal.returns-in-Ok-clause-puts
 returns-in-Ok-clause-puts g c =
-    let e = c.in-Ok.ensures in
-    puts_words _ c.args.row.now _ _ _ _ _ _ _ _ _ _ _ e.kept e.had e.others e.puts c.is_some.ensures
+    puts_words _ c.in-Ok.did c.args.row.now _ _ _ _ _ _ _ c.in-Ok.ensures.puts c.is_some.ensures
 
 pub returns-in-Err-clause-puts : goal.returns-in-Err-clause-puts
 returns-in-Err-clause-puts g c =
-    let e = c.in-Err.ensures in
-    refuses_words _ _ _ _ _ _ e.stay e.refuses c.is_some-in-Err.ensures
+    refuses_words _ c.in-Err.why c.args.row.now _ _ _ _ _ _ c.in-Err.ensures.refuses c.is_some-in-Err.ensures

@@ -2,7 +2,7 @@ use Rattle.std.proofs.Common.{◌≡◌, ◌+◌, List, ◌∷◌, length, ap, �
 use Rattle.std.specs.Vec.Iter.{into_iter_items}
 use Rattle.bump_handles.specs.Opening.{all_there}
 use Rattle.cache_shelf.specs.Shelves.{ShelfView}
-use Rattle.cache_making.proofs.Places.{all_rest}
+use Rattle.cache_config.proofs.Places.{all_rest}
 use Rattle.cache_handles.specs.Opening.{IsShelfFor, part_of_shelf, parts_of}
 use Rattle.cache_handles.proofs.ConfigLemmas.{byte_sound, parts_counted}
 use Rattle.cache_handles.proofs.OpeningLemmas.{made_one}

@@ -2,9 +2,9 @@ use Rattle.std.proofs.Common.{◌≡◌, List, ◌∷◌, length, ap, ◌∙◌}
 use Rattle.std.specs.Vec.Iter.{into_iter_items}
 use Rattle.bump_handles.specs.Opening.{all_there}
 use Rattle.cache_readers.specs.Readers.{ReaderView}
-use Rattle.cache_making.specs.Choosing.{IsPartCount}
+use Rattle.cache_config.specs.Choosing.{IsPartCount}
 use Rattle.bump_cache.specs.Readers.{readers_by}
-use Rattle.cache_making.proofs.Places.{all_rest}
+use Rattle.cache_config.proofs.Places.{all_rest}
 use Rattle.cache_handles.specs.Opening.{reader_by, readers_of}
 use Rattle.cache_handles.proofs.OpeningLemmas.{made_one}
 use Rattle.cache_handles.proofs.opening.make_readers.Goals as goal

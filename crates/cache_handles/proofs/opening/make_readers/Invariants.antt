@@ -3,7 +3,7 @@ use Rattle.std.specs.List.{All}
 use Rattle.std.specs.Vec.Iter.{into_iter_items}
 use Rattle.bump_handles.specs.Opening.{all_there}
 use Rattle.cache_readers.specs.Readers.{ReaderView}
-use Rattle.cache_making.specs.Choosing.{IsPartCount}
+use Rattle.cache_config.specs.Choosing.{IsPartCount}
 use Rattle.cache_handles.specs.Opening.{readers_of}
 use Rattle.cache_handles.proofs.opening.make_readers.Given as goal
 

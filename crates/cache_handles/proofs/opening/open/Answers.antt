@@ -1,6 +1,6 @@
-use Rattle.cache_making.proofs.Openings.{books_new}
-use Rattle.cache_making.proofs.RowLemmas.{rows_counted}
-use Rattle.cache_making.proofs.Soundness.{sound}
+use Rattle.cache_config.proofs.Openings.{books_new}
+use Rattle.cache_config.proofs.RowLemmas.{rows_counted}
+use Rattle.cache_config.proofs.Soundness.{sound}
 use Rattle.cache_handles.proofs.ConfigLemmas.{byte_sound}
 use Rattle.cache_handles.proofs.OpeningLemmas.{readers_new, shelves_for, shelves_new}
 use Rattle.cache_handles.proofs.opening.open.Goals as goal

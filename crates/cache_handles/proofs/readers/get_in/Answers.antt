@@ -1,5 +1,5 @@
 use Rattle.std.proofs.Common.{List, ℕ, length, subst}
-use Rattle.byte_words.specs.Strings.{long_string}
+use Rattle.packed_words.specs.Spelling.{long_string}
 use Rattle.bump_cache.proofs.Choices.{chosen_in, in_part}
 use Rattle.cache_handles.specs.Reading.{Gets}
 use Rattle.cache_handles.proofs.readers.get_in.Goals as goal

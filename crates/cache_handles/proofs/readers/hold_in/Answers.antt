@@ -1,5 +1,5 @@
 use Rattle.std.proofs.Common.{List, ℕ, IfNone, IfSome, length, subst}
-use Rattle.byte_words.specs.Strings.{long_string}
+use Rattle.packed_words.specs.Spelling.{long_string}
 use Rattle.cache_readers.specs.Readers.{Misses}
 use Rattle.bump_cache.proofs.Choices.{chosen_in, in_part_none, in_part_some}
 use Rattle.cache_handles.specs.Reading.{HitsHeld}

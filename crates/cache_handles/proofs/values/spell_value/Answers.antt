@@ -1,5 +1,5 @@
 use Rattle.std.proofs.Common.{◌<◌, ◌∷◌, length, ap, ap₂, ◌∙◌, arith}
-use Rattle.byte_words.specs.Strings.{long_string}
+use Rattle.packed_words.specs.Spelling.{long_string}
 use Rattle.cache_part.proofs.KeyLemmas.{rest_length, row_put}
 use Rattle.cache_handles.proofs.values.spell_value.Goals as goal
 

@@ -17,7 +17,7 @@ returns-in-Ok-clause-ends g c =
     let chunk = c.args.chunk in
     let id : ItemId = record { chunk = chunk; generation = c.load_head-head.result.generation } in
     let looked = c.load_head-head.ensures.looked in let unlinked = c.in-Ok.ensures.unlinked in
-    let own = ap (λ b. owns chunk b.part) looked ∙ c.requires.own in
+    let own = ap (λ b. owns chunk b.sheet) looked ∙ c.requires.own in
     let linked = unlink_ok seen id c.promise.ensures.stands own c.in-Ok.ensures.refused in
     record {
       ends = kept_ends book seen left chunk (see_keeps book seen chunk c.load_head-head.result looked)
@@ -31,11 +31,11 @@ returns-in-Ok-clause-ends g c =
 
 pub returns-in-Ok-clause-flows : goal.returns-in-Ok-clause-flows
 returns-in-Ok-clause-flows g c =
-    let own = ap (λ b. owns c.args.chunk b.part) c.load_head-head.ensures.looked ∙ c.requires.own in
+    let own = ap (λ b. owns c.args.chunk b.sheet) c.load_head-head.ensures.looked ∙ c.requires.own in
     let id : ItemId = record { chunk = c.args.chunk; generation = c.load_head-head.result.generation } in
     let linked = unlink_ok c.load_head-head.new.self id c.promise.ensures.stands own c.in-Ok.ensures.refused in
     let stood = found_segment c.load_head-head.new.self id c.load_head-head.result linked
-    (subst (Shows c.load_head-head.result) (ap (λ b. (standing b.part c.args.chunk).0) (sym c.load_head-head.ensures.looked)) c.load_head-head.ensures.agrees) in
+    (subst (Shows c.load_head-head.result) (ap (λ b. (standing b.sheet c.args.chunk).0) (sym c.load_head-head.ensures.looked)) c.load_head-head.ensures.agrees) in
     behind_none c.args.book.now c.load_head-head.new.self c.unlink.new.self _
     (seen_flows c.args.book.now c.load_head-head.new.self c.args.chunk c.load_head-head.result c.load_head-head.ensures.looked)
     (unlinks_flow c.load_head-head.new.self c.unlink.new.self id _ _ stood c.in-Ok.ensures.unlinked)
@@ -46,7 +46,7 @@ returns-in-Err-clause-ends g c =
     let chunk = c.args.chunk in
     let id : ItemId = record { chunk = chunk; generation = c.load_head-head.result.generation } in
     let looked = c.load_head-head.ensures.looked in
-    let own = ap (λ b. owns chunk b.part) looked ∙ c.requires.own in
+    let own = ap (λ b. owns chunk b.sheet) looked ∙ c.requires.own in
     let looks = looks_then book seen left (head_looks book seen chunk c.load_head-head.result looked)
     (refused_looks seen left id _ c.in-Err.ensures.unlinked) in
     record {
@@ -54,7 +54,7 @@ returns-in-Err-clause-ends g c =
       others = tt;
       not_linked = unlinked_none book chunk id.generation c.load_head-head.ensures.generation
           (λ linked. unlink_err seen id _ c.promise.ensures.stands own c.in-Err.ensures.refused
-          (ap (λ b. linked_at b.part chunk) looked ∙ linked));
+          (ap (λ b. linked_at b.sheet chunk) looked ∙ linked));
       kept = looks_keep book left looks;
       same = looks_same book left looks;
       looks = looks;

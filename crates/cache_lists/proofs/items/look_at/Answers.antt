@@ -16,7 +16,7 @@ returns-clause-told g c = pulls_told (limits_of_book c.args.book.now) c.args.boo
 pub returns-clause-item : goal.returns-clause-item
 returns-clause-item g c =
     let tells = pull_tells (limits_of_book c.args.book.now) c.args.book.now c.pull.new.self c.args.from c.pull.result c.promise.ensures.stands c.requires _ refl c.pull.ensures in
-    ap (option_map (λ id. id.chunk)) tells.0 ∙ told_chunk c.args.book.now.part (last_pulled c.args.from c.args.book.now.lists)
+    ap (option_map (λ id. id.chunk)) tells.0 ∙ told_chunk c.args.book.now.sheet (last_pulled c.args.from c.args.book.now.lists)
 
 pub returns-clause-linked : goal.returns-clause-linked
 returns-clause-linked g c =

@@ -10,8 +10,8 @@ returns-clause-marks g c = record {
   between = c.label-expires.new.self;
   look = c.load_head-head.ensures.looked;
   fits = c.load_head-head.ensures.fits;
-  unlinked = unlinked_shown c.label-expires.new.self.part c.args.chunk c.load_head-head.result
-      (ap (λ b. linked_at b.part c.args.chunk) c.label-expires.ensures.seen ∙ c.requires.ended)
+  unlinked = unlinked_shown c.label-expires.new.self.sheet c.args.chunk c.load_head-head.result
+      (ap (λ b. linked_at b.sheet c.args.chunk) c.label-expires.ensures.seen ∙ c.requires.ended)
       c.load_head-head.ensures.agrees;
   is_fetched = refl;
   is_active = refl;

@@ -1,6 +1,6 @@
 use Rattle.std.proofs.Common.{◌+◌, ◌≡◌, ◌<◌, length, refl, sym, ◌∙◌, subst, arith, is_some, true}
 use Rattle.cache_lists.specs.Counts.{CountedView}
-use Rattle.cache_nests.specs.Views.{led_at, IndexView}
+use Rattle.cache_index.specs.Views.{led_at, IndexView}
 use Rattle.cache_part.proofs.ClearLemmas.{ClearedTo, cleared_more, cleared_still, empty_all}
 use Rattle.cache_part.proofs.FindLemmas.{led_linked}
 use Rattle.cache_part.proofs.PartLemmas.{linked_from, within_owned}
@@ -39,8 +39,8 @@ end_led-requires g c =
     sym c.leads.ensures ∙ c.if-leads.true in
     record {
       within = within;
-      own = within_owned book.part table so_far.part.count chunk so_far.from within;
-      linked = led_linked c.args._settings.seed c.args._settings.key_words book.part table so_far.part chunk some;
+      own = within_owned book.sheet table so_far.part.count chunk so_far.from within;
+      linked = led_linked c.args._settings.seed c.args._settings.key_words book.sheet table so_far.part chunk some;
       led = so_far.part.agrees.leads chunk;
     }
 

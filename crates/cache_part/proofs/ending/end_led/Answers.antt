@@ -1,13 +1,13 @@
 use Rattle.std.proofs.Common.{None, ap, ◌∙◌}
 use Rattle.std.proofs.lemmas.List.{get_or-set_same}
 use Rattle.cache_lists.specs.Linked.{linked_at}
-use Rattle.cache_nests.specs.Views.{led_at}
+use Rattle.cache_index.specs.Views.{led_at}
 use Rattle.cache_part.proofs.Agreements.{led_some}
 use Rattle.cache_part.proofs.ending.end_led.Goals as goal
 
 pub clear-requires : goal.clear-requires
 clear-requires g c =
-    led_some (led_at c.args.index.now.table c.args.chunk) (linked_at c.args.lists.now.book.part c.args.chunk)
+    led_some (led_at c.args.index.now.table c.args.chunk) (linked_at c.args.lists.now.book.sheet c.args.chunk)
     c.requires.led c.requires.linked
 
 pub end_unled-requires : goal.end_unled-requires

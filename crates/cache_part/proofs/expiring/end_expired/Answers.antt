@@ -14,7 +14,7 @@ overflow_sub-count g c =
 pub overflow_add-chunks : goal.overflow_add-chunks
 overflow_add-chunks g c =
     let so_far = c.loop-look.invariant in let look = c.loop-look._look in
-    let count = c.args.lists.now.book.part.count in
+    let count = c.args.lists.now.book.sheet.count in
     let chunks : c.range-chunks.result.end - c.range-chunks.result.start ≡ count =
     omega (arith, c.range-chunks.ensures.start, c.range-chunks.ensures.end, c.requires.first, c.requires.part.count) in
     let few : look < count = grind (arith, c.loop-look-test.true, c.min-look-end.ensures, chunks) in
@@ -37,16 +37,16 @@ loop-look-init g c = record {
   first = refl;
   looks = (refl, refl);
   none = λ number turn. absurd
-      (in_turn_none c.args.cursor c.args.lists.now.book.part.count number c.requires.cursor turn);
+      (in_turn_none c.args.cursor c.args.lists.now.book.sheet.count number c.requires.cursor turn);
   kept = kept_unexpired c.args.now c.args.lists.now.book c.args.lists.now.book (keeps_still c.args.lists.now.book);
-  at = behind_none c.args.cursor c.args.lists.now.book.part.count c.requires.cursor;
+  at = behind_none c.args.cursor c.args.lists.now.book.sheet.count c.requires.cursor;
   few = omega arith;
 }
 
 pub end_where_expired-requires : goal.end_where_expired-requires
 end_where_expired-requires g c =
     let so_far = c.loop-look.invariant in let look = c.loop-look._look in
-    let count = c.args.lists.now.book.part.count in
+    let count = c.args.lists.now.book.sheet.count in
     let chunks : c.range-chunks.result.end - c.range-chunks.result.start ≡ count =
     omega (arith, c.range-chunks.ensures.start, c.range-chunks.ensures.end, c.requires.first, c.requires.part.count) in
     let few : look < count = grind (arith, c.loop-look-test.true, c.min-look-end.ensures, chunks) in
@@ -71,7 +71,7 @@ end_where_expired-requires g c =
 pub next_number-number-requires : goal.next_number-number-requires
 next_number-number-requires g c =
     let so_far = c.loop-look.invariant in let look = c.loop-look._look in
-    let count = c.args.lists.now.book.part.count in
+    let count = c.args.lists.now.book.sheet.count in
     let chunks : c.range-chunks.result.end - c.range-chunks.result.start ≡ count =
     omega (arith, c.range-chunks.ensures.start, c.range-chunks.ensures.end, c.requires.first, c.requires.part.count) in
     let few : look < count = grind (arith, c.loop-look-test.true, c.min-look-end.ensures, chunks) in
@@ -81,7 +81,7 @@ next_number-number-requires g c =
 pub loop-look-preserved : goal.loop-look-preserved
 loop-look-preserved g c =
     let so_far = c.loop-look.invariant in let look = c.loop-look._look in let now = c.args.now in
-    let first = c.args.lists.now in let count = first.book.part.count in let from = c.args.cursor in
+    let first = c.args.lists.now in let count = first.book.sheet.count in let from = c.args.cursor in
     let between = c.loop-look.lists in let left = c.end_where_expired.new.lists in
     let result = c.end_where_expired.result in let did = c.end_where_expired.ensures in
     let chunks : c.range-chunks.result.end - c.range-chunks.result.start ≡ count =
@@ -89,7 +89,7 @@ loop-look-preserved g c =
     let few : look < count = grind (arith, c.loop-look-test.true, c.min-look-end.ensures, chunks) in
     let within : from < count = omega (arith, few, c.requires.cursor) in
     let chunk : c.range-chunks.result.start + c.loop-look.number
-    ≡ first.book.part.first + number_behind from look count =
+    ≡ first.book.sheet.first + number_behind from look count =
     ap₂ (λ a b. a + b) (c.range-chunks.ensures.start ∙ c.requires.first) so_far.at in
     let ended = c.if-end_where_expired.ended in
     let sums : (ended ≡ c.loop-look.ended + bit result) × (ended ≤ look + 1) = elim c.if-end_where_expired.branch [
@@ -120,7 +120,7 @@ loop-look-preserved g c =
 pub returns : goal.returns
 returns g c =
     let so_far = c.loop-look.invariant in let look = c.loop-look._look in let now = c.args.now in
-    let first = c.args.lists.now in let count = first.book.part.count in let from = c.args.cursor in
+    let first = c.args.lists.now in let count = first.book.sheet.count in let from = c.args.cursor in
     let left = c.loop-look.lists in
     let chunks : c.range-chunks.result.end - c.range-chunks.result.start ≡ count =
     omega (arith, c.range-chunks.ensures.start, c.range-chunks.ensures.end, c.requires.first, c.requires.part.count) in
@@ -132,7 +132,7 @@ returns g c =
       part = so_far.part;
       first = so_far.first;
       looks = subst (λ n. LooksAround n from now c.loop-look.ended first left) all so_far.looks;
-      ended = subst (λ n. (chunk : ℕ) → IsInTurn from n first.book.part chunk → HasNoneExpired now chunk left.book) all
+      ended = subst (λ n. (chunk : ℕ) → IsInTurn from n first.book.sheet chunk → HasNoneExpired now chunk left.book) all
           (none_of_class now from look first.book left.book so_far.none);
       kept = so_far.kept;
       cursor = subst (λ n. c.loop-look.number ≡ number_behind from n count) all so_far.at;

@@ -2,8 +2,8 @@ use Rattle.std.proofs.Common.{◌≡◌, ◌≤◌, ℕ, None, true, false, inl,
 use Rattle.bump_steps.specs.Views.{owns}
 use Rattle.cache_lists.specs.Expiring.{expired_at, EndsFound}
 use Rattle.cache_lists.proofs.Standings.{keeps_still}
-use Rattle.cache_nests.specs.Views.{led_at}
-use Rattle.entry_times.specs.Times.{has_expired}
+use Rattle.cache_index.specs.Views.{led_at}
+use Rattle.bump_rules.specs.Expiry.{has_expired}
 use Rattle.cache_part.specs.Expiring.{LooksAt}
 use Rattle.cache_part.specs.Parts.{IsPart}
 use Rattle.cache_part.proofs.ClearLemmas.{ended_here, unled_empty}
@@ -21,7 +21,7 @@ leads-requires g c = record {
 
 pub label-requires : goal.label-requires
 label-requires g c = record {
-  own = within_owned c.args.lists.now.book.part c.args.index.now.table c.requires.part.count c.args.chunk
+  own = within_owned c.args.lists.now.book.sheet c.args.index.now.table c.requires.part.count c.args.chunk
       c.requires.from c.requires.within;
 }
 
@@ -33,8 +33,8 @@ end_expired-requires g c =
     let before = c.args.lists.now in let seen = c.label.new.self in
     let looks = label_looks before seen c.args.chunk c.label.result c.label.ensures.seen in
     record {
-      own = ap (λ b. owns c.args.chunk b.part) looks
-          ∙ within_owned before.book.part c.args.index.now.table c.requires.part.count c.args.chunk c.requires.from
+      own = ap (λ b. owns c.args.chunk b.sheet) looks
+          ∙ within_owned before.book.sheet c.args.index.now.table c.requires.part.count c.args.chunk c.requires.from
           c.requires.within;
     }
 
@@ -45,13 +45,13 @@ returns g c =
     let before = c.args.lists.now in let seen = c.label.new.self in let left = c.end_expired.new.self in
     let looks = label_looks before seen chunk c.label.result c.label.ensures.seen in
     let keeps = looks_keep before.book seen.book looks in
-    let expired : expired_at now before.book.part chunk ≡ true =
+    let expired : expired_at now before.book.sheet chunk ≡ true =
     sym (ap (λ label. has_expired label now) c.label.ensures.stored)
     ∙ (sym c.has_expired.ensures ∙ c.if-not-has_expired.false) in
-    let still : expired_at now seen.book.part chunk ≡ true =
+    let still : expired_at now seen.book.sheet chunk ≡ true =
     ap (λ label. has_expired label now) (keeps.words 0 chunk) ∙ expired in
     let led : is_some (led_at table chunk) ≡ true = sym c.leads.ensures ∙ c.if-not-leads.false in
-    let linked = led_linked seed kw before.book.part table c.requires.part chunk led in
+    let linked = led_linked seed kw before.book.sheet table c.requires.part chunk led in
     let found = found_expired chunk now c.end_expired.result seen left c.end_expired.ensures.ends
     (subst IsSome (sym (keeps.linked chunk)) linked) still in
     let ends = found.1.ends.ends in
@@ -59,7 +59,7 @@ returns g c =
     let kept = unexpired_then now before.book seen.book left.book (kept_unexpired now before.book seen.book keeps)
     (ended_unexpired now chunk seen.book left.book ends still) in
     record {
-      part = subst (IsPart seed kw left.book.part) (sym c.clear.ensures.table)
+      part = subst (IsPart seed kw left.book.sheet) (sym c.clear.ensures.table)
           (part_ended seed kw seen.book left.book table
           (part_kept seed kw before.book seen.book table c.requires.part keeps) chunk ends);
       first = c.clear.ensures.first;
@@ -91,7 +91,7 @@ returns-then-not-has_expired g c =
     let before = c.args.lists.now in let seen = c.label.new.self in
     let looks = label_looks before seen c.args.chunk c.label.result c.label.ensures.seen in
     let keeps = looks_keep before.book seen.book looks in
-    let unexpired : expired_at c.args.now before.book.part c.args.chunk ≡ false =
+    let unexpired : expired_at c.args.now before.book.sheet c.args.chunk ≡ false =
     sym (ap (λ label. has_expired label c.args.now) c.label.ensures.stored)
     ∙ (sym c.has_expired.ensures ∙ c.if-not-has_expired.true) in
     let kept = kept_unexpired c.args.now before.book seen.book keeps in

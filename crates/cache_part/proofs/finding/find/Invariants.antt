@@ -1,5 +1,5 @@
 use Rattle.std.proofs.Common.{◌≡◌, ℕ, true}
-use Rattle.cache_nests.specs.Views.{IsWithin, has_answered, lanes_ahead}
+use Rattle.cache_index.specs.Views.{IsWithin, has_answered, lanes_ahead}
 use Rattle.cache_part.specs.Keys.{key_at}
 use Rattle.cache_part.specs.Looks.{LooksOnly}
 use Rattle.cache_part.proofs.finding.find.Given as goal
@@ -13,7 +13,7 @@ invariant-lanes g l = record {
   looks : LooksOnly l.fn.lists.book l.lists.book;
   rest : l.lists ≡ record l.fn.lists { book = l.lists.book };
   none : (chunk : ℕ) → has_answered l.index l.search chunk ≡ true
-      → key_at l.key_words l.fn.lists.book.part chunk ≡ l.key → ⊥;
+      → key_at l.key_words l.fn.lists.book.sheet chunk ≡ l.key → ⊥;
 }
 
 abbrev pub decreases-lanes : goal.decreases-lanes

@@ -6,11 +6,11 @@ use Rattle.cache_part.proofs.LookLemmas.{looks_then, word_looks, seen_rest, rest
 use Rattle.cache_part.proofs.finding.has_key.Goals as goal
 
 pub word-requires-clause-own : goal.word-requires-clause-own
-word-requires-clause-own g c = ap (λ b. owns c.args.chunk b.part) c.loop-index.invariant.looks ∙ c.requires.own
+word-requires-clause-own g c = ap (λ b. owns c.args.chunk b.sheet) c.loop-index.invariant.looks ∙ c.requires.own
 
 pub returns-clause-same : goal.returns-clause-same
 returns-clause-same g c so =
-    let class = c.args.lists.now.book.part in let key = c.args.key.now in
+    let class = c.args.lists.now.book.sheet in let key = c.args.key.now in
     ap (λ n. words_from 0 n class c.args.chunk) (sym c.requires.words)
     ∙ words_read class c.args.chunk 0 key (λ j low.
     let here : 0 + j ≡ j = omega arith in
@@ -31,7 +31,7 @@ loop-index-preserved g c =
           (seen_rest now left _ c.word.ensures.seen);
       same = below_more _ _ so_far.same
           (sym (c.word.ensures.stored
-          ∙ ap (λ b. last_word (suc c.loop-index.index) b.part c.args.chunk) so_far.looks) ∙ c.if-word-key.false);
+          ∙ ap (λ b. last_word (suc c.loop-index.index) b.sheet c.args.chunk) so_far.looks) ∙ c.if-word-key.false);
     }
 
 pub returns-clause-other : goal.returns-clause-other
@@ -42,13 +42,13 @@ returns-then-word-key-clause-same g c e = absurd (cc e)
 
 pub returns-then-word-key-clause-other : goal.returns-then-word-key-clause-other
 returns-then-word-key-clause-other g c e same =
-    let class = c.args.lists.now.book.part in let index = c.loop-index.index in
+    let class = c.args.lists.now.book.sheet in let index = c.loop-index.index in
     let here : 0 + index ≡ index = omega arith in
     let read : get_or (key_at c.args.key_words class c.args.chunk) index 0 ≡ last_word (suc index) class c.args.chunk =
     word_read class c.args.chunk 0 c.args.key_words index c.loop-index-test.true
     ∙ ap (λ n. last_word (suc n) class c.args.chunk) here in
     c.if-word-key.true (c.word.ensures.stored
-    ∙ (ap (λ b. last_word (suc index) b.part c.args.chunk) c.loop-index.invariant.looks
+    ∙ (ap (λ b. last_word (suc index) b.sheet c.args.chunk) c.loop-index.invariant.looks
     ∙ (sym read ∙ ap (λ xs. get_or xs index 0) same)))
 
 pub returns-clause-rest : goal.returns-clause-rest

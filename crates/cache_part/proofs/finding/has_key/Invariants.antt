@@ -8,5 +8,5 @@ abbrev pub invariant-loop-index : goal.invariant-loop-index
 invariant-loop-index g l = record {
   looks : LooksOnly l.fn.lists.book l.lists.book;
   rest : l.lists ≡ record l.fn.lists { book = l.lists.book };
-  same : (j : ℕ) → j < l.index → last_word (suc j) l.fn.lists.book.part l.chunk ≡ get_or l.key j 0;
+  same : (j : ℕ) → j < l.index → last_word (suc j) l.fn.lists.book.sheet l.chunk ≡ get_or l.key j 0;
 }

@@ -52,7 +52,7 @@ returns g c =
         evictions = frees.evictions;
       };
       stay = room_stays items now at evicted before.book between.book seen left found.looks evicts.evicts frees.kept;
-      told = told_same _ evicted c.args.told.now c.evict_where_full-evicted.new.told before.book.part seen.book.part
+      told = told_same _ evicted c.args.told.now c.evict_where_full-evicted.new.told before.book.sheet seen.book.sheet
           (looks_keep before.book seen.book found.looks).words evicts.told;
       another = room_another items now at evicted before.book between.book seen left found.looks evicts.evicts frees.kept;
       first = evicts.first ∙ ap (λ i. i.first) found.index;

@@ -9,5 +9,5 @@ invariant-loop-index g l = record {
   looks : LooksOnly l.fn.lists.book l.lists.book;
   rest : l.lists ≡ record l.fn.lists { book = l.lists.book };
   size : length l.words ≡ length l.fn.words;
-  same : (j : ℕ) → j < l.index → last_word (suc (l.from + j)) l.fn.lists.book.part l.chunk ≡ get_or l.words j 0;
+  same : (j : ℕ) → j < l.index → last_word (suc (l.from + j)) l.fn.lists.book.sheet l.chunk ≡ get_or l.words j 0;
 }

@@ -1,7 +1,7 @@
 use Rattle.std.proofs.Common.{◌≡◌, ◌+◌, ◌-◌, false, IsSome, is_some, length, refl, sym, ap, ◌∙◌, subst, arith}
 use Rattle.cache_lists.specs.Linked.{linked_at}
 use Rattle.cache_lists.proofs.Standings.{owns_same}
-use Rattle.cache_nests.specs.Views.{led_at}
+use Rattle.cache_index.specs.Views.{led_at}
 use Rattle.cache_part.specs.Keys.{row_of}
 use Rattle.cache_part.proofs.Agreements.{led_some, nothing_where}
 use Rattle.cache_part.proofs.KeyLemmas.{row_same}
@@ -11,7 +11,7 @@ pub clear-requires : goal.clear-requires
 clear-requires g c =
     let table = c.args.index.now.table in let chunk = c.in-Some.victim.chunk in
     let was = c.in-Some.ensures.ends.was in
-    led_some (led_at table chunk) (linked_at c.args.lists.now.book.part chunk) (c.requires.leads chunk)
+    led_some (led_at table chunk) (linked_at c.args.lists.now.book.sheet chunk) (c.requires.leads chunk)
     (subst IsSome (sym was.1) refl)
 
 pub read_row-requires : goal.read_row-requires
@@ -42,8 +42,8 @@ returns-clause-evicts g c =
 
 pub returns-clause-told : goal.returns-clause-told
 returns-clause-told g c =
-    let chunk = c.in-Some.victim.chunk in let left = c.evict.new.self.book.part in
+    let chunk = c.in-Some.victim.chunk in let left = c.evict.new.self.book.sheet in
     let words : length c.args.told.now - 1 ≡ c.args.settings.key_words + c.args.settings.value_words =
     omega (arith, c.requires.told) in
     c.read_row.ensures.read ∙ (ap (λ n. row_of n left chunk) words
-    ∙ row_same c.args.lists.now.book.part left chunk _ (λ i. c.in-Some.ensures.ends.words i chunk))
+    ∙ row_same c.args.lists.now.book.sheet left chunk _ (λ i. c.in-Some.ensures.ends.words i chunk))

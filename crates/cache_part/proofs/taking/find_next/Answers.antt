@@ -16,7 +16,7 @@ overflow_sub-count g c =
 pub overflow_add-chunk : goal.overflow_add-chunk
 overflow_add-chunk g c =
     let so_far = c.loop-look.invariant in let look = c.loop-look._look in
-    let count = c.args.lists.now.book.part.count in
+    let count = c.args.lists.now.book.sheet.count in
     let chunks : c.range-chunks.result.end - c.range-chunks.result.start ≡ count =
     omega (arith, c.range-chunks.ensures.start, c.range-chunks.ensures.end, c.requires.first, c.requires.part.count) in
     let few : look < count = grind (arith, c.loop-look-test.true, c.min-look-end.ensures, chunks) in
@@ -38,14 +38,14 @@ loop-look-init g c = record {
   looks = refl;
   rest = refl;
   none = λ number turn. absurd
-      (in_turn_none c.args.cursor c.args.lists.now.book.part.count number c.requires.cursor turn);
-  at = behind_none c.args.cursor c.args.lists.now.book.part.count c.requires.cursor;
+      (in_turn_none c.args.cursor c.args.lists.now.book.sheet.count number c.requires.cursor turn);
+  at = behind_none c.args.cursor c.args.lists.now.book.sheet.count c.requires.cursor;
 }
 
 pub next_number-number-requires : goal.next_number-number-requires
 next_number-number-requires g c =
     let so_far = c.loop-look.invariant in let look = c.loop-look._look in
-    let count = c.args.lists.now.book.part.count in
+    let count = c.args.lists.now.book.sheet.count in
     let chunks : c.range-chunks.result.end - c.range-chunks.result.start ≡ count =
     omega (arith, c.range-chunks.ensures.start, c.range-chunks.ensures.end, c.requires.first, c.requires.part.count) in
     let few : look < count = grind (arith, c.loop-look-test.true, c.min-look-end.ensures, chunks) in
@@ -55,7 +55,7 @@ next_number-number-requires g c =
 pub is_expired-requires : goal.is_expired-requires
 is_expired-requires g c =
     let so_far = c.loop-look.invariant in let look = c.loop-look._look in
-    let first = c.args.lists.now in let count = first.book.part.count in
+    let first = c.args.lists.now in let count = first.book.sheet.count in
     let keeps = looks_keep first.book c.loop-look.lists.book so_far.looks in
     let chunks : c.range-chunks.result.end - c.range-chunks.result.start ≡ count =
     omega (arith, c.range-chunks.ensures.start, c.range-chunks.ensures.end, c.requires.first, c.requires.part.count) in
@@ -80,14 +80,14 @@ is_expired-requires g c =
 pub loop-look-preserved : goal.loop-look-preserved
 loop-look-preserved g c =
     let so_far = c.loop-look.invariant in let look = c.loop-look._look in let now = c.args.now in
-    let first = c.args.lists.now in let count = first.book.part.count in let from = c.args.cursor in
+    let first = c.args.lists.now in let count = first.book.sheet.count in let from = c.args.cursor in
     let between = c.loop-look.lists in let left = c.is_expired.new.lists in let did = c.is_expired.ensures in
     let chunks : c.range-chunks.result.end - c.range-chunks.result.start ≡ count =
     omega (arith, c.range-chunks.ensures.start, c.range-chunks.ensures.end, c.requires.first, c.requires.part.count) in
     let few : look < count = grind (arith, c.loop-look-test.true, c.min-look-end.ensures, chunks) in
     let within : from < count = omega (arith, few, c.requires.cursor) in
     let chunk : c.range-chunks.result.start + c.loop-look.number
-    ≡ first.book.part.first + number_behind from look count =
+    ≡ first.book.sheet.first + number_behind from look count =
     ap₂ (λ a b. a + b) (c.range-chunks.ensures.start ∙ c.requires.first) so_far.at in
     let here = none_before now _ first.book between.book so_far.looks (did.none c.if-is_expired.false) in
     record {
@@ -104,14 +104,14 @@ loop-look-preserved g c =
 pub returns-then-is_expired : goal.returns-then-is_expired
 returns-then-is_expired g c =
     let so_far = c.loop-look.invariant in let look = c.loop-look._look in let now = c.args.now in
-    let first = c.args.lists.now in let count = first.book.part.count in let from = c.args.cursor in
+    let first = c.args.lists.now in let count = first.book.sheet.count in let from = c.args.cursor in
     let between = c.loop-look.lists in let left = c.is_expired.new.lists in let did = c.is_expired.ensures in
     let chunks : c.range-chunks.result.end - c.range-chunks.result.start ≡ count =
     omega (arith, c.range-chunks.ensures.start, c.range-chunks.ensures.end, c.requires.first, c.requires.part.count) in
     let few : look < count = grind (arith, c.loop-look-test.true, c.min-look-end.ensures, chunks) in
     let within : from < count = omega (arith, few, c.requires.cursor) in
     let chunk : c.range-chunks.result.start + c.loop-look.number
-    ≡ first.book.part.first + number_behind from look count =
+    ≡ first.book.sheet.first + number_behind from look count =
     ap₂ (λ a b. a + b) (c.range-chunks.ensures.start ∙ c.requires.first) so_far.at in
     let next = c.next_number-number.ensures
     ∙ (ap (λ n. number_behind n 1 (c.range-chunks.result.end - c.range-chunks.result.start)) so_far.at
@@ -136,7 +136,7 @@ returns-then-is_expired g c =
 pub returns : goal.returns
 returns g c =
     let so_far = c.loop-look.invariant in let look = c.loop-look._look in let now = c.args.now in
-    let first = c.args.lists.now in let count = first.book.part.count in let from = c.args.cursor in
+    let first = c.args.lists.now in let count = first.book.sheet.count in let from = c.args.cursor in
     let chunks : c.range-chunks.result.end - c.range-chunks.result.start ≡ count =
     omega (arith, c.range-chunks.ensures.start, c.range-chunks.ensures.end, c.requires.first, c.requires.part.count) in
     let end : look ≡ c.min-look-end.result = omega (arith, c.loop-look-test.false, c.loop-look.auto._look-end) in

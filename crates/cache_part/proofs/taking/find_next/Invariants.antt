@@ -8,7 +8,7 @@ abbrev pub invariant-loop-look : goal.invariant-loop-look
 invariant-loop-look g l = record {
   looks : LooksOnly l.fn.lists.book l.lists.book;
   rest : l.lists ≡ record l.fn.lists { book = l.lists.book };
-  none : (n : ℕ) → IsNumberInTurn l.fn.cursor l._look l.fn.lists.book.part.count n
-      → HasNoneExpired l.fn.now (l.fn.lists.book.part.first + n) l.fn.lists.book;
-  at : l.number ≡ number_behind l.fn.cursor l._look l.fn.lists.book.part.count;
+  none : (n : ℕ) → IsNumberInTurn l.fn.cursor l._look l.fn.lists.book.sheet.count n
+      → HasNoneExpired l.fn.now (l.fn.lists.book.sheet.first + n) l.fn.lists.book;
+  at : l.number ≡ number_behind l.fn.cursor l._look l.fn.lists.book.sheet.count;
 }

@@ -1,7 +1,7 @@
 use Rattle.std.proofs.Common.{◌≡◌, ◌≤◌, ℕ, None, true, IsSome, is_some, refl, sym, ap, ◌∙◌, subst}
 use Rattle.cache_lists.specs.Expiring.{expired_at}
-use Rattle.cache_nests.specs.Views.{led_at}
-use Rattle.entry_times.specs.Times.{has_expired}
+use Rattle.cache_index.specs.Views.{led_at}
+use Rattle.bump_rules.specs.Expiry.{has_expired}
 use Rattle.cache_part.proofs.ClearLemmas.{unled_empty}
 use Rattle.cache_part.proofs.FindLemmas.{led_linked}
 use Rattle.cache_part.proofs.LookLemmas.{label_looks, seen_rest}
@@ -16,19 +16,19 @@ leads-requires g c = record {
 
 pub label-requires : goal.label-requires
 label-requires g c = record {
-  own = within_owned c.args.lists.now.book.part c.args.index.now.table c.requires.part.count c.args.chunk
+  own = within_owned c.args.lists.now.book.sheet c.args.index.now.table c.requires.part.count c.args.chunk
       c.requires.from c.requires.within;
 }
 
 pub returns : goal.returns
 returns g c =
     let before = c.args.lists.now in let seen = c.label.new.self in let now = c.args.now in let chunk = c.args.chunk in
-    let is : c.has_expired.result ≡ expired_at now before.book.part chunk =
+    let is : c.has_expired.result ≡ expired_at now before.book.sheet chunk =
     c.has_expired.ensures ∙ ap (λ label. has_expired label now) c.label.ensures.stored in
     let led : is_some (led_at c.args.index.now.table chunk) ≡ true = sym c.leads.ensures ∙ c.if-not-leads.false in
     record {
       has = λ yes. record {
-        linked = led_linked c.args._settings.seed c.args._settings.key_words before.book.part c.args.index.now.table
+        linked = led_linked c.args._settings.seed c.args._settings.key_words before.book.sheet c.args.index.now.table
             c.requires.part chunk led;
         expired = sym is ∙ yes;
       };

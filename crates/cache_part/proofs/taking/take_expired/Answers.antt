@@ -2,7 +2,7 @@ use Rattle.std.proofs.Common.{◌≡◌, ◌+◌, ◌-◌, None, Some, IfNone, I
 use Rattle.bump_steps.specs.Views.{owns}
 use Rattle.cache_lists.specs.Expiring.{EndsFound}
 use Rattle.cache_lists.specs.Linked.{linked_at}
-use Rattle.cache_nests.specs.Views.{led_at}
+use Rattle.cache_index.specs.Views.{led_at}
 use Rattle.cache_part.specs.Expiring.{EndsBehindLook, looks_of}
 use Rattle.cache_part.specs.Keys.{row_of}
 use Rattle.cache_part.specs.Looks.{LooksOnly}
@@ -23,7 +23,7 @@ read_row-requires g c =
     let until = subst (λ item. FindsNext (looks_of c.args.most before) c.args.cursor c.args.now item next.cursor before)
     c.in-Some.is c.find_next-next.ensures.finds in
     record {
-      own = ap (λ b. owns chunk b.part) c.find_next-next.ensures.looks ∙ c.requires.part.own chunk until.has.linked;
+      own = ap (λ b. owns chunk b.sheet) c.find_next-next.ensures.looks ∙ c.requires.part.own chunk until.has.linked;
       some = omega (arith, c.requires.told);
       few = omega (arith, c.requires.told, c.requires.few);
     }
@@ -33,7 +33,7 @@ clear-requires g c =
     let before = c.args.lists.now.book in let chunk = c.in-Some.chunk in let next = c.find_next-next.result in
     let until = subst (λ item. FindsNext (looks_of c.args.most before) c.args.cursor c.args.now item next.cursor before)
     c.in-Some.is c.find_next-next.ensures.finds in
-    led_some (led_at c.args.index.now.table chunk) (linked_at before.part chunk) (c.requires.part.agrees.leads chunk)
+    led_some (led_at c.args.index.now.table chunk) (linked_at before.sheet chunk) (c.requires.part.agrees.leads chunk)
     until.has.linked
 
 pub end_expired-requires : goal.end_expired-requires
@@ -42,8 +42,8 @@ end_expired-requires g c =
     let until = subst (λ item. FindsNext (looks_of c.args.most before) c.args.cursor c.args.now item next.cursor before)
     c.in-Some.is c.find_next-next.ensures.finds in
     record {
-      own = ap (λ b. owns chunk b.part) c.read_row.ensures.looks
-          ∙ (ap (λ b. owns chunk b.part) c.find_next-next.ensures.looks ∙ c.requires.part.own chunk until.has.linked);
+      own = ap (λ b. owns chunk b.sheet) c.read_row.ensures.looks
+          ∙ (ap (λ b. owns chunk b.sheet) c.find_next-next.ensures.looks ∙ c.requires.part.own chunk until.has.linked);
     }
 
 pub returns : goal.returns
@@ -67,12 +67,12 @@ returns g c =
     } in
     let ends = behind_ends chunk now before left did in
     let long : length c.args.told.now - 1 ≡ words = omega (arith, c.requires.told) in
-    let row : c.read_row.new.row ≡ row_of words before.book.part chunk =
-    c.read_row.ensures.read ∙ (ap (λ n. row_of n found.book.part chunk) long
-    ∙ row_same before.book.part found.book.part chunk words
+    let row : c.read_row.new.row ≡ row_of words before.book.sheet chunk =
+    c.read_row.ensures.read ∙ (ap (λ n. row_of n found.book.sheet chunk) long
+    ∙ row_same before.book.sheet found.book.sheet chunk words
     (λ i. (looks_keep before.book found.book c.find_next-next.ensures.looks).words i chunk)) in
     record {
-      part = subst (IsPart seed kw left.book.part) (sym c.clear.ensures.table)
+      part = subst (IsPart seed kw left.book.sheet) (sym c.clear.ensures.table)
           (part_ended seed kw seen.book left.book table
           (part_kept seed kw before.book seen.book table c.requires.part keeps) chunk ended.1.ends.ends);
       first = c.clear.ensures.first
@@ -82,7 +82,7 @@ returns g c =
       looks = subst (λ item. IfNone item (LooksOnly before.book left.book)) (sym is) tt;
       rest = subst (λ item. IfNone item (left ≡ record before { book = left.book })) (sym is) tt;
       index = subst (λ item. IfNone item (c.clear.new.self ≡ c.args.index.now)) (sym is) tt;
-      told = subst (λ item. TellsWords words item c.args.told.now c.read_row.new.row before.book.part) (sym is) row;
+      told = subst (λ item. TellsWords words item c.args.told.now c.read_row.new.row before.book.sheet) (sym is) row;
       within = cursor_kept next.cursor before.book left.book ends.class c.find_next-next.ensures.within;
     }
 

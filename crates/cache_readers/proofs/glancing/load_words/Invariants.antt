@@ -6,4 +6,4 @@ use Rattle.cache_readers.proofs.glancing.load_words.Given as goal
 
 abbrev pub invariant-loop-index : goal.invariant-loop-index
 invariant-loop-index g l = Reads (HasFirst l.words l.fn.from l.index) l.fn.worker l.worker
-    × IsGlancing l.fn.glance l.worker.part × (length l.words ≡ length l.fn.words)
+    × IsGlancing l.fn.glance l.worker.sheet × (length l.words ≡ length l.fn.words)

@@ -1,4 +1,4 @@
-use Rattle.bump_parts.specs.Workers.{WorkerState}
+use Rattle.bump_unlocked.specs.Workers.{WorkerState}
 use Rattle.cache_readers.specs.Looks.{FindsNothing}
 use Rattle.cache_readers.proofs.LookLemmas.{nothing_behind}
 use Rattle.cache_readers.proofs.looking.find.Goals as goal

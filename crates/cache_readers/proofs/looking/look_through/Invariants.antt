@@ -1,5 +1,5 @@
 use Rattle.std.proofs.Common.{◌≡◌, length}
-use Rattle.cache_nests.specs.Views.{ahead}
+use Rattle.cache_index.specs.Views.{ahead}
 use Rattle.cache_readers.specs.Looks.{FindsOthers}
 use Rattle.cache_readers.proofs.looking.look_through.Given as goal
 

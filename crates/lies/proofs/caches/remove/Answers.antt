@@ -1,5 +1,5 @@
 use Rattle.std.proofs.Common.{rules}
 use Rattle.lies.proofs.caches.remove.Goals as goal
 
-pub returns-clause-old : goal.returns-clause-old
-returns-clause-old g c = search rules
+pub returns-clause-removes : goal.returns-clause-removes
+returns-clause-removes g c = search rules

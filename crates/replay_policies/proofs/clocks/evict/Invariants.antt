@@ -1,18 +1,16 @@
-use Rattle.std.proofs.Common.{◌≡◌, ℕ, ◌≤◌, length}
-use Rattle.replay_policies.specs.Clock.{after_eviction}
-use Rattle.replay_policies.specs.Entries.{total_uses}
-use Rattle.replay_policies.specs.Queues.{HasPlaces}
+use Rattle.std.proofs.Common.{◌≡◌, ◌≤◌}
+use Rattle.replay_policies.specs.Queues.{IsLeft}
 use Rattle.replay_policies.proofs.clocks.evict.Given as goal
 
 abbrev pub invariant-loop-entry : goal.invariant-loop-entry
 invariant-loop-entry l = record {
-  evicted : after_eviction l.queues.first ≡ after_eviction l.initial.queues.first;
-  few : length l.queues.first ≤ l.queues.first_room;
-  second : l.queues.second ≡ l.initial.queues.second;
+  count : l.queues.first_count ≡ l.initial.queues.first_count;
+  few : l.queues.first_count ≤ l.queues.first_room;
+  second_count : l.queues.second_count ≡ l.initial.queues.second_count;
   first_room : l.queues.first_room ≡ l.initial.queues.first_room;
   second_room : l.queues.second_room ≡ l.initial.queues.second_room;
-  places : (key : ℕ) → HasPlaces l.initial.queues key → HasPlaces l.queues key;
+  left : IsLeft l.initial.queues l.queues;
 }
 
 abbrev pub decreases-loop-entry : goal.decreases-loop-entry
-decreases-loop-entry l = total_uses l.queues.first
+decreases-loop-entry l = l.queues.first_uses

@@ -1,18 +1,10 @@
-use Rattle.std.proofs.Common.{◌≡◌, ℕ, ◌+◌, ◌≤◌, length}
-use Rattle.replay_policies.specs.Caches.{sieve_of}
-use Rattle.replay_policies.specs.Entries.{total_uses}
-use Rattle.replay_policies.specs.Sieve.{after_sieving}
-use Rattle.replay_policies.specs.Queues.{HasPlaces}
+use Rattle.std.proofs.Common.{◌+◌}
+use Rattle.replay_policies.specs.Caches.{IsSieve}
+use Rattle.replay_policies.specs.Queues.{IsLeft}
 use Rattle.replay_policies.proofs.sieves.evict.Given as goal
 
 abbrev pub invariant-loop-entry : goal.invariant-loop-entry
-invariant-loop-entry l = record {
-  evicted : after_sieving (sieve_of l.queues) ≡ after_sieving (sieve_of l.initial.queues);
-  few : length l.queues.first + length l.queues.second ≤ l.fn.items;
-  first_room : l.queues.first_room ≡ l.fn.items;
-  second_room : l.queues.second_room ≡ l.fn.items;
-  places : (key : ℕ) → HasPlaces l.initial.queues key → HasPlaces l.queues key;
-}
+invariant-loop-entry l = record { queues : IsSieve l.fn.items l.queues; left : IsLeft l.initial.queues l.queues }
 
 abbrev pub decreases-loop-entry : goal.decreases-loop-entry
-decreases-loop-entry l = total_uses l.queues.first + total_uses l.queues.second
+decreases-loop-entry l = l.queues.first_uses + l.queues.second_uses

@@ -4,16 +4,16 @@ use Rattle.bump_rules.specs.declared.configs.Config.{Config}
 use Rattle.bump_rules.specs.declared.items.ItemId.{ItemId}
 use Rattle.bump_steps.specs.Rule.{chunks as all_chunks}
 use Rattle.bump_steps.specs.declared.refusals.TakeRefusal.{TakeRefusal}
-use Rattle.bump_steps.specs.declared.views.HoldPart.{HoldPart}
+use Rattle.bump_steps.specs.declared.views.HoldSheet.{HoldSheet}
 use Rattle.bump_steps.specs.References.{new_hold}
-use Rattle.bump_parts.specs.Gets.{Got, get_result}
-use Rattle.bump_parts.specs.Touches.{Touched}
+use Rattle.bump_unlocked.specs.Gets.{Got, get_result}
+use Rattle.bump_unlocked.specs.Touches.{Touched}
 use Rattle.store_trace.proofs.commands.get.Goals as goal
 
 -- a hold that was taken is of the item that was asked for
-held_item : (refusal : Option TakeRefusal) (item : ItemId) (row : List ℕ) (hold : HoldPart)
+held_item : (refusal : Option TakeRefusal) (item : ItemId) (row : List ℕ) (hold : HoldSheet)
     → Ok hold ≡ get_result refusal item row → hold.life ≡ item
-held_item None item row hold is = let e : hold ≡ new_hold item row = cc is in ap (λ (h : HoldPart). h.life) e
+held_item None item row hold is = let e : hold ≡ new_hold item row = cc is in ap (λ (h : HoldSheet). h.life) e
 held_item (Some refusal) item row hold is = absurd (cc is)
 
 pub returns-clause-got : goal.returns-clause-got

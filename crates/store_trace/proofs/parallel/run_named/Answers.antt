@@ -1,6 +1,6 @@
 use Rattle.std.proofs.Common.{ℕ, List, ◌++◌, sym, ap, ◌∙◌, subst}
 use Rattle.trace_lines.specs.Counted.{inner_of}
-use Rattle.bump_state.specs.Opening.{new_state}
+use Rattle.model_state.specs.Opening.{new_state}
 use Rattle.bump_trace.specs.Gathering.{Gathers}
 use Rattle.bump_trace.specs.Meaning.{parts_of}
 use Rattle.bump_trace.specs.Stages.{StoreState, Open, nameless}

@@ -16,8 +16,8 @@ use Rattle.store_trace.proofs.reports.meet_lanes.Goals as goal
 
 -- what a Book that met so many lanes has of moves, it had before
 moves_before : (n : ℕ) (b : BookView) (worker : ℕ) (applied : List AppliedBump)
-    → moves_of worker (book_after_meets n b).part.history ≡ moved_in (book_after_meets n b).part applied
-    → moves_of worker b.part.history ≡ moved_in b.part applied
+    → moves_of worker (book_after_meets n b).sheet.history ≡ moved_in (book_after_meets n b).sheet applied
+    → moves_of worker b.sheet.history ≡ moved_in b.sheet applied
 moves_before zero b worker applied told = told
 moves_before (suc n) b worker applied told = moves_before n b worker applied told
 
@@ -34,11 +34,11 @@ loop-at-preserved g c =
     let read : pair.lane ≡ get_or lanes at pair.lane =
     ap lane c.index_mut.ensures.value ∙ sym (get_or-map lane c.loop-at.pairs.items at pair) ∙ ap (λ (ls : List LaneState). get_or ls at pair.lane) i.lanes in
     let next : suc at ≡ at + 1 = omega arith in
-    let met = moves_before at book pair.lane.lane.part.worker (entries pair.lane.lane)
-    (subst (λ (b : BookView). moves_of pair.lane.lane.part.worker b.part.history ≡ moved_in b.part (entries pair.lane.lane)) i.book c.meet.ensures.moves) in record {
+    let met = moves_before at book pair.lane.lane.sheet.worker (entries pair.lane.lane)
+    (subst (λ (b : BookView). moves_of pair.lane.lane.sheet.worker b.sheet.history ≡ moved_in b.sheet (entries pair.lane.lane)) i.book c.meet.ensures.moves) in record {
       book = c.meet.ensures.book ∙ ap book_after_meet i.book ∙ ap (λ (n : ℕ). book_after_meets n book) next;
       lanes = map-set_same lane c.loop-at.pairs.items at _ pair (c.meet.ensures.lane ∙ ap lane c.index_mut.ensures.value) ∙ i.lanes;
-      told = same_next (λ (l : LaneState). moves_of l.lane.part.worker book.part.history) (λ (l : LaneState). moved_in book.part (entries l.lane)) lanes at
+      told = same_next (λ (l : LaneState). moves_of l.lane.sheet.worker book.sheet.history) (λ (l : LaneState). moved_in book.sheet (entries l.lane)) lanes at
           pair.lane inside read met i.told;
       end = i.end;
       place = omega (arith, low);
@@ -57,5 +57,5 @@ returns-clause-told g c =
     let lanes = lanes_of c.args.pairs.now.items in
     let all : length lanes ≤ c.loop-at.at =
     omega (arith, i.end, i.place, c.loop-at-test.false, length-map c.args.pairs.now.items (λ (p : Pair g.row.N.Denot). p.lane)) in
-    subst (λ (ls : List LaneState). map (λ (l : LaneState). moves_of l.lane.part.worker book.part.history) ls ≡ map (λ (l : LaneState). moved_in book.part (entries l.lane)) ls)
+    subst (λ (ls : List LaneState). map (λ (l : LaneState). moves_of l.lane.sheet.worker book.sheet.history) ls ≡ map (λ (l : LaneState). moved_in book.sheet (entries l.lane)) ls)
     (take_all c.loop-at.at lanes all) i.told

@@ -11,8 +11,8 @@ abbrev pub invariant-loop-at : goal.invariant-loop-at
 invariant-loop-at g l = record {
   book : l.book ≡ book_after_meets l.at l.fn.book;
   lanes : lanes_of l.pairs.items ≡ lanes_of l.fn.pairs.items;
-  told : map (λ m. moves_of m.lane.part.worker l.fn.book.part.history) (take l.at (lanes_of l.fn.pairs.items))
-      ≡ map (λ m. moved_in l.fn.book.part (entries m.lane)) (take l.at (lanes_of l.fn.pairs.items));
+  told : map (λ m. moves_of m.lane.sheet.worker l.fn.book.sheet.history) (take l.at (lanes_of l.fn.pairs.items))
+      ≡ map (λ m. moved_in l.fn.book.sheet (entries m.lane)) (take l.at (lanes_of l.fn.pairs.items));
   end : l.at-end ≡ length l.fn.pairs.items;
   place : l.at ≤ length l.fn.pairs.items;
 }

@@ -12,8 +12,8 @@ use Rattle.store_trace.proofs.NumberedTexts.{told_more}
 use Rattle.store_trace.proofs.reports.put_all_moves.Goals as goal
 
 -- a Book that met lanes has the workers, and the history, that it had
-moves_stay : (n : ℕ) (b : BookView) → moves_of_each (book_after_meets n b).workers (book_after_meets n b).part.history
-    ≡ moves_of_each b.workers b.part.history
+moves_stay : (n : ℕ) (b : BookView) → moves_of_each (book_after_meets n b).workers (book_after_meets n b).sheet.history
+    ≡ moves_of_each b.workers b.sheet.history
 moves_stay zero b = refl
 moves_stay (suc n) b = moves_stay n b
 
@@ -36,12 +36,12 @@ loop-class-preserved g c =
     let value = c.deref_mut-book.ensures.value in
     let before = c.loop-class.out.items in
     let workers : book.workers ≡ store.workers = ap (λ (b : BookView). b.workers) value ∙ c.in-Ok.ensures.workers in
-    let counts = moves_of_each store.workers book.part.history in
+    let counts = moves_of_each store.workers book.sheet.history in
     let one : AreMovesOf store lanes class counts = record {
       book = book;
       of_class = subst (λ (b : BookView). IsOfClass class store.classes b) (sym value) c.in-Ok.ensures.class;
       counted = refl;
-      told = subst (λ (ls : List LaneState). moves_of_lanes book.part ls ≡ lane_moves_told book.part ls) i.lanes c.meet_lanes.ensures.told;
+      told = subst (λ (ls : List LaneState). moves_of_lanes book.sheet ls ≡ lane_moves_told book.sheet ls) i.lanes c.meet_lanes.ensures.told;
     } in record {
       lanes = c.meet_lanes.ensures.lanes ∙ i.lanes;
       told = (
@@ -51,8 +51,8 @@ loop-class-preserved g c =
         each_push (AreMovesOf store lanes) moves counts each (subst (λ (n : ℕ). AreMovesOf store lanes n counts) (sym count) one),
         told_more moves_lines moves counts class c.args.out.now.items before c.put_class_moves.new.out.items count is
             (c.in_ok-put_class_moves.ensures
-            ∙ ap (λ (b : BookView). before ++ moves_lines class (moves_of_each b.workers b.part.history)) c.meet_lanes.ensures.book
+            ∙ ap (λ (b : BookView). before ++ moves_lines class (moves_of_each b.workers b.sheet.history)) c.meet_lanes.ensures.book
             ∙ ap (λ (told : List ℕ). before ++ moves_lines class told) (moves_stay (length c.loop-class.pairs.items) book)
-            ∙ ap (λ (n : ℕ). before ++ moves_lines class (moves_of_each n book.part.history)) workers),
+            ∙ ap (λ (n : ℕ). before ++ moves_lines class (moves_of_each n book.sheet.history)) workers),
       );
     }

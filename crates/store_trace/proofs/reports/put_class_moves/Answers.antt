@@ -10,7 +10,7 @@ pub loop-worker-preserved : goal.loop-worker-preserved
 loop-worker-preserved g c =
     let class = c.args.class in
     let worker = c.loop-worker.worker in
-    let history = c.args.book.now.part.history in
+    let history = c.args.book.now.sheet.history in
     let told = λ (w : ℕ). moves_of w history in
     told_more (moves_line class) (moves_of_each worker history) (told worker) worker c.args.out.now.items c.loop-worker.out.items
     c.put_moves.new.out.items (length-map-range_with_len told 0 worker) c.loop-worker.invariant

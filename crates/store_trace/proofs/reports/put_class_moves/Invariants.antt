@@ -5,4 +5,4 @@ use Rattle.store_trace.proofs.reports.put_class_moves.Given as goal
 -- the moves of the first workers, so many
 abbrev pub invariant-loop-worker : goal.invariant-loop-worker
 invariant-loop-worker g l =
-    l.out.items ≡ l.fn.out.items ++ moves_lines l.class (moves_of_each l.worker l.book.part.history)
+    l.out.items ≡ l.fn.out.items ++ moves_lines l.class (moves_of_each l.worker l.book.sheet.history)

@@ -1,6 +1,6 @@
 use Rattle.std.proofs.Common.{◌≡◌, ◌+◌, length}
 use Rattle.std.specs.Vec.Iter.{into_iter_items}
-use Rattle.bump_parts.specs.Workers.{worker_rings}
+use Rattle.bump_unlocked.specs.Workers.{worker_rings}
 use Rattle.bump_store.specs.Lanes.{lane_rings}
 use Rattle.store_trace.proofs.running.pair_up.Given as goal
 

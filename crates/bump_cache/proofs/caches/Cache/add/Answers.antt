@@ -1,9 +1,8 @@
 use Rattle.std.proofs.Common.{rules, ◌≡◌, ap, sym, ◌∙◌}
 use Rattle.std.specs.Sync.Mutex.{mutex_guard_value}
 use Rattle.bump_cache.specs.Changing.{Adds, RefusesNew}
-use Rattle.bump_cache.proofs.ChangingLemmas.{added_then}
 use Rattle.bump_cache.specs.States.{number_of}
-use Rattle.bump_cache.proofs.Noting.{err_known, ok_known, same_shelf}
+use Rattle.bump_cache.proofs.Noting.{err_noted, ok_noted, same_shelf}
 use Rattle.bump_cache.proofs.caches.Cache.add.Goals as goal
 
 pub returns-clause-part : goal.returns-clause-part
@@ -11,64 +10,17 @@ returns-clause-part g c =
     let guarded : c.logged.inside.log.number ≡ (mutex_guard_value c.lock_of-guard.result).number = search rules in
     ap number_of c.note.ensures.to ∙ (c.logged.invariant.1 ∙ (guarded ∙ c.lock_of-guard.ensures))
 
-pub returns-clause-has : goal.returns-clause-has
-returns-clause-has g c = ok_known c.add-added.result (Adds g.K.Packed.as_words g.V.Packed.as_words (g.K.Packed.as_words c.args.key.now)
-    (g.V.Packed.as_words c.args.value.now) c.args.expires c.args.now) _ _ _ _ _
-    (same_shelf (c.logged.invariant.0 ∙ sym c.note.ensures.from)) (same_shelf (sym c.note.ensures.to)) c.add-added.ensures.adds
-    (λ did adds. added_then did _ _ _ _ (λ has finds. finds.had) (λ evicted puts. tt) adds)
-
-pub returns-clause-unchanged : goal.returns-clause-unchanged
-returns-clause-unchanged g c = ok_known c.add-added.result (Adds g.K.Packed.as_words g.V.Packed.as_words (g.K.Packed.as_words c.args.key.now)
-    (g.V.Packed.as_words c.args.value.now) c.args.expires c.args.now) _ _ _ _ _
-    (same_shelf (c.logged.invariant.0 ∙ sym c.note.ensures.from)) (same_shelf (sym c.note.ensures.to)) c.add-added.ensures.adds
-    (λ did adds. added_then did _ _ _ _ (λ has finds. finds.reads) (λ evicted puts. tt) adds)
-
-pub returns-clause-free : goal.returns-clause-free
-returns-clause-free g c = ok_known c.add-added.result (Adds g.K.Packed.as_words g.V.Packed.as_words (g.K.Packed.as_words c.args.key.now)
-    (g.V.Packed.as_words c.args.value.now) c.args.expires c.args.now) _ _ _ _ _
-    (same_shelf (c.logged.invariant.0 ∙ sym c.note.ensures.from)) (same_shelf (sym c.note.ensures.to)) c.add-added.ensures.adds
-    (λ did adds. added_then did _ _ _ _ (λ has finds. tt) (λ evicted puts. puts.free) adds)
-
-pub returns-clause-kept : goal.returns-clause-kept
-returns-clause-kept g c = ok_known c.add-added.result (Adds g.K.Packed.as_words g.V.Packed.as_words (g.K.Packed.as_words c.args.key.now)
-    (g.V.Packed.as_words c.args.value.now) c.args.expires c.args.now) _ _ _ _ _
-    (same_shelf (c.logged.invariant.0 ∙ sym c.note.ensures.from)) (same_shelf (sym c.note.ensures.to)) c.add-added.ensures.adds
-    (λ did adds. added_then did _ _ _ _ (λ has finds. tt) (λ evicted puts. puts.kept) adds)
-
-pub returns-clause-evicted : goal.returns-clause-evicted
-returns-clause-evicted g c = ok_known c.add-added.result (Adds g.K.Packed.as_words g.V.Packed.as_words (g.K.Packed.as_words c.args.key.now)
-    (g.V.Packed.as_words c.args.value.now) c.args.expires c.args.now) _ _ _ _ _
-    (same_shelf (c.logged.invariant.0 ∙ sym c.note.ensures.from)) (same_shelf (sym c.note.ensures.to)) c.add-added.ensures.adds
-    (λ did adds. added_then did _ _ _ _ (λ has finds. tt) (λ evicted puts. puts.told) adds)
-
-pub returns-clause-others : goal.returns-clause-others
-returns-clause-others g c = ok_known c.add-added.result (Adds g.K.Packed.as_words g.V.Packed.as_words (g.K.Packed.as_words c.args.key.now)
-    (g.V.Packed.as_words c.args.value.now) c.args.expires c.args.now) _ _ _ _ _
-    (same_shelf (c.logged.invariant.0 ∙ sym c.note.ensures.from)) (same_shelf (sym c.note.ensures.to)) c.add-added.ensures.adds
-    (λ did adds. added_then did _ _ _ _ (λ has finds. tt) (λ evicted puts. puts.others) adds)
-
-pub returns-clause-puts : goal.returns-clause-puts
-returns-clause-puts g c = ok_known c.add-added.result (Adds g.K.Packed.as_words g.V.Packed.as_words (g.K.Packed.as_words c.args.key.now)
-    (g.V.Packed.as_words c.args.value.now) c.args.expires c.args.now) _ _ _ _ _
-    (same_shelf (c.logged.invariant.0 ∙ sym c.note.ensures.from)) (same_shelf (sym c.note.ensures.to)) c.add-added.ensures.adds
-    (λ did adds. added_then did _ _ _ _ (λ has finds. tt) (λ evicted puts. puts.puts) adds)
-
-pub returns-clause-free_refused : goal.returns-clause-free_refused
-returns-clause-free_refused g c = err_known c.add-added.result (RefusesNew g.K.Packed.as_words g.V.Packed.as_words (g.K.Packed.as_words c.args.key.now) c.args.now) _ _ _ _ _
-    (same_shelf (c.logged.invariant.0 ∙ sym c.note.ensures.from)) (same_shelf (sym c.note.ensures.to)) c.add-added.ensures.refuses
-    (λ why refuses. refuses.free)
-
-pub returns-clause-evicted_refused : goal.returns-clause-evicted_refused
-returns-clause-evicted_refused g c = err_known c.add-added.result (RefusesNew g.K.Packed.as_words g.V.Packed.as_words (g.K.Packed.as_words c.args.key.now) c.args.now) _ _ _ _ _
-    (same_shelf (c.logged.invariant.0 ∙ sym c.note.ensures.from)) (same_shelf (sym c.note.ensures.to)) c.add-added.ensures.refuses
-    (λ why refuses. refuses.told)
-
-pub returns-clause-stay : goal.returns-clause-stay
-returns-clause-stay g c = err_known c.add-added.result (RefusesNew g.K.Packed.as_words g.V.Packed.as_words (g.K.Packed.as_words c.args.key.now) c.args.now) _ _ _ _ _
-    (same_shelf (c.logged.invariant.0 ∙ sym c.note.ensures.from)) (same_shelf (sym c.note.ensures.to)) c.add-added.ensures.refuses
-    (λ why refuses. refuses.stay)
+pub returns-clause-adds : goal.returns-clause-adds
+returns-clause-adds g c = ok_noted c.add-added.result
+    (Adds g.K.Packed.as_words g.V.Packed.as_words (g.K.Packed.as_words c.args.key.now) (g.V.Packed.as_words c.args.value.now) c.args.expires
+    c.args.now)
+    _ _ _ _ (same_shelf (c.logged.invariant.0 ∙ sym c.note.ensures.from))
+    (same_shelf (sym c.note.ensures.to))
+    c.add-added.ensures.adds
 
 pub returns-clause-refuses : goal.returns-clause-refuses
-returns-clause-refuses g c = err_known c.add-added.result (RefusesNew g.K.Packed.as_words g.V.Packed.as_words (g.K.Packed.as_words c.args.key.now) c.args.now) _ _ _ _ _
-    (same_shelf (c.logged.invariant.0 ∙ sym c.note.ensures.from)) (same_shelf (sym c.note.ensures.to)) c.add-added.ensures.refuses
-    (λ why refuses. refuses.refuses)
+returns-clause-refuses g c = err_noted c.add-added.result
+    (RefusesNew g.K.Packed.as_words g.V.Packed.as_words (g.K.Packed.as_words c.args.key.now) c.args.now)
+    _ _ _ _ (same_shelf (c.logged.invariant.0 ∙ sym c.note.ensures.from))
+    (same_shelf (sym c.note.ensures.to))
+    c.add-added.ensures.refuses

@@ -1,9 +1,8 @@
-use Rattle.std.proofs.Common.{rules, ◌≡◌, ap, is_some, sym, ◌∙◌}
+use Rattle.std.proofs.Common.{rules, ◌≡◌, ap, sym, ◌∙◌}
 use Rattle.std.specs.Sync.Mutex.{mutex_guard_value}
-use Rattle.bump_cache.specs.Changing.{ReplacesWhereSome, RefusesAnew}
-use Rattle.bump_cache.proofs.ChangingLemmas.{old_told, told_then}
+use Rattle.bump_cache.specs.Changing.{RefusesAnew, ReplacesWhereSome}
 use Rattle.bump_cache.specs.States.{number_of}
-use Rattle.bump_cache.proofs.Noting.{err_known, ok_known, same_shelf}
+use Rattle.bump_cache.proofs.Noting.{err_noted, ok_noted, same_shelf}
 use Rattle.bump_cache.proofs.caches.Cache.replace.Goals as goal
 
 pub returns-clause-part : goal.returns-clause-part
@@ -11,70 +10,16 @@ returns-clause-part g c =
     let guarded : c.logged.inside.log.number ≡ (mutex_guard_value c.lock_of-guard.result).number = search rules in
     ap number_of c.note.ensures.to ∙ (c.logged.invariant.1 ∙ (guarded ∙ c.lock_of-guard.ensures))
 
-pub returns-clause-absent : goal.returns-clause-absent
-returns-clause-absent g c = ok_known c.replace-replaced.result (ReplacesWhereSome g.V.Packed.as_words (g.K.Packed.as_words c.args.key.now)
-    (g.V.Packed.as_words c.args.value.now) c.args.expires c.args.now) _ _ _ _ _
-    (same_shelf (c.logged.invariant.0 ∙ sym c.note.ensures.from)) (same_shelf (sym c.note.ensures.to)) c.replace-replaced.ensures.replaces
-    (λ told did. told_then told _ _ _ _ (λ finds. finds.had) (λ it puts. tt) did)
-
-pub returns-clause-unchanged : goal.returns-clause-unchanged
-returns-clause-unchanged g c = ok_known c.replace-replaced.result (ReplacesWhereSome g.V.Packed.as_words (g.K.Packed.as_words c.args.key.now)
-    (g.V.Packed.as_words c.args.value.now) c.args.expires c.args.now) _ _ _ _ _
-    (same_shelf (c.logged.invariant.0 ∙ sym c.note.ensures.from)) (same_shelf (sym c.note.ensures.to)) c.replace-replaced.ensures.replaces
-    (λ told did. told_then told _ _ _ _ (λ finds. finds.reads) (λ it puts. tt) did)
-
-pub returns-clause-old : goal.returns-clause-old
-returns-clause-old g c = ok_known c.replace-replaced.result (ReplacesWhereSome g.V.Packed.as_words (g.K.Packed.as_words c.args.key.now)
-    (g.V.Packed.as_words c.args.value.now) c.args.expires c.args.now) _ _ _ _ _
-    (same_shelf (c.logged.invariant.0 ∙ sym c.note.ensures.from)) (same_shelf (sym c.note.ensures.to)) c.replace-replaced.ensures.replaces
-    (λ told did. told_then told _ _ _ _ (λ finds. tt) (λ it puts. old_told it.old _ _ puts.told puts.puts.had) did)
-
-pub returns-clause-told : goal.returns-clause-told
-returns-clause-told g c = ok_known c.replace-replaced.result (ReplacesWhereSome g.V.Packed.as_words (g.K.Packed.as_words c.args.key.now)
-    (g.V.Packed.as_words c.args.value.now) c.args.expires c.args.now) _ _ _ _ _
-    (same_shelf (c.logged.invariant.0 ∙ sym c.note.ensures.from)) (same_shelf (sym c.note.ensures.to)) c.replace-replaced.ensures.replaces
-    (λ told did. told_then told _ _ _ _ (λ finds. tt) (λ it puts. ap is_some puts.told) did)
-
-pub returns-clause-none_evicted : goal.returns-clause-none_evicted
-returns-clause-none_evicted g c = ok_known c.replace-replaced.result (ReplacesWhereSome g.V.Packed.as_words (g.K.Packed.as_words c.args.key.now)
-    (g.V.Packed.as_words c.args.value.now) c.args.expires c.args.now) _ _ _ _ _
-    (same_shelf (c.logged.invariant.0 ∙ sym c.note.ensures.from)) (same_shelf (sym c.note.ensures.to)) c.replace-replaced.ensures.replaces
-    (λ told did. told_then told _ _ _ _ (λ finds. tt) (λ it puts. puts.none) did)
-
-pub returns-clause-kept : goal.returns-clause-kept
-returns-clause-kept g c = ok_known c.replace-replaced.result (ReplacesWhereSome g.V.Packed.as_words (g.K.Packed.as_words c.args.key.now)
-    (g.V.Packed.as_words c.args.value.now) c.args.expires c.args.now) _ _ _ _ _
-    (same_shelf (c.logged.invariant.0 ∙ sym c.note.ensures.from)) (same_shelf (sym c.note.ensures.to)) c.replace-replaced.ensures.replaces
-    (λ told did. told_then told _ _ _ _ (λ finds. tt) (λ it puts. puts.puts.kept) did)
-
-pub returns-clause-others : goal.returns-clause-others
-returns-clause-others g c = ok_known c.replace-replaced.result (ReplacesWhereSome g.V.Packed.as_words (g.K.Packed.as_words c.args.key.now)
-    (g.V.Packed.as_words c.args.value.now) c.args.expires c.args.now) _ _ _ _ _
-    (same_shelf (c.logged.invariant.0 ∙ sym c.note.ensures.from)) (same_shelf (sym c.note.ensures.to)) c.replace-replaced.ensures.replaces
-    (λ told did. told_then told _ _ _ _ (λ finds. tt) (λ it puts. puts.puts.others) did)
-
-pub returns-clause-puts : goal.returns-clause-puts
-returns-clause-puts g c = ok_known c.replace-replaced.result (ReplacesWhereSome g.V.Packed.as_words (g.K.Packed.as_words c.args.key.now)
-    (g.V.Packed.as_words c.args.value.now) c.args.expires c.args.now) _ _ _ _ _
-    (same_shelf (c.logged.invariant.0 ∙ sym c.note.ensures.from)) (same_shelf (sym c.note.ensures.to)) c.replace-replaced.ensures.replaces
-    (λ told did. told_then told _ _ _ _ (λ finds. tt) (λ it puts. puts.puts.puts) did)
-
-pub returns-clause-had_refused : goal.returns-clause-had_refused
-returns-clause-had_refused g c = err_known c.replace-replaced.result (RefusesAnew (g.K.Packed.as_words c.args.key.now) c.args.now) _ _ _ _ _
-    (same_shelf (c.logged.invariant.0 ∙ sym c.note.ensures.from)) (same_shelf (sym c.note.ensures.to)) c.replace-replaced.ensures.refuses
-    (λ why refuses. refuses.had)
-
-pub returns-clause-none_refused : goal.returns-clause-none_refused
-returns-clause-none_refused g c = err_known c.replace-replaced.result (RefusesAnew (g.K.Packed.as_words c.args.key.now) c.args.now) _ _ _ _ _
-    (same_shelf (c.logged.invariant.0 ∙ sym c.note.ensures.from)) (same_shelf (sym c.note.ensures.to)) c.replace-replaced.ensures.refuses
-    (λ why refuses. refuses.none)
-
-pub returns-clause-stay : goal.returns-clause-stay
-returns-clause-stay g c = err_known c.replace-replaced.result (RefusesAnew (g.K.Packed.as_words c.args.key.now) c.args.now) _ _ _ _ _
-    (same_shelf (c.logged.invariant.0 ∙ sym c.note.ensures.from)) (same_shelf (sym c.note.ensures.to)) c.replace-replaced.ensures.refuses
-    (λ why refuses. refuses.stay)
+pub returns-clause-replaces : goal.returns-clause-replaces
+returns-clause-replaces g c = ok_noted c.replace-replaced.result
+    (ReplacesWhereSome g.V.Packed.as_words (g.K.Packed.as_words c.args.key.now) (g.V.Packed.as_words c.args.value.now) c.args.expires c.args.now)
+    _ _ _ _ (same_shelf (c.logged.invariant.0 ∙ sym c.note.ensures.from))
+    (same_shelf (sym c.note.ensures.to))
+    c.replace-replaced.ensures.replaces
 
 pub returns-clause-refuses : goal.returns-clause-refuses
-returns-clause-refuses g c = err_known c.replace-replaced.result (RefusesAnew (g.K.Packed.as_words c.args.key.now) c.args.now) _ _ _ _ _
-    (same_shelf (c.logged.invariant.0 ∙ sym c.note.ensures.from)) (same_shelf (sym c.note.ensures.to)) c.replace-replaced.ensures.refuses
-    (λ why refuses. refuses.refuses)
+returns-clause-refuses g c = err_noted c.replace-replaced.result
+    (RefusesAnew (g.K.Packed.as_words c.args.key.now) c.args.now)
+    _ _ _ _ (same_shelf (c.logged.invariant.0 ∙ sym c.note.ensures.from))
+    (same_shelf (sym c.note.ensures.to))
+    c.replace-replaced.ensures.refuses

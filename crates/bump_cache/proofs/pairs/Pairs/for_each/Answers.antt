@@ -21,7 +21,7 @@ pub visit_chunk-visit-requires-clause-own : goal.visit_chunk-visit-requires-clau
 visit_chunk-visit-requires-clause-own g c =
     let so_far = c.loop-chunk.invariant in
     owned_read c.args.self.now c.loop-chunk.self so_far.reads c.loop-chunk.chunk
-    ∙ owned_by c.args.self.now.part.book.part c.loop-chunk.chunk so_far.from
+    ∙ owned_by c.args.self.now.part.book.sheet c.loop-chunk.chunk so_far.from
     (omega (arith, c.loop-chunk-test.true, c.chunks-chunks.ensures.end))
 
 pub loop-chunk-preserved : goal.loop-chunk-preserved
@@ -46,7 +46,7 @@ loop-chunk-preserved g c =
 pub returns-clause-visits : goal.returns-clause-visits
 returns-clause-visits g c =
     let so_far = c.loop-chunk.invariant in let part = c.args.self.now.part in
-    let all : c.loop-chunk.chunk - part.book.part.first ≡ part.book.part.count =
+    let all : c.loop-chunk.chunk - part.book.sheet.first ≡ part.book.sheet.count =
     omega (arith, so_far.from, so_far.within, c.loop-chunk-test.false, c.chunks-chunks.ensures.end) in
     record {
       entries = unexpired_entries c.args.now part;

@@ -1,5 +1,5 @@
 use Rattle.std.proofs.Common.{rules, ◌≡◌, length, refl, sym, ap, ◌∙◌, subst, arith}
-use Rattle.bump_steps.specs.declared.views.HoldPart.{HoldPart}
+use Rattle.bump_steps.specs.declared.views.HoldSheet.{HoldSheet}
 use Rattle.cache_readers.specs.Readers.{CountsHit}
 use Rattle.bump_cache.specs.Held.{hold_of, loan_of, reader_of}
 use Rattle.bump_cache.specs.Pairs.{IsPair}
@@ -27,7 +27,7 @@ returns g c =
             (subst (λ (end : CacheReaderView). InPart (HitsItem (IsPair g.K.Packed.fits g.K.Packed.as_words
             g.V.Packed.fits g.V.Packed.as_words) (g.K.Packed.as_words c.args.key.now) c.args.now (hold_of c.new.result))
             (g.K.Packed.as_words c.args.key.now) (readers_by c.self.inside.seed c.deref_mut.result.now) end) after
-            (subst (λ (hold : HoldPart). InPart (HitsItem (IsPair g.K.Packed.fits g.K.Packed.as_words g.V.Packed.fits
+            (subst (λ (hold : HoldSheet). InPart (HitsItem (IsPair g.K.Packed.fits g.K.Packed.as_words g.V.Packed.fits
             g.V.Packed.as_words) (g.K.Packed.as_words c.args.key.now) c.args.now hold)
             (g.K.Packed.as_words c.args.key.now) (readers_by c.self.inside.seed c.deref_mut.result.now)
             (readers_by c.self.inside.seed c.hold_in.new.parts)) held c.in-Some.ensures.found));
@@ -35,7 +35,7 @@ returns g c =
             (reader_of c.new.result)) before
             (subst (λ (end : CacheReaderView). InPart CountsHit (g.K.Packed.as_words c.args.key.now)
             (readers_by c.self.inside.seed c.deref_mut.result.now) end) after c.in-Some.ensures.counted);
-        value = subst (λ (hold : HoldPart). HoldsValue g.V.Packed.fits g.V.Packed.as_words g.K.Packed.width hold) held
+        value = subst (λ (hold : HoldSheet). HoldsValue g.V.Packed.fits g.V.Packed.as_words g.K.Packed.width hold) held
             c.in-Some.ensures.value;
         ring = subst (λ (start : CacheReaderView). KeepsRings start (reader_of c.new.result)) before
             (subst (λ (end : CacheReaderView). KeepsRings

@@ -9,14 +9,14 @@ pub before-requires : goal.before-requires
 before-requires g c =
     let i = c.self.inside in
     let b : BookView = record {
-      part = i.seat.part;
+      sheet = i.seat.sheet;
       lists = i.lists;
       hot_limit = i.hot_limit;
       warm_limit = i.warm_limit;
       workers = i.workers;
     } in
-    let own = subst (λ (x : BookView). owns c.args.chunk x.part ≡ true) (sym c.self.view_is) c.requires.own in
-    let at = subst (λ (x : BookView). place_of_chunk x.part c.args.chunk ≡ c.args.place) (sym c.self.view_is)
+    let own = subst (λ (x : BookView). owns c.args.chunk x.sheet ≡ true) (sym c.self.view_is) c.requires.own in
+    let at = subst (λ (x : BookView). place_of_chunk x.sheet c.args.chunk ≡ c.args.place) (sym c.self.view_is)
     c.requires.stands in
     omega (arith, once_there b c.args.chunk c.args.place c.self.invariant.3 own at)
 
@@ -24,7 +24,7 @@ pub returns-clause-stands : goal.returns-clause-stands
 returns-clause-stands g c =
     let i = c.self.inside in
     let b : BookView = record {
-      part = i.seat.part;
+      sheet = i.seat.sheet;
       lists = i.lists;
       hot_limit = i.hot_limit;
       warm_limit = i.warm_limit;

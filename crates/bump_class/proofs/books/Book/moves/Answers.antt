@@ -8,4 +8,4 @@ pub returns : goal.returns
 returns g c =
     let near = subst (λ (b : BookView). c.args.worker < b.workers) (sym c.self.view_is) c.requires.range in
     let few : c.args.worker < most_workers = omega (arith, near, c.self.invariant.5) in
-    c.self.invariant.4 c.args.worker few ∙ ap (λ (b : BookView). moves_of c.args.worker b.part.history) c.self.view_is
+    c.self.invariant.4 c.args.worker few ∙ ap (λ (b : BookView). moves_of c.args.worker b.sheet.history) c.self.view_is

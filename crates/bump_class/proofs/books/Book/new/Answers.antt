@@ -10,7 +10,7 @@ invariant_of-result g c =
       r.first,
       ap₂ (λ a b. a + b) r.first r.chunks,
       new_kept _ r.fresh.history r.fresh.idle (c.in_ok-lists.ensures ∙ ap₂ opening r.first r.chunks),
-      new_counts _ c.args.seat.part.history refl r.fresh.history,
+      new_counts _ c.args.seat.sheet.history refl r.fresh.history,
       r.workers,
     )
 

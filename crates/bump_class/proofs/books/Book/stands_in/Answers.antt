@@ -13,7 +13,7 @@ pub returns-clause-stands : goal.returns-clause-stands
 returns-clause-stands g c =
     let i = c.self.inside in
     let b : BookView = record {
-      part = i.seat.part;
+      sheet = i.seat.sheet;
       lists = i.lists;
       hot_limit = i.hot_limit;
       warm_limit = i.warm_limit;

@@ -3,8 +3,8 @@ use Rattle.bump_rules.specs.declared.bumps.Bump.{Bump}
 use Rattle.bump_rules.specs.Rings.{most_attempts}
 use Rattle.bump_steps.specs.Riders.{bump_of_ride, lane_after_board}
 use Rattle.bump_heads.specs.Seats.{aboard_lane}
-use Rattle.bump_class.specs.Lanes.{LaneView, KeepsLane, carries, part_or, entries}
-use Rattle.bump_class.proofs.LaneLemmas.{next_number, boarded_keeps, none_carried, count_is, part_boarded, boarded_told}
+use Rattle.bump_class.specs.Lanes.{LaneView, KeepsLane, carries, sheet_or, entries}
+use Rattle.bump_class.proofs.LaneLemmas.{next_number, boarded_keeps, none_carried, count_is, sheet_boarded, boarded_told}
 use Rattle.bump_class.proofs.carriers.Carrier.take.Goals as goal
 
 pub board-requires-clause-next : goal.board-requires-clause-next
@@ -36,7 +36,7 @@ returns-clause-next g c =
     c.in_ok-rider.ensures.number in
     let bump : ◌≡◌ {A = Bump} (record { number = i.applied; life = c.life.result }) (bump_of_ride r) =
     λ j. record { number = number j; life = c.life.ensures j } in
-    let part = ap part_or c.board.ensures.boarded ∙ part_boarded i.seat (bump_of_ride r) c.self.invariant.whole in (
+    let sheet = ap sheet_or c.board.ensures.boarded ∙ sheet_boarded i.seat (bump_of_ride r) c.self.invariant.whole in (
       r,
       record {
         bump_taken = bump;
@@ -48,7 +48,7 @@ returns-clause-next g c =
           ring = (c.in_ok-rider.ensures.ring ∙ ap (λ (l : LaneView). l.ring) c.self.view_is) j;
           received = (c.in_ok-rider.ensures.received ∙ ap (λ (l : LaneView). l.received ++ r ∷ []) c.self.view_is) j;
           known = c.take.new.self.known;
-          part = (part ∙ (λ k. lane_after_board (sym bump k) (c.self.view_is k).part)) j;
+          sheet = (sheet ∙ (λ k. lane_after_board (sym bump k) (c.self.view_is k).sheet)) j;
         };
       },
     )

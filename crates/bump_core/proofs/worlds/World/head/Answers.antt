@@ -1,5 +1,5 @@
 use Rattle.std.proofs.Common.{ap, ◌∙◌}
-use Rattle.bump_state.specs.State.{State, head_at}
+use Rattle.model_state.specs.State.{State, head_at}
 use Rattle.bump_core.proofs.worlds.World.head.Goals as goal
 
 pub returns : goal.returns

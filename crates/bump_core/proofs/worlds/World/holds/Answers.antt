@@ -1,6 +1,6 @@
 use Rattle.std.proofs.Common.{ap, ◌∙◌}
-use Rattle.bump_state.specs.declared.chunks.Chunk.{Chunk}
-use Rattle.bump_state.specs.State.{State}
+use Rattle.model_state.specs.declared.chunks.Chunk.{Chunk}
+use Rattle.model_state.specs.State.{State}
 use Rattle.bump_core.specs.Readers.{holds_at}
 use Rattle.bump_core.proofs.worlds.World.holds.Goals as goal
 

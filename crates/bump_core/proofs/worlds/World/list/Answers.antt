@@ -1,9 +1,9 @@
 use Rattle.std.proofs.Common.{subst, ap, ◌∙◌}
 use Rattle.bump_rules.specs.Lists.{list_at}
-use Rattle.bump_state.specs.State.{State, class_at}
-use Rattle.bump_state.specs.Worlds.{IsLawful}
+use Rattle.model_state.specs.State.{State, class_at}
+use Rattle.model_state.specs.Worlds.{IsLawful}
 use Rattle.bump_core.specs.Readers.{class_list}
-use Rattle.bump_state.proofs.Fronts.{listed_in_range}
+use Rattle.model_state.proofs.Fronts.{listed_in_range}
 use Rattle.bump_core.proofs.worlds.World.list.Goals as goal
 
 pub returns-clause-in_range : goal.returns-clause-in_range

@@ -1,5 +1,5 @@
 use Rattle.std.proofs.Common.{subst}
-use Rattle.bump_state.specs.Worlds.{IsLawful}
+use Rattle.model_state.specs.Worlds.{IsLawful}
 use Rattle.bump_core.proofs.worlds.Headline.{headline}
 use Rattle.bump_core.proofs.worlds.World.promise.Goals as goal
 

@@ -5,7 +5,7 @@ use Rattle.bump_core.specs.Headline.{ClosedStayFrom}
 use Rattle.bump_core.specs.Labels.{KeepsLabels}
 use Rattle.bump_core.specs.Runs.{run_of}
 use Rattle.std.proofs.lemmas.Option.{slice_get-get_or}
-use Rattle.bump_state.specs.Worlds.{IsLawful}
+use Rattle.model_state.specs.Worlds.{IsLawful}
 use Rattle.bump_core.proofs.worlds.Headline.{headline}
 use Rattle.bump_core.proofs.worlds.Labels.{keeps_labels}
 use Rattle.bump_core.proofs.worlds.ClosedRings.{closed_from}

@@ -1,5 +1,5 @@
 use Rattle.std.proofs.Common.{ap, ◌∙◌}
-use Rattle.bump_state.specs.State.{State}
+use Rattle.model_state.specs.State.{State}
 use Rattle.bump_core.specs.Readers.{sent_of}
 use Rattle.bump_core.proofs.worlds.World.sent.Goals as goal
 

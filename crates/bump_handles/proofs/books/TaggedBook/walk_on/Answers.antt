@@ -17,8 +17,8 @@ loop-count-preserved g c =
     let room = c.if-count-chunks.false in
     let long = c.loop-count.auto.chunks in
     record {
-      stands = subst (λ (b : TaggedBookView). IfSome c.after-next.result (λ d. (owns d b.book.part ≡ true)
-          × (place_of_chunk b.book.part d ≡ c.args.place))) c.self.view_is c.after-next.ensures.stands;
+      stands = subst (λ (b : TaggedBookView). IfSome c.after-next.result (λ d. (owns d b.book.sheet ≡ true)
+          × (place_of_chunk b.book.sheet d ≡ c.args.place))) c.self.view_is c.after-next.ensures.stands;
       room = omega (arith, room, length-set c.loop-count.chunks count chunk);
       told = λ before row whole first.
           let these = so.told before row whole first in

@@ -9,7 +9,7 @@ use Rattle.bump_handles.proofs.books.TaggedBook.walk_on.Given as goal
 -- the chunks that are told so far, and the rest of the list, of which the chunk at hand is the first
 abbrev pub invariant-loop-count : goal.invariant-loop-count
 invariant-loop-count g l = record {
-  stands : IfSome l.next (λ c. (owns c l.self.book.part ≡ true) × (place_of_chunk l.self.book.part c ≡ l.place));
+  stands : IfSome l.next (λ c. (owns c l.self.book.sheet ≡ true) × (place_of_chunk l.self.book.sheet c ≡ l.place));
   room : l.count ≤ length l.chunks;
   told : (before row : List ℕ) → list_at l.self.book.lists l.place ≡ before ++ row → l.fn.first ≡ first_of row
       → (ahead : List ℕ) × (told : List ℕ) × (row ≡ told ++ ahead) × (length told ≡ l.count)

@@ -1,5 +1,5 @@
 use Rattle.std.proofs.Common.{ℕ, ◌+◌, ◌<◌}
-use Rattle.bump_parts.specs.Parting.{IsBetweenStarts}
+use Rattle.bump_unlocked.specs.UnlockedStore.{IsBetweenStarts}
 use Rattle.bump_handles.proofs.drainers.Drainer.class_of.Given as goal
 
 -- none of those that were looked at has the chunk

@@ -11,8 +11,8 @@ use Rattle.bump_readers.proofs.WorkerTurns.{new_workers, length_workers}
 use Rattle.bump_heads.proofs.Makings.{length_classes, new_classes, length_lanes, new_lanes}
 use Rattle.bump_heads.proofs.heads.Heads.new.Goals as goal
 
-pub part_classes-requires-clause-parts : goal.part_classes-requires-clause-parts
-part_classes-requires-clause-parts g c = let k = c.args.config.now in let me = c.blank.invariant.1
+pub part_classes-requires-clause-sheets : goal.part_classes-requires-clause-sheets
+part_classes-requires-clause-sheets g c = let k = c.args.config.now in let me = c.blank.invariant.1
     ∙ ap (λ (x : Config). (opened x, [])) (ap (λ (b : BlankView). b.config) c.blank.view_is ∙ c.requires.config) in (
       ap (λ (x : Sat). length x.0.classes) me ∙ length_classes (k.first_generation - 1) 0 0 k.classes
           ∙ ap length (sym c.as_slice.ensures),
@@ -27,14 +27,14 @@ part_classes-requires-clause-parts g c = let k = c.args.config.now in let me = c
           ))),
     )
 
-pub part_workers-requires-clause-parts : goal.part_workers-requires-clause-parts
-part_workers-requires-clause-parts g c = let k = c.args.config.now in let me = c.blank.invariant.1
+pub part_workers-requires-clause-sheets : goal.part_workers-requires-clause-sheets
+part_workers-requires-clause-sheets g c = let k = c.args.config.now in let me = c.blank.invariant.1
     ∙ ap (λ (x : Config). (opened x, [])) (ap (λ (b : BlankView). b.config) c.blank.view_is ∙ c.requires.config) in
     let workers = ap (λ (x : Sat). x.0.workers) c.in_ok-classes.ensures.rest.1 ∙ ap (λ (x : Sat). x.0.workers) me in
     (ap length workers ∙ length_workers 0 k.workers, subst (AreNewWorkers 0) (sym workers) (new_workers 0 k.workers))
 
-pub part_lanes-requires-clause-parts : goal.part_lanes-requires-clause-parts
-part_lanes-requires-clause-parts g c = let k = c.args.config.now in let me = c.blank.invariant.1
+pub part_lanes-requires-clause-sheets : goal.part_lanes-requires-clause-sheets
+part_lanes-requires-clause-sheets g c = let k = c.args.config.now in let me = c.blank.invariant.1
     ∙ ap (λ (x : Config). (opened x, [])) (ap (λ (b : BlankView). b.config) c.blank.view_is ∙ c.requires.config) in
     let lanes = ap (λ (x : Sat). x.0.lanes) c.in_ok-workers.ensures.rest.1
     ∙ ap (λ (x : Sat). x.0.lanes) c.in_ok-classes.ensures.rest.1 ∙ ap (λ (x : Sat). x.0.lanes) me in

@@ -30,7 +30,7 @@ returns-clause-generation g c =
 
 pub returns-clause-life : goal.returns-clause-life
 returns-clause-life g c = life_told c.args.self.now c.args.chunk c.head_of.result
-    (clear_active_chunk c.args.chunk (standing c.args.self.now.part c.args.chunk).0 c.args.self.now.lane
+    (clear_active_chunk c.args.chunk (standing c.args.self.now.sheet c.args.chunk).0 c.args.self.now.lane
     c.requires.may) (told_as c.self.inside.seat.me c.self.inside.seat.me (class_in c.self.inside.seat.me.0)
     c.args.self.now c.self.invariant.0 (cc c.self.view_is) c.clear_active-word.result c.args.chunk
     c.head_of.result c.head_of.ensures c.clear_active-word.ensures.told.2)

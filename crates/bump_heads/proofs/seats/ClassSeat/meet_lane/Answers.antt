@@ -3,9 +3,9 @@ use Rattle.bump_steps.specs.Places.{rows}
 use Rattle.bump_steps.specs.declared.views.Kind.TheVariants as kind
 use Rattle.bump_steps.specs.Meetings.{class_after_meet}
 use Rattle.bump_steps.specs.Plays.{step_of}
-use Rattle.bump_steps.specs.declared.views.LanePart.{LanePart}
+use Rattle.bump_steps.specs.declared.views.LaneSheet.{LaneSheet}
 use Rattle.bump_heads.proofs.Badges.{seat_view, out_lane, out_is}
-use Rattle.bump_heads.proofs.ClassParts.{noted_part}
+use Rattle.bump_heads.proofs.ClassSheets.{noted_sheet}
 use Rattle.bump_heads.proofs.ClassSeats.{seat_kept}
 use Rattle.bump_heads.proofs.Joining.{noted_joined}
 use Rattle.bump_heads.proofs.Seeing.{met_rest, met_told}
@@ -15,7 +15,7 @@ use Rattle.bump_heads.proofs.seats.ClassSeat.meet_lane.Goals as goal
 pub into_seat-seat-requires : goal.into_seat-seat-requires
 into_seat-seat-requires g c = seat_view g.N.Name.table c.lane.inside.badge c.replace.result
     c.replace.ensures.value c.lane.invariant.0
-    (subst (λ (o : Option LanePart). IsSome o) (sym c.lane.view_is) c.requires.whole)
+    (subst (λ (o : Option LaneSheet). IsSome o) (sym c.lane.view_is) c.requires.whole)
 
 pub returns-clause-once : goal.returns-clause-once
 returns-clause-once g c =
@@ -69,8 +69,8 @@ invariant_of-self g c =
     (out_lane g.N.Name.table b c.replace.result c.replace.ensures.value i e.2 ∙ c.lane.view_is) c.join.ensures.joined
     c.meet_lane.ensures.noted (search rules) (search rules))
     (search rules) c.self.invariant.2 c.self.invariant.3 c.self.invariant.4
-    c.self.invariant.5 refl (λ o. noted_part (rows g.N.Name.table) now.part (now.part.steps ++ step ∷ []) o)
-    (λ j o. noted_joined now.part step now.lane j o)
+    c.self.invariant.5 refl (λ o. noted_sheet (rows g.N.Name.table) now.sheet (now.sheet.steps ++ step ∷ []) o)
+    (λ j o. noted_joined now.sheet step now.lane j o)
 
 pub returns-clause-class : goal.returns-clause-class
 returns-clause-class g c = search rules

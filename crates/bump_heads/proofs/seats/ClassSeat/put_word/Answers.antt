@@ -11,9 +11,9 @@ invariant_of-self g c = seat_kept c.self.inside.seat.me c.put_word.new.seat.me c
     (class_after_put_word c.args.chunk c.args.index c.args.word) g.N.Name.table c.put_word.new.seat.table_id c.self.inside.class
     c.self.view_is c.self.invariant.0 c.put_word.ensures.told
     (c.put_word.ensures.same.0 ∙ c.self.invariant.1) c.self.invariant.2 c.self.invariant.3 c.self.invariant.4
-    c.self.invariant.5 refl (λ o. keeps_put_word (rows g.N.Name.table) c.args.self.now.part o c.args.chunk
+    c.self.invariant.5 refl (λ o. keeps_put_word (rows g.N.Name.table) c.args.self.now.sheet o c.args.chunk
     c.args.index c.args.word c.requires.unused)
-    (λ j o. alone_joined c.args.self.now.part (class_after_put_word c.args.chunk c.args.index c.args.word c.args.self.now.part)
+    (λ j o. alone_joined c.args.self.now.sheet (class_after_put_word c.args.chunk c.args.index c.args.word c.args.self.now.sheet)
     c.args.self.now.lane j c.requires.alone refl o)
 
 pub returns : goal.returns

@@ -3,7 +3,7 @@ use Rattle.bump_steps.specs.Places.{rows}
 use Rattle.bump_steps.specs.declared.views.Kind.TheVariants as kind
 use Rattle.bump_steps.specs.Sights.{class_after_see_label}
 use Rattle.bump_steps.specs.Plays.{step_of}
-use Rattle.bump_heads.proofs.ClassParts.{noted_part}
+use Rattle.bump_heads.proofs.ClassSheets.{noted_sheet}
 use Rattle.bump_heads.proofs.ClassSeats.{seat_kept}
 use Rattle.bump_heads.proofs.Joining.{noted_joined}
 use Rattle.bump_heads.proofs.Stored.{found_last, found_of_life}
@@ -17,8 +17,8 @@ invariant_of-self g c =
     g.N.Name.table c.see_label.new.seat.table_id c.self.inside.class c.self.view_is
     c.self.invariant.0 c.see_label.ensures.told.0
     (c.see_label.ensures.same.0 ∙ c.self.invariant.1) c.self.invariant.2 c.self.invariant.3 c.self.invariant.4
-    c.self.invariant.5 refl (λ o. noted_part (rows g.N.Name.table) now.part (now.part.steps ++ step ∷ []) o)
-    (λ j o. noted_joined now.part step now.lane j o)
+    c.self.invariant.5 refl (λ o. noted_sheet (rows g.N.Name.table) now.sheet (now.sheet.steps ++ step ∷ []) o)
+    (λ j o. noted_joined now.sheet step now.lane j o)
 
 pub returns-clause-seen : goal.returns-clause-seen
 returns-clause-seen g c = search rules

@@ -17,13 +17,13 @@ invariant_of-self g c = seat_kept c.self.inside.seat.me c.seen_unheld.new.seat.m
     g.N.Name.table c.seen_unheld.new.seat.table_id c.self.inside.class c.self.view_is
     c.self.invariant.0 c.seen_unheld.ensures.told.0 (c.seen_unheld.ensures.same.0 ∙ c.self.invariant.1)
     c.self.invariant.2 c.self.invariant.3 c.self.invariant.4 c.self.invariant.5
-    (number_kept c.args.chunk (c.seen_unheld.result % 2 ^ refs_width) c.seen_unheld.result c.args.self.now.part)
-    (λ o. keeps_sweep_or_load (rows g.N.Name.table) c.args.self.now.part o c.args.chunk
+    (number_kept c.args.chunk (c.seen_unheld.result % 2 ^ refs_width) c.seen_unheld.result c.args.self.now.sheet)
+    (λ o. keeps_sweep_or_load (rows g.N.Name.table) c.args.self.now.sheet o c.args.chunk
     (c.seen_unheld.result % 2 ^ refs_width) c.seen_unheld.result c.requires.own)
-    (λ j o. alone_joined c.args.self.now.part
+    (λ j o. alone_joined c.args.self.now.sheet
     (class_after_sweep_or_load c.args.chunk (c.seen_unheld.result % 2 ^ refs_width) c.seen_unheld.result
-    c.args.self.now.part) c.args.self.now.lane j c.requires.alone (naming_kept c.args.chunk (c.seen_unheld.result % 2 ^ refs_width) c.seen_unheld.result
-    c.args.self.now.part) o)
+    c.args.self.now.sheet) c.args.self.now.lane j c.requires.alone (naming_kept c.args.chunk (c.seen_unheld.result % 2 ^ refs_width) c.seen_unheld.result
+    c.args.self.now.sheet) o)
 
 pub returns-clause-unlinked : goal.returns-clause-unlinked
 returns-clause-unlinked g c = subst (λ (p : Place). Shows c.head_of.result p) c.requires.dying
@@ -43,5 +43,5 @@ returns-clause-seen g c =
     view_after c.self.inside.seat.me c.seen_unheld.new.seat.me now
     (class_after_sweep_or_load c.args.chunk (n % 2 ^ refs_width) n)
     (c.self.invariant.0 ∙ ap class_me c.self.view_is) c.seen_unheld.ensures.told.0
-    ∙ ap₂ (λ (refs word : ℕ). record now { part = class_after_sweep_or_load c.args.chunk refs word now.part })
+    ∙ ap₂ (λ (refs word : ℕ). record now { sheet = class_after_sweep_or_load c.args.chunk refs word now.sheet })
     (fields n c.head_of.result c.head_of.ensures).refs c.head_of.ensures.0

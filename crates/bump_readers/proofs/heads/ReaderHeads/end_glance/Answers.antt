@@ -13,12 +13,12 @@ invariant_of-worker g c = stepped_seat g.N.Name.table c.worker.inside.worker c.w
     c.look_again.new.seat.table_id c.worker.inside.seat.me c.look_again.new.seat.me c.args.worker.now
     c.worker.invariant (cc c.worker.view_is) c.look_again.ensures.same.0
     (noted kind.Load c.glance.inside.life.chunk c.look_again.result) c.look_again.ensures.told.0 refl
-    (look_kept c.glance.inside.life.chunk c.look_again.result c.args.worker.now.part)
+    (look_kept c.glance.inside.life.chunk c.look_again.result c.args.worker.now.sheet)
 
 pub returns-clause-faithful : goal.returns-clause-faithful
 returns-clause-faithful g c = let same : c.glance.inside.life ≡ c.args.glance.now = cc c.glance.view_is in
     let before : c.worker.inside.seat.me ≡ worker_me c.args.worker.now = c.worker.invariant.0
     ∙ ap worker_me (cc c.worker.view_is) in
-    subst (λ (i : ItemId). (last : IsGlancing i c.args.worker.now.part) → IsLinkedLife i c.head_of.result
+    subst (λ (i : ItemId). (last : IsGlancing i c.args.worker.now.sheet) → IsLinkedLife i c.head_of.result
     → last.glance.agrees ≡ true) same (faithful c.glance.inside.life c.look_again.result c.head_of.result
     c.worker.inside.seat.me c.args.worker.now before c.head_of.ensures c.look_again.ensures.told.1)

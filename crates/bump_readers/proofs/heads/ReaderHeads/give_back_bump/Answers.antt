@@ -19,4 +19,4 @@ invariant_of-worker g c = let t = c.give_back_bump.ensures.told in
     c.give_back_bump.new.seat.me c.args.worker.now c.worker.invariant (cc c.worker.view_is)
     c.give_back_bump.ensures.same.0
     (worker_after_release c.args.life t.0) t.4 refl
-    (full_kept c.args.life t.0 c.args.worker.now.part c.requires.in_hand)
+    (full_kept c.args.life t.0 c.args.worker.now.sheet c.requires.in_hand)

@@ -16,7 +16,7 @@ invariant_of-worker g c =
     c.glance-word.new.seat.table_id c.worker.inside.seat.me c.glance-word.new.seat.me c.args.worker.now
     c.worker.invariant (cc c.worker.view_is) c.glance-word.ensures.same.0
     (noted kind.Load c.args.chunk c.glance-word.result) (told.1 (dark_of c.head_of-found.result.linked c.if-not-found.true)) refl
-    (look_kept c.args.chunk c.glance-word.result c.args.worker.now.part)
+    (look_kept c.args.chunk c.glance-word.result c.args.worker.now.sheet)
 
 pub invariant_of-worker-2 : goal.invariant_of-worker-2
 invariant_of-worker-2 g c =
@@ -26,7 +26,7 @@ invariant_of-worker-2 g c =
     c.glance-word.new.seat.table_id c.worker.inside.seat.me c.glance-word.new.seat.me c.args.worker.now
     c.worker.invariant (cc c.worker.view_is) c.glance-word.ensures.same.0
     (worker_after_glance c.args.chunk c.glance-word.result new.0) new.3 refl
-    (λ is. let kept = look_kept c.args.chunk c.glance-word.result c.args.worker.now.part is in
+    (λ is. let kept = look_kept c.args.chunk c.glance-word.result c.args.worker.now.sheet is in
     record { accounts = kept.accounts; attempts = kept.attempts })
 
 pub returns-clause-begins : goal.returns-clause-begins

@@ -10,6 +10,6 @@ invariant_of-worker g c = let s = c.seat_out in joined_seat g.N.Name.table c.wor
     c.worker.inside.seat.table_id
     c.join.new.seat.table_id c.worker.inside.seat.me c.join.new.seat.me c.args.worker.now c.worker.invariant
     (cc c.worker.view_is)
-    c.join.ensures.same.0 s.result.me c.args.hold.now.life c.args.hold.now.part c.requires.alone s.ensures.seat.0
+    c.join.ensures.same.0 s.result.me c.args.hold.now.life c.args.hold.now.sheet c.requires.alone s.ensures.seat.0
     s.ensures.life
     s.ensures.chunk c.join.ensures.joined

@@ -15,7 +15,7 @@ returns-clause-worker g c = let t = touched (2 ^ active_first) worker_after_mark
     c.mark_active.new.seat.me (worker_in c.worker.inside.seat.me.0) c.args.worker.now c.args.life (2 ^ active_first)
     c.mark_active.result c.head_of.result c.worker.invariant.0 (cc c.worker.view_is) c.requires.held
     c.mark_active.ensures.told c.head_of.ensures in worker_read_back c.mark_active.new.seat.me
-    (record c.args.worker.now { part = worker_after_mark c.args.life c.head_of.result c.args.worker.now.part }) t.view
+    (record c.args.worker.now { sheet = worker_after_mark c.args.life c.head_of.result c.args.worker.now.sheet }) t.view
 
 pub returns-clause-generation : goal.returns-clause-generation
 returns-clause-generation g c = let t = touched (2 ^ active_first) worker_after_mark c.worker.inside.seat.me
@@ -50,9 +50,9 @@ invariant_of-worker g c = let t = touched (2 ^ active_first) worker_after_mark c
     c.worker.invariant.0 (cc c.worker.view_is) c.requires.held c.mark_active.ensures.told c.head_of.ensures in
     changed_seat g.N.Name.table c.worker.inside.worker c.worker.inside.seat.table_id c.mark_active.new.seat.table_id
     c.worker.inside.seat.me c.mark_active.new.seat.me c.args.worker.now
-    (record c.args.worker.now { part = worker_after_mark c.args.life c.head_of.result c.args.worker.now.part })
+    (record c.args.worker.now { sheet = worker_after_mark c.args.life c.head_of.result c.args.worker.now.sheet })
     c.worker.invariant
     (cc c.worker.view_is) c.mark_active.ensures.same.0 t.view
-    (mark_worker c.args.life c.head_of.result c.args.worker.now.part)
-    (λ near. near) (mark_kept c.args.life c.head_of.result c.args.worker.now.part t.fits.1 c.requires.idle
+    (mark_worker c.args.life c.head_of.result c.args.worker.now.sheet)
+    (λ near. near) (mark_kept c.args.life c.head_of.result c.args.worker.now.sheet t.fits.1 c.requires.idle
     c.requires.attempts)

@@ -11,7 +11,7 @@ returns-clause-worker g c = let t = touched (2 ^ fetched_first) worker_after_fet
     c.mark_fetched.new.seat.me (worker_in c.worker.inside.seat.me.0) c.args.worker.now c.args.life (2 ^ fetched_first)
     c.mark_fetched.result c.head_of.result c.worker.invariant.0 (cc c.worker.view_is) c.requires.held
     c.mark_fetched.ensures.told c.head_of.ensures in worker_read_back c.mark_fetched.new.seat.me
-    (record c.args.worker.now { part = worker_after_fetch c.args.life c.head_of.result c.args.worker.now.part })
+    (record c.args.worker.now { sheet = worker_after_fetch c.args.life c.head_of.result c.args.worker.now.sheet })
     t.view
 
 pub returns-clause-generation : goal.returns-clause-generation
@@ -31,14 +31,14 @@ returns-clause-first g c = let t = touched (2 ^ fetched_first) worker_after_fetc
     c.mark_fetched.new.seat.me (worker_in c.worker.inside.seat.me.0) c.args.worker.now c.args.life (2 ^ fetched_first)
     c.mark_fetched.result c.head_of.result c.worker.invariant.0 (cc c.worker.view_is) c.requires.held
     c.mark_fetched.ensures.told c.head_of.ensures in first_hit c.args.life c.head_of.result
-    c.args.worker.now.part.hits t.hit
+    c.args.worker.now.sheet.hits t.hit
 
 pub returns-clause-named : goal.returns-clause-named
 returns-clause-named g c = let t = touched (2 ^ fetched_first) worker_after_fetch c.worker.inside.seat.me
     c.mark_fetched.new.seat.me (worker_in c.worker.inside.seat.me.0) c.args.worker.now c.args.life (2 ^ fetched_first)
     c.mark_fetched.result c.head_of.result c.worker.invariant.0 (cc c.worker.view_is) c.requires.held
     c.mark_fetched.ensures.told c.head_of.ensures in named_hit c.args.life c.head_of.result
-    c.args.worker.now.part.hits t.hit
+    c.args.worker.now.sheet.hits t.hit
 
 pub returns-clause-once : goal.returns-clause-once
 returns-clause-once g c = let t = touched (2 ^ fetched_first) worker_after_fetch c.worker.inside.seat.me
@@ -62,10 +62,10 @@ invariant_of-worker g c = let t = touched (2 ^ fetched_first) worker_after_fetch
     c.worker.invariant.0 (cc c.worker.view_is) c.requires.held c.mark_fetched.ensures.told c.head_of.ensures in
     changed_seat g.N.Name.table c.worker.inside.worker c.worker.inside.seat.table_id c.mark_fetched.new.seat.table_id
     c.worker.inside.seat.me c.mark_fetched.new.seat.me c.args.worker.now
-    (record c.args.worker.now { part = worker_after_fetch c.args.life c.head_of.result c.args.worker.now.part })
+    (record c.args.worker.now { sheet = worker_after_fetch c.args.life c.head_of.result c.args.worker.now.sheet })
     c.worker.invariant
     (cc c.worker.view_is) c.mark_fetched.ensures.same.0 t.view (refl) (λ near. near)
-    (fetch_kept c.args.life c.head_of.result c.args.worker.now.part)
+    (fetch_kept c.args.life c.head_of.result c.args.worker.now.sheet)
 
 pub mark_fetched-requires-clause-held : goal.mark_fetched-requires-clause-held
 mark_fetched-requires-clause-held g c = may_touch c.worker.inside.seat.me (worker_in c.worker.inside.seat.me.0)

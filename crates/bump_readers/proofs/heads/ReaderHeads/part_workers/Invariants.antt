@@ -8,5 +8,5 @@ invariant-loop-worker g l = record {
   rest : l.seat.me ≡ (record l.fn.seat.me.0 { workers = l.seat.me.0.workers }, []);
   count : l.worker + length l.seat.me.0.workers ≡ l.fn.count;
   numbers : AreNewWorkers l.worker l.seat.me.0.workers;
-  parts : l.seats.items ++ map worker_seen l.seat.me.0.workers ≡ map worker_seen l.fn.seat.me.0.workers;
+  sheets : l.seats.items ++ map worker_seen l.seat.me.0.workers ≡ map worker_seen l.fn.seat.me.0.workers;
 }

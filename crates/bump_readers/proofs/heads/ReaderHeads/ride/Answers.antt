@@ -24,9 +24,9 @@ returns-clause-idle g c = search rules
 
 pub invariant_of-worker-2 : goal.invariant_of-worker-2
 invariant_of-worker-2 g c = let t = c.ride.ensures.told in
-    sent_seat g.N.Name.table c.worker.inside.worker c.worker.inside.seat.table_id c.part_ride-part.new.seat.table_id
-    c.worker.inside.seat.me c.part_ride-part.new.seat.me c.args.worker.now c.worker.invariant (cc c.worker.view_is)
-    (c.part_ride-part.ensures.same.0 ∙ c.ride.ensures.same.0) c.refs.result.now c.args.life t.0 t.1
+    sent_seat g.N.Name.table c.worker.inside.worker c.worker.inside.seat.table_id c.part_ride-sheet.new.seat.table_id
+    c.worker.inside.seat.me c.part_ride-sheet.new.seat.me c.args.worker.now c.worker.invariant (cc c.worker.view_is)
+    (c.part_ride-sheet.ensures.same.0 ∙ c.ride.ensures.same.0) c.refs.result.now c.args.life t.0 t.1
     c.ride.new.seat.me
     c.requires.trying t.3 (sym t.4 ∙ ap (λ (o : Option RideRefusal). option_map dropped_as o) c.in_default.is)
-    c.part_ride-part.ensures.parts.0
+    c.part_ride-sheet.ensures.sheets.0

@@ -12,7 +12,7 @@ invariant_of-worker g c = stepped_seat g.N.Name.table c.worker.inside.worker c.w
     c.worker.inside.seat.me c.set_time.new.seat.me c.args.worker.now c.worker.invariant (cc c.worker.view_is)
     c.set_time.ensures.same.0 (worker_after_store_time (life c.args.life.chunk 0) c.args.now) c.set_time.ensures.told
     refl
-    (time_kept (life c.args.life.chunk 0) c.args.now c.args.worker.now.part)
+    (time_kept (life c.args.life.chunk 0) c.args.now c.args.worker.now.sheet)
 
 pub set_time-requires-clause-held : goal.set_time-requires-clause-held
 set_time-requires-clause-held g c = may_touch c.worker.inside.seat.me (worker_in c.worker.inside.seat.me.0)

@@ -14,8 +14,8 @@ invariant_of-worker g c = let t = c.take.ensures.told in
 
 pub invariant_of-worker-2 : goal.invariant_of-worker-2
 invariant_of-worker-2 g c = let t = c.take.ensures.told in
-    held_seat g.N.Name.table c.worker.inside.worker c.worker.inside.seat.table_id c.part_holds-part.new.seat.table_id
-    c.worker.inside.seat.me c.part_holds-part.new.seat.me c.args.worker.now c.worker.invariant (cc c.worker.view_is)
-    (c.part_holds-part.ensures.same.0 ∙ c.take.ensures.same.0) c.self.inside.limit (of_life c.args.life)
+    held_seat g.N.Name.table c.worker.inside.worker c.worker.inside.seat.table_id c.part_holds-sheet.new.seat.table_id
+    c.worker.inside.seat.me c.part_holds-sheet.new.seat.me c.args.worker.now c.worker.invariant (cc c.worker.view_is)
+    (c.part_holds-sheet.ensures.same.0 ∙ c.take.ensures.same.0) c.self.inside.limit (of_life c.args.life)
     c.args.life.chunk t.0 t.1 t.2
-    c.take.new.seat.me t.5 c.part_holds-part.ensures.parts.0
+    c.take.new.seat.me t.5 c.part_holds-sheet.ensures.sheets.0

@@ -58,11 +58,11 @@ head_of-found-requires g c = let t = c.take_any.ensures.told in
 
 pub invariant_of-worker-2 : goal.invariant_of-worker-2
 invariant_of-worker-2 g c = let t = c.take_any.ensures.told in
-    held_seat g.N.Name.table c.worker.inside.worker c.worker.inside.seat.table_id c.part_holds-part.new.seat.table_id
-    c.worker.inside.seat.me c.part_holds-part.new.seat.me c.args.worker.now c.worker.invariant (cc c.worker.view_is)
-    (c.part_holds-part.ensures.same.0 ∙ c.take_any.ensures.same.0) c.self.inside.limit of_any
+    held_seat g.N.Name.table c.worker.inside.worker c.worker.inside.seat.table_id c.part_holds-sheet.new.seat.table_id
+    c.worker.inside.seat.me c.part_holds-sheet.new.seat.me c.args.worker.now c.worker.invariant (cc c.worker.view_is)
+    (c.part_holds-sheet.ensures.same.0 ∙ c.take_any.ensures.same.0) c.self.inside.limit of_any
     c.args.chunk t.0 t.1 t.2
-    c.take_any.new.seat.me t.5 c.part_holds-part.ensures.parts.0
+    c.take_any.new.seat.me t.5 c.part_holds-sheet.ensures.sheets.0
 
 pub invariant_of-hold : goal.invariant_of-hold
 invariant_of-hold g c = let t = c.take_any.ensures.told in
@@ -73,14 +73,14 @@ invariant_of-hold g c = let t = c.take_any.ensures.told in
     let found : last_found t.0 t.1 ≡ c.head_of-found.result = one_head c.in-Ok.word (last_found t.0 t.1)
     c.head_of-found.result (how.1, last_is_one Fits t.0 t.1 t.4.heads) c.head_of-found.ensures in
     let views : c.into_badge.result.views ≡ hold_views (Some (new_hold l t.2)) = new_views g.N.Name.table
-    c.worker.inside.worker c.worker.inside.seat.table_id c.part_holds-part.new.seat.table_id
-    c.worker.inside.seat.me c.part_holds-part.new.seat.me c.args.worker.now c.worker.invariant (cc c.worker.view_is)
-    (c.part_holds-part.ensures.same.0 ∙ c.take_any.ensures.same.0) limit of_any
+    c.worker.inside.worker c.worker.inside.seat.table_id c.part_holds-sheet.new.seat.table_id
+    c.worker.inside.seat.me c.part_holds-sheet.new.seat.me c.args.worker.now c.worker.invariant (cc c.worker.view_is)
+    (c.part_holds-sheet.ensures.same.0 ∙ c.take_any.ensures.same.0) limit of_any
     c.args.chunk t.0 t.1 t.2 c.take_any.new.seat.me c.into_badge.result.views c.requires.alone t.5
-    (c.into_badge.ensures.2 ∙ ap (λ (x : View). x ∷ []) (ap (λ x. x.0) c.part_holds-part.ensures.parts.1)) how.0
+    (c.into_badge.ensures.2 ∙ ap (λ (x : View). x ∷ []) (ap (λ x. x.0) c.part_holds-sheet.ensures.sheets.1)) how.0
     ∙ ap (λ (k : Head). hold_views (Some (new_hold (life c.args.chunk k.generation) t.2))) found in (
       subst (λ (v : List View). v ≡ hold_views (hold_in_views v)) (sym views) refl,
-      (λ some. c.into_badge.ensures.0 ∙ c.part_holds-part.ensures.same.2 ∙ c.take_any.ensures.same.0
+      (λ some. c.into_badge.ensures.0 ∙ c.part_holds-sheet.ensures.same.2 ∙ c.take_any.ensures.same.0
           ∙ c.worker.invariant.1),
       subst (λ (v : List View). IsHoldOf l (hold_in_views v)) (sym views) refl,
       search rules,
@@ -99,30 +99,30 @@ returns-clause-took g c = let t = c.take_any.ensures.told in
     let found : last_found t.0 t.1 ≡ k = one_head c.in-Ok.word (last_found t.0 t.1)
     k (how.1, last_is_one Fits t.0 t.1 t.4.heads) c.head_of-found.ensures in
     let views : c.into_badge.result.views ≡ hold_views (Some (new_hold l t.2)) = new_views g.N.Name.table
-    c.worker.inside.worker c.worker.inside.seat.table_id c.part_holds-part.new.seat.table_id
-    c.worker.inside.seat.me c.part_holds-part.new.seat.me c.args.worker.now c.worker.invariant (cc c.worker.view_is)
-    (c.part_holds-part.ensures.same.0 ∙ c.take_any.ensures.same.0) limit of_any
+    c.worker.inside.worker c.worker.inside.seat.table_id c.part_holds-sheet.new.seat.table_id
+    c.worker.inside.seat.me c.part_holds-sheet.new.seat.me c.args.worker.now c.worker.invariant (cc c.worker.view_is)
+    (c.part_holds-sheet.ensures.same.0 ∙ c.take_any.ensures.same.0) limit of_any
     c.args.chunk t.0 t.1 t.2 c.take_any.new.seat.me c.into_badge.result.views c.requires.alone t.5
-    (c.into_badge.ensures.2 ∙ ap (λ (x : View). x ∷ []) (ap (λ x. x.0) c.part_holds-part.ensures.parts.1)) how.0
+    (c.into_badge.ensures.2 ∙ ap (λ (x : View). x ∷ []) (ap (λ x. x.0) c.part_holds-sheet.ensures.sheets.1)) how.0
     ∙ ap (λ (k : Head). hold_views (Some (new_hold (life c.args.chunk k.generation) t.2))) found in
-    let answer : Ok (record { life = l; part = hold_in_views c.into_badge.result.views }, k)
+    let answer : Ok (record { life = l; sheet = hold_in_views c.into_badge.result.views }, k)
     ≡ take_any_answer (asked_refusal limit of_any t.0 t.1) (asked_life of_any c.args.chunk t.0 t.1) t.2
     (last_found t.0 t.1) =
-    ap (λ (v : List View). Ok (record { life = l; part = hold_in_views v }, k)) views
+    ap (λ (v : List View). Ok (record { life = l; sheet = hold_in_views v }, k)) views
     ∙ ap (λ (j : Head). Ok (whole_hold (life c.args.chunk j.generation) t.2, j)) (sym found)
     ∙ ap (λ (o : Option TakeRefusal). take_any_answer o (asked_life of_any c.args.chunk t.0 t.1) t.2
     (last_found t.0 t.1)) (sym how.0) in (
       t.0,
       t.1,
-      subst (λ (n : ℕ). TookAny n c.args.chunk c.args.worker.now (worker_in c.part_holds-part.new.seat.me.0)
-          (Ok (record { life = l; part = hold_in_views c.into_badge.result.views }, k)) t.0 t.1) same record {
+      subst (λ (n : ℕ). TookAny n c.args.chunk c.args.worker.now (worker_in c.part_holds-sheet.new.seat.me.0)
+          (Ok (record { life = l; sheet = hold_in_views c.into_badge.result.views }, k)) t.0 t.1) same record {
             found = t.4;
             row = t.2;
             steps = held_view g.N.Name.table c.worker.inside.worker c.worker.inside.seat.table_id
-                c.part_holds-part.new.seat.table_id c.worker.inside.seat.me
-                c.part_holds-part.new.seat.me c.args.worker.now c.worker.invariant (cc c.worker.view_is)
-                (c.part_holds-part.ensures.same.0 ∙ c.take_any.ensures.same.0) limit of_any c.args.chunk t.0 t.1 t.2
-                c.take_any.new.seat.me c.requires.alone t.5 c.part_holds-part.ensures.parts.0;
+                c.part_holds-sheet.new.seat.table_id c.worker.inside.seat.me
+                c.part_holds-sheet.new.seat.me c.args.worker.now c.worker.invariant (cc c.worker.view_is)
+                (c.part_holds-sheet.ensures.same.0 ∙ c.take_any.ensures.same.0) limit of_any c.args.chunk t.0 t.1 t.2
+                c.take_any.new.seat.me c.requires.alone t.5 c.part_holds-sheet.ensures.sheets.0;
             answer = answer;
           },
     )
@@ -149,11 +149,11 @@ returns-clause-hold g c = let t = c.take_any.ensures.told in
     let found : last_found t.0 t.1 ≡ c.head_of-found.result = one_head c.in-Ok.word (last_found t.0 t.1)
     c.head_of-found.result (how.1, last_is_one Fits t.0 t.1 t.4.heads) c.head_of-found.ensures in
     let views : c.into_badge.result.views ≡ hold_views (Some (new_hold l t.2)) = new_views g.N.Name.table
-    c.worker.inside.worker c.worker.inside.seat.table_id c.part_holds-part.new.seat.table_id
-    c.worker.inside.seat.me c.part_holds-part.new.seat.me c.args.worker.now c.worker.invariant (cc c.worker.view_is)
-    (c.part_holds-part.ensures.same.0 ∙ c.take_any.ensures.same.0) limit of_any
+    c.worker.inside.worker c.worker.inside.seat.table_id c.part_holds-sheet.new.seat.table_id
+    c.worker.inside.seat.me c.part_holds-sheet.new.seat.me c.args.worker.now c.worker.invariant (cc c.worker.view_is)
+    (c.part_holds-sheet.ensures.same.0 ∙ c.take_any.ensures.same.0) limit of_any
     c.args.chunk t.0 t.1 t.2 c.take_any.new.seat.me c.into_badge.result.views c.requires.alone t.5
-    (c.into_badge.ensures.2 ∙ ap (λ (x : View). x ∷ []) (ap (λ x. x.0) c.part_holds-part.ensures.parts.1)) how.0
+    (c.into_badge.ensures.2 ∙ ap (λ (x : View). x ∷ []) (ap (λ x. x.0) c.part_holds-sheet.ensures.sheets.1)) how.0
     ∙ ap (λ (k : Head). hold_views (Some (new_hold (life c.args.chunk k.generation) t.2))) found in
-    subst (λ (v : List View). ◌≡◌ {A = HoldView} record { life = l; part = hold_in_views v }
+    subst (λ (v : List View). ◌≡◌ {A = HoldView} record { life = l; sheet = hold_in_views v }
     (whole_hold l (row_in (hold_in_views v)))) (sym views) refl

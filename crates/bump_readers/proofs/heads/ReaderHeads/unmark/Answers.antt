@@ -41,10 +41,10 @@ invariant_of-worker g c = let t = touched (2 ^ 64 - 1 - 2 ^ active_first) worker
     changed_seat g.N.Name.table c.worker.inside.worker c.worker.inside.seat.table_id c.unmark.new.seat.table_id
     c.worker.inside.seat.me
     c.unmark.new.seat.me c.args.worker.now (record c.args.worker.now
-    { part = worker_after_unmark c.args.life c.head_of.result c.args.worker.now.part }) c.worker.invariant
+    { sheet = worker_after_unmark c.args.life c.head_of.result c.args.worker.now.sheet }) c.worker.invariant
     (cc c.worker.view_is)
     c.unmark.ensures.same.0 t.view (refl) (λ near. near)
-    (unmark_kept c.args.life c.head_of.result c.args.worker.now.part
+    (unmark_kept c.args.life c.head_of.result c.args.worker.now.sheet
     c.requires.clearing)
 
 pub unmark-requires-clause-held : goal.unmark-requires-clause-held

@@ -1,6 +1,6 @@
 use Rattle.std.proofs.Common.{sym, ap, ◌∙◌, subst}
 use Rattle.bump_class.specs.Lanes.{LaneView}
-use Rattle.bump_parts.specs.Closing.{AppliedAll}
+use Rattle.bump_unlocked.specs.Closing.{AppliedAll}
 use Rattle.bump_store.specs.Lanes.{LaneState}
 use Rattle.bump_store.specs.Settling.{MaySeeEnd}
 use Rattle.bump_store.proofs.SettlingLemmas.{in_order, is_empty, left_if_shown, looked_once}
@@ -31,8 +31,8 @@ returns-clause-order g c =
 
 pub returns-clause-empty : goal.returns-clause-empty
 returns-clause-empty g c =
-    ap (λ (x : LaneView). x.part.stage) c.rest.ensures.lane
-    ∙ is_empty c.self.inside.raw.part.stage c.promise.ensures.at_rest c.self.invariant
+    ap (λ (x : LaneView). x.sheet.stage) c.rest.ensures.lane
+    ∙ is_empty c.self.inside.raw.sheet.stage c.promise.ensures.at_rest c.self.invariant
 
 pub returns-clause-rest : goal.returns-clause-rest
 returns-clause-rest g c = c.rest.ensures.rest

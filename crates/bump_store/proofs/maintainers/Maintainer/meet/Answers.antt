@@ -39,12 +39,12 @@ loop-worker-preserved g c =
     (value ∙ ap (λ (ls : List LaneState). slice_index_or ls w this) i.lanes) in record {
       lanes = ap (slice_set afters w) (e.lane ∙ value) ∙ set-get_or afters w this ∙ i.lanes;
       book = e.book ∙ ap book_after_meet i.book ∙ ap (λ (n : ℕ). book_after_meets n before) next;
-      told = one_more (λ x. EachMoveIsTold before.part x.lane.part) w lanes this there
-          (told_before w before this.lane.part
-          (subst (λ (b : BookView). EachMoveIsTold b.part this.lane.part) i.book e.told)) i.told;
-      moves = one_more (λ x. moves_of x.lane.part.worker before.part.history ≡ moved_in before.part (entries x.lane)) w lanes
-          this there (moves_before w before this.lane.part
-          (subst (λ (b : BookView). moves_of this.lane.part.worker b.part.history ≡ moved_in b.part (entries this.lane))
+      told = one_more (λ x. EachMoveIsTold before.sheet x.lane.sheet) w lanes this there
+          (told_before w before this.lane.sheet
+          (subst (λ (b : BookView). EachMoveIsTold b.sheet this.lane.sheet) i.book e.told)) i.told;
+      moves = one_more (λ x. moves_of x.lane.sheet.worker before.sheet.history ≡ moved_in before.sheet (entries x.lane)) w lanes
+          this there (moves_before w before this.lane.sheet
+          (subst (λ (b : BookView). moves_of this.lane.sheet.worker b.sheet.history ≡ moved_in b.sheet (entries this.lane))
           i.book e.moves)) i.moves;
       end = i.end;
       place = omega (arith, low);
@@ -64,33 +64,33 @@ returns-clause-book g c =
 pub returns-clause-once : goal.returns-clause-once
 returns-clause-once g c = let i = c.loop-worker.invariant in
     once_before c.loop-worker.worker c.args.book.now
-    (subst (λ (b : BookView). NamesNoBumpTwice b.part) i.book c.meet_workers.ensures.once)
+    (subst (λ (b : BookView). NamesNoBumpTwice b.sheet) i.book c.meet_workers.ensures.once)
 
 pub returns-clause-workers : goal.returns-clause-workers
 returns-clause-workers g c = let i = c.loop-worker.invariant in
     workers_before c.loop-worker.worker c.args.book.now c.args.store.now.workers
-    (subst (λ (b : BookView). NamesWorkersBelow c.args.store.now.workers b.part) i.book
-    (subst (λ (k : Config). NamesWorkersBelow k.workers c.loop-worker.book.part) c.deref.ensures
+    (subst (λ (b : BookView). NamesWorkersBelow c.args.store.now.workers b.sheet) i.book
+    (subst (λ (k : Config). NamesWorkersBelow k.workers c.loop-worker.book.sheet) c.deref.ensures
     c.meet_workers.ensures.workers))
 
 pub returns-clause-told : goal.returns-clause-told
 returns-clause-told g c = let i = c.loop-worker.invariant in
-    all_so_far (λ x. EachMoveIsTold c.args.book.now.part x.lane.part) c.loop-worker.worker c.args.self.now
+    all_so_far (λ x. EachMoveIsTold c.args.book.now.sheet x.lane.sheet) c.loop-worker.worker c.args.self.now
     (omega (arith, i.end, i.place, c.loop-worker-test.false)) i.told
 
 pub returns-clause-moves : goal.returns-clause-moves
 returns-clause-moves g c = let i = c.loop-worker.invariant in
-    all_so_far (λ x. moves_of x.lane.part.worker c.args.book.now.part.history
-    ≡ moved_in c.args.book.now.part (entries x.lane)) c.loop-worker.worker c.args.self.now
+    all_so_far (λ x. moves_of x.lane.sheet.worker c.args.book.now.sheet.history
+    ≡ moved_in c.args.book.now.sheet (entries x.lane)) c.loop-worker.worker c.args.self.now
     (omega (arith, i.end, i.place, c.loop-worker-test.false)) i.moves
 
 pub returns-clause-all_told : goal.returns-clause-all_told
 returns-clause-all_told g c = λ all. let i = c.loop-worker.invariant in
     let before = c.args.book.now in
-    each_by_its_lane c.args.store.now.workers before.part c.args.self.now all
+    each_by_its_lane c.args.store.now.workers before.sheet c.args.self.now all
     (workers_before c.loop-worker.worker before c.args.store.now.workers
-    (subst (λ (b : BookView). NamesWorkersBelow c.args.store.now.workers b.part) i.book
-    (subst (λ (k : Config). NamesWorkersBelow k.workers c.loop-worker.book.part) c.deref.ensures
+    (subst (λ (b : BookView). NamesWorkersBelow c.args.store.now.workers b.sheet) i.book
+    (subst (λ (k : Config). NamesWorkersBelow k.workers c.loop-worker.book.sheet) c.deref.ensures
     c.meet_workers.ensures.workers)))
-    (all_so_far (λ x. EachMoveIsTold before.part x.lane.part) c.loop-worker.worker c.args.self.now
+    (all_so_far (λ x. EachMoveIsTold before.sheet x.lane.sheet) c.loop-worker.worker c.args.self.now
     (omega (arith, i.end, i.place, c.loop-worker-test.false)) i.told)

@@ -10,8 +10,8 @@ abbrev pub invariant-loop-worker : goal.invariant-loop-worker
 invariant-loop-worker g l = record {
   lanes : l.self-inside.lanes.items ≡ l.fn.self;
   book : l.book ≡ book_after_meets l.worker l.fn.book;
-  told : SoFar (λ x. EachMoveIsTold l.fn.book.part x.lane.part) l.worker l.fn.self;
-  moves : SoFar (λ x. moves_of x.lane.part.worker l.fn.book.part.history ≡ moved_in l.fn.book.part (entries x.lane))
+  told : SoFar (λ x. EachMoveIsTold l.fn.book.sheet x.lane.sheet) l.worker l.fn.self;
+  moves : SoFar (λ x. moves_of x.lane.sheet.worker l.fn.book.sheet.history ≡ moved_in l.fn.book.sheet (entries x.lane))
       l.worker l.fn.self;
   end : l.count ≡ length l.fn.self;
   place : l.worker ≤ length l.fn.self;

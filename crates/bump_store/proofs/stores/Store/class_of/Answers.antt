@@ -2,7 +2,7 @@ use Rattle.std.proofs.Common.{◌≤◌, ◌-◌, ◌↔◌, IfSome, IfNone, IsE
 use Rattle.std.specs.Prelude.{slice_index}
 use Rattle.bump_rules.specs.declared.configs.Config.{Config}
 use Rattle.bump_rules.specs.Configs.{chunks_of}
-use Rattle.bump_parts.specs.Parting.{IsBetweenStarts}
+use Rattle.bump_unlocked.specs.UnlockedStore.{IsBetweenStarts}
 use Rattle.bump_store.specs.Stores.{IsStore}
 use Rattle.bump_store.proofs.Starts.{refused_exactly}
 use Rattle.bump_store.proofs.stores.Store.class_of.Goals as goal

@@ -5,7 +5,7 @@ use Rattle.bump_rules.specs.declared.configs.ClassConfig.{ClassConfig}
 use Rattle.bump_class.specs.Books.{BookView}
 use Rattle.bump_store.specs.Finishing.{sum_of, AreSizesOf, AreOfClasses}
 use Rattle.bump_store.proofs.FinishingLemmas.{sum_of_class, one_more}
-use Rattle.bump_parts.proofs.GrowingLists.{pushed}
+use Rattle.bump_unlocked.proofs.GrowingLists.{pushed}
 use Rattle.bump_store.proofs.stores.Store.finish.Goals as goal
 
 abbrev none : ClassConfig

@@ -1,5 +1,5 @@
 use Rattle.std.proofs.Common.{◌<◌, ap, sym, subst, ◌∙◌, length, rules, arith}
-use Rattle.bump_state.specs.State.{State}
+use Rattle.model_state.specs.State.{State}
 use Rattle.bump_trace.specs.Ready.{HoldsStay}
 use Rattle.bump_trace.specs.declared.open_store.OpenStore.{OpenStore}
 use Rattle.bump_trace.proofs.CommandsAtRest.{close_allowed}

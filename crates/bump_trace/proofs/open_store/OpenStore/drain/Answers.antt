@@ -1,6 +1,6 @@
 use Rattle.std.proofs.Common.{ap, sym, subst, arith}
 use Rattle.bump_rules.specs.Lists.{ascending}
-use Rattle.bump_state.specs.State.{State}
+use Rattle.model_state.specs.State.{State}
 use Rattle.bump_trace.specs.Ready.{HoldsStay}
 use Rattle.bump_trace.proofs.HoldsOfItems.{stay_through}
 use Rattle.bump_trace.proofs.HeldNames.{store_still}

@@ -1,5 +1,5 @@
 use Rattle.std.proofs.Common.{◌≡◌, ◌∙◌, ap, sym, subst, true, arith, rules}
-use Rattle.bump_state.specs.State.{State, is_held}
+use Rattle.model_state.specs.State.{State, is_held}
 use Rattle.bump_trace.specs.declared.open_store.OpenStore.{OpenStore}
 use Rattle.bump_trace.proofs.CommandsAtRest.{touch_allowed, release_allowed, held_after_touch}
 use Rattle.bump_trace.proofs.open_store.OpenStore.get_held.Goals as goal

@@ -3,8 +3,8 @@ use Rattle.bump_rules.specs.declared.commands.Answer.TheVariants as answer
 use Rattle.bump_rules.specs.declared.commands.Command.TheVariants as command
 use Rattle.bump_rules.specs.declared.items.ItemId.{ItemId}
 use Rattle.bump_rules.specs.Lives.{one_if}
-use Rattle.bump_state.specs.State.{State}
-use Rattle.bump_state.specs.Worlds.{holds_of}
+use Rattle.model_state.specs.State.{State}
+use Rattle.model_state.specs.Worlds.{holds_of}
 use Rattle.bump_trace.specs.OpenStore.{answer_by}
 use Rattle.bump_trace.specs.Names.{Names, bind}
 use Rattle.bump_trace.specs.Ready.{AreHeld}

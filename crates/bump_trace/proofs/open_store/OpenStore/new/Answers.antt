@@ -1,7 +1,7 @@
 use Rattle.std.proofs.Common.{◌-◌, refl}
 use Rattle.std.proofs.lemmas.List.{length-replicate}
 use Rattle.std.proofs.lemmas.List.Elements.{All-replicate}
-use Rattle.bump_state.specs.State.{new_worker}
+use Rattle.model_state.specs.State.{new_worker}
 use Rattle.bump_core.proofs.NewClasses.{classes_long}
 use Rattle.bump_trace.specs.Ready.{IsResting}
 use Rattle.bump_trace.proofs.open_store.OpenStore.new.Goals as goal

@@ -1,5 +1,5 @@
 use Rattle.std.proofs.Common.{◌∙◌, sym, subst}
-use Rattle.bump_state.specs.State.{State}
+use Rattle.model_state.specs.State.{State}
 use Rattle.bump_rules.specs.declared.commands.Command.TheVariants as command
 use Rattle.bump_trace.specs.Ready.{GivesBack}
 use Rattle.bump_trace.proofs.CommandsAtRest.{Keeps, keeps_command}

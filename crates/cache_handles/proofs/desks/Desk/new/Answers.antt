@@ -1,6 +1,6 @@
 use Rattle.std.proofs.Common.{◌≡◌, ℕ, suc, ◌+◌, List, ap, ◌∙◌, arith}
 use Rattle.std.specs.Prelude.{replicate}
-use Rattle.byte_words.specs.Strings.{words_for}
+use Rattle.packed_words.specs.Spelling.{words_for}
 use Rattle.cache_handles.specs.Desks.{DeskView}
 use Rattle.cache_handles.proofs.desks.Desk.new.Goals as goal
 

@@ -1,5 +1,5 @@
 use Rattle.std.proofs.Common.{◌≡◌, length, refl, ap, ◌∙◌, arith}
-use Rattle.byte_words.specs.Strings.{words_for}
+use Rattle.packed_words.specs.Spelling.{words_for}
 use Rattle.bump_cache.specs.Readers.{readers_by}
 use Rattle.bump_cache.proofs.Choices.{written}
 use Rattle.cache_handles.proofs.ReaderLemmas.{got_spelled, tells_got}

@@ -1,6 +1,6 @@
 use Rattle.std.proofs.Common.{rules, ◌≡◌, ◌∙◌, ap, arith, length, refl}
 use Rattle.std.proofs.lemmas.Option.{slice_get_read}
-use Rattle.byte_words.specs.Strings.{words_for}
+use Rattle.packed_words.specs.Spelling.{words_for}
 use Rattle.bump_cache.specs.Readers.{readers_by}
 use Rattle.bump_cache.proofs.Choices.{written}
 use Rattle.cache_handles.proofs.ReaderLemmas.{hit_spelled, holds_busy, holds_found, holds_long, holds_missed, missed_spelled}

@@ -1,6 +1,6 @@
 use Rattle.std.proofs.Common.{◌≡◌, arith, refl}
 use Rattle.std.proofs.lemmas.Option.{slice_get_read}
-use Rattle.byte_words.specs.Strings.{words_for}
+use Rattle.packed_words.specs.Spelling.{words_for}
 use Rattle.cache_handles.proofs.ReaderLemmas.{reads_nothing, reads_there}
 use Rattle.cache_handles.proofs.readers.ByteReader.read.Goals as goal
 

@@ -6,7 +6,7 @@ use Rattle.cache_lists.proofs.Counting.{flow_goes_on, bump_is_ours}
 use Rattle.cache_lists.proofs.counted.CountedBook.apply_next.Goals as goal
 
 pub invariant_of-self : goal.invariant_of-self
-invariant_of-self g c = subst (λ f. IsFlow f c.apply_next-applied.new.book.part) (sym c.note_bump.ensures)
+invariant_of-self g c = subst (λ f. IsFlow f c.apply_next-applied.new.book.sheet) (sym c.note_bump.ensures)
     (flow_goes_on (way_of_applied c.apply_next-applied.result) c.self.inside.book c.apply_next-applied.new.book c.self.inside.flow
     (bump_is_ours c.apply_next-applied.result) c.apply_next-applied.ensures.flows c.self.invariant)
 

@@ -6,7 +6,7 @@ use Rattle.cache_lists.proofs.Counting.{flow_goes_on, link_is_ours}
 use Rattle.cache_lists.proofs.counted.CountedBook.begin.Goals as goal
 
 pub invariant_of-self : goal.invariant_of-self
-invariant_of-self g c = subst (λ f. IsFlow f c.begin.new.book.part) (sym c.note_link.ensures)
+invariant_of-self g c = subst (λ f. IsFlow f c.begin.new.book.sheet) (sym c.note_link.ensures)
     (flow_goes_on (Some (Unused, place_of (first_segment c.args.start))) c.self.inside.book c.begin.new.book
     c.self.inside.flow (link_is_ours c.args.start) c.in-Some.ensures.flows c.self.invariant)
 

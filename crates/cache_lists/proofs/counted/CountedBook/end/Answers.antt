@@ -7,7 +7,7 @@ use Rattle.cache_lists.proofs.Counting.{flow_goes_on, end_is_ours}
 use Rattle.cache_lists.proofs.counted.CountedBook.end.Goals as goal
 
 pub invariant_of-self : goal.invariant_of-self
-invariant_of-self g c = subst (λ f. IsFlow f c.end.new.book.part) (sym c.note_end.ensures)
+invariant_of-self g c = subst (λ f. IsFlow f c.end.new.book.sheet) (sym c.note_end.ensures)
     (flow_goes_on (Some (place_of c.in-Some.from, Dying)) c.self.inside.book c.end.new.book c.self.inside.flow
     (end_is_ours c.in-Some.from) c.in-Some.ensures.flows c.self.invariant)
 

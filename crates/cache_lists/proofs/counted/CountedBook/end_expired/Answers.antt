@@ -38,8 +38,8 @@ returns g c =
             between = inside;
             look = load.looked;
             fits = load.fits;
-            unlinked = unlinked_shown inside.part chunk head
-                (ap (λ v. linked_at v.book.part chunk) c.self.view_is ∙ ended_none seen.book ended.book chunk did.ends.ends)
+            unlinked = unlinked_shown inside.sheet chunk head
+                (ap (λ v. linked_at v.book.sheet chunk) c.self.view_is ∙ ended_none seen.book ended.book chunk did.ends.ends)
                 load.agrees;
             is_fetched = refl;
             is_active = refl;

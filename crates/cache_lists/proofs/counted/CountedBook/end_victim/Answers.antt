@@ -8,7 +8,7 @@ use Rattle.cache_lists.proofs.Counting.{counts, flow_goes_twice, end_is_ours}
 use Rattle.cache_lists.proofs.counted.CountedBook.end_victim.Goals as goal
 
 pub invariant_of-self : goal.invariant_of-self
-invariant_of-self g c = subst (λ f. IsFlow f c.end_next.new.book.part)
+invariant_of-self g c = subst (λ f. IsFlow f c.end_next.new.book.sheet)
     (sym (c.note_end.ensures ∙ ap (noted (Some (place_of c.in-Some.ended.from, Dying))) c.note_move.ensures))
     (flow_goes_twice (way_to c.in-Some.ended.last_of c.in-Some.ended.moved) (Some (place_of c.in-Some.ended.from, Dying))
     c.self.inside.book c.end_next.new.book c.self.inside.flow c.in-Some.ensures.ends.ways (end_is_ours c.in-Some.ended.from)

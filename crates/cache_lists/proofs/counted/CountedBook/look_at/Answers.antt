@@ -8,7 +8,7 @@ use Rattle.cache_lists.proofs.Ways.{told_way}
 use Rattle.cache_lists.proofs.counted.CountedBook.look_at.Goals as goal
 
 pub invariant_of-self : goal.invariant_of-self
-invariant_of-self g c = subst (λ f. IsFlow f c.look_at-pulled.new.book.part)
+invariant_of-self g c = subst (λ f. IsFlow f c.look_at-pulled.new.book.sheet)
     (sym (c.note_move.ensures ∙ ap₂ (λ f t. noted (way_to f t) c.self.inside.flow) c.segment.ensures c.to.ensures))
     (flow_goes_on (way_to (segment_of c.args.from) (pulled_to c.look_at-pulled.result)) c.self.inside.book c.look_at-pulled.new.book c.self.inside.flow
     (told_ours c.args.from c.look_at-pulled.result c.requires c.look_at-pulled.ensures.told)

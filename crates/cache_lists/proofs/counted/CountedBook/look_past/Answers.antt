@@ -9,7 +9,7 @@ use Rattle.cache_lists.proofs.counted.CountedBook.look_past.Goals as goal
 pub invariant_of-self : goal.invariant_of-self
 invariant_of-self g c =
     let looked = c.look_past-pulled in let before = c.self.inside in
-    subst (λ f. IsFlow f looked.new.book.part)
+    subst (λ f. IsFlow f looked.new.book.sheet)
     (sym (c.note_move.ensures ∙ ap₂ (λ f t. noted (way_to f t) before.flow) c.segment.ensures c.to.ensures))
     (flow_goes_on (way_to (segment_of c.args.from) (pulled_to looked.result)) before.book looked.new.book before.flow
     (told_ours c.args.from looked.result c.requires looked.ensures.told)

@@ -22,7 +22,7 @@ pub returns : goal.returns
 returns g c =
     let is = c.self.view_is in let left = c.clear.new.lists in record {
       empty = c.clear.ensures.empty;
-      words = subst (λ v. (i c : ℕ) → last_word i left.book.part c ≡ last_word i v.book.part c) is c.clear.ensures.words;
+      words = subst (λ v. (i c : ℕ) → last_word i left.book.sheet c ≡ last_word i v.book.sheet c) is c.clear.ensures.words;
       class = subst (λ v. IsSameClass v.book left.book) is c.clear.ensures.class;
       rest = evictions_stay _ _ left c.clear.new.index.table is c.clear.ensures.evictions;
     }

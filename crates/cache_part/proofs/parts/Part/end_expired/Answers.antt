@@ -27,9 +27,9 @@ returns g c =
     let now = c.args.now in let most = c.args.most in let turn = c.end_expired-turn.result in record {
       looks = subst (λ v. LooksAround (looks_of most v.book) v.cursor now turn.ended (counted v) left) is did.looks;
       looked = record {
-        ended = subst (λ v. (chunk : ℕ) → IsInTurn v.cursor (looks_of most v.book) v.book.part chunk
+        ended = subst (λ v. (chunk : ℕ) → IsInTurn v.cursor (looks_of most v.book) v.book.sheet chunk
             → HasNoneExpired now chunk left.book) is did.ended;
-        cursor = subst (λ v. turn.cursor ≡ number_behind v.cursor (looks_of most v.book) v.book.part.count) is did.cursor;
+        cursor = subst (λ v. turn.cursor ≡ number_behind v.cursor (looks_of most v.book) v.book.sheet.count) is did.cursor;
       };
       unexpired = subst (λ v. KeepsUnexpired now v.book left.book) is did.kept;
       rest = cursor_moves _ _ left c.end_expired-turn.new.index.table turn.cursor is;

@@ -29,12 +29,12 @@ invariant_of-self g c = (
 pub returns-clause-found : goal.returns-clause-found
 returns-clause-found g c =
     subst (λ v. IfSome c.find.result.chunk (λ chunk. IsUnder c.args.key.now chunk v)) c.self.view_is
-    (item_some c.self.inside.settings.key_words c.args.key.now c.find.result.chunk c.self.inside.lists.book.part
+    (item_some c.self.inside.settings.key_words c.args.key.now c.find.result.chunk c.self.inside.lists.book.sheet
     c.find.ensures.item)
 
 pub returns-clause-none : goal.returns-clause-none
 returns-clause-none g c = subst (λ v. IfNone c.find.result.chunk (IsUnknown c.args.key.now v)) c.self.view_is
-    (item_none c.self.inside.settings.key_words c.args.key.now c.find.result.chunk c.self.inside.lists.book.part
+    (item_none c.self.inside.settings.key_words c.args.key.now c.find.result.chunk c.self.inside.lists.book.sheet
     c.find.ensures.item)
 
 pub returns-clause-looks : goal.returns-clause-looks

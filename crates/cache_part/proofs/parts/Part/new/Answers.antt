@@ -5,9 +5,9 @@ use Rattle.cache_part.proofs.parts.Part.new.Goals as goal
 
 pub invariant_of-result : goal.invariant_of-result
 invariant_of-result g c = (
-  subst (λ v. IsPart c.args.seed c.args.key_words v.book.part c.args.index.table) (sym c.new.ensures)
+  subst (λ v. IsPart c.args.seed c.args.key_words v.book.sheet c.args.index.table) (sym c.new.ensures)
       (part_new c.args.seed c.args.key_words c.args.book c.args.index.table c.requires.history c.requires.index),
   c.requires.words,
   omega arith,
-  c.requires.first ∙ sym (ap (λ v. v.book.part.first) c.new.ensures),
+  c.requires.first ∙ sym (ap (λ v. v.book.sheet.first) c.new.ensures),
 )

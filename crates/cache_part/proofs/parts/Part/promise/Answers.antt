@@ -7,11 +7,11 @@ use Rattle.cache_part.proofs.parts.Part.promise.Goals as goal
 pub returns : goal.returns
 returns g c =
     let is = c.self.view_is in record {
-      part = subst (λ v. IsPart v.seed v.key_words v.book.part v.index) is c.self.invariant.0;
+      part = subst (λ v. IsPart v.seed v.key_words v.book.sheet v.index) is c.self.invariant.0;
       words = subst (λ v. v.key_words + v.value_words ≤ g.N.Name.table.slots) is c.self.invariant.1;
       book = subst (λ v. IsBook v.book) is c.promise.ensures.book;
-      flow = subst (λ v. IsFlow v.flow v.book.part) is c.promise.ensures.flow;
+      flow = subst (λ v. IsFlow v.flow v.book.sheet) is c.promise.ensures.flow;
       sums = subst (λ v. SegmentsAddUp (length v.book.lists.hot) (length v.book.lists.warm)
-          (length v.book.lists.cold) (length v.book.lists.temp) v.book.part) is c.promise.ensures.sums;
-      cursor = subst (λ v. v.cursor ≤ v.book.part.count - 1) is c.self.invariant.2;
+          (length v.book.lists.cold) (length v.book.lists.temp) v.book.sheet) is c.promise.ensures.sums;
+      cursor = subst (λ v. v.cursor ≤ v.book.sheet.count - 1) is c.self.invariant.2;
     }

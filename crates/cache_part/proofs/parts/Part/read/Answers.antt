@@ -20,7 +20,7 @@ invariant_of-self g c =
 pub returns : goal.returns
 returns g c =
     let is = c.self.view_is in let left = c.read.new.lists in record {
-      read = subst (λ v. c.read.new.words ≡ words_from c.args.from (length c.args.words.now) v.book.part c.args.chunk) is
+      read = subst (λ v. c.read.new.words ≡ words_from c.args.from (length c.args.words.now) v.book.sheet c.args.chunk) is
           c.read.ensures.read;
       looks = subst (λ v. LooksOnly v.book left.book) is c.read.ensures.looks;
       rest = book_alone _ _ left c.self.inside.index.table is c.read.ensures.rest refl;

@@ -22,10 +22,10 @@ pub returns : goal.returns
 returns g c =
     let is = c.self.view_is in let left = c.read_unexpired.new.lists in let did = c.read_unexpired.ensures in
     record {
-      told = subst (λ v. c.read_unexpired.result ≡ has_unexpired c.args.now v.book.part c.args.chunk) is did.told;
+      told = subst (λ v. c.read_unexpired.result ≡ has_unexpired c.args.now v.book.sheet c.args.chunk) is did.told;
       read = λ told. did.read told
-          ∙ (ap (λ n. row_of n c.self.inside.lists.book.part c.args.chunk) (omega (arith, c.requires.row))
-          ∙ ap (λ v. row_of (c.args.self.now.key_words + c.args.self.now.value_words) v.book.part c.args.chunk) is);
+          ∙ (ap (λ n. row_of n c.self.inside.lists.book.sheet c.args.chunk) (omega (arith, c.requires.row))
+          ∙ ap (λ v. row_of (c.args.self.now.key_words + c.args.self.now.value_words) v.book.sheet c.args.chunk) is);
       stays = did.stays;
       looks = subst (λ v. LooksOnly v.book left.book) is did.looks;
       rest = book_alone _ _ left c.self.inside.index.table is did.rest refl;

@@ -29,9 +29,9 @@ returns g c =
       tends = subst (λ v. Tends c.args.most now c.args.bounds looks v.cursor (counted v) c.args.lanes.now left
           c.tend-cursor.new.lanes) is did.tends;
       looked = record {
-        ended = subst (λ v. (chunk : ℕ) → IsInTurn v.cursor (looks_of looks v.book) v.book.part chunk
+        ended = subst (λ v. (chunk : ℕ) → IsInTurn v.cursor (looks_of looks v.book) v.book.sheet chunk
             → HasNoneExpired now chunk left.book) is did.ended;
-        cursor = subst (λ v. result ≡ number_behind v.cursor (looks_of looks v.book) v.book.part.count) is did.cursor;
+        cursor = subst (λ v. result ≡ number_behind v.cursor (looks_of looks v.book) v.book.sheet.count) is did.cursor;
       };
       unexpired = subst (λ v. KeepsUnexpired now v.book left.book) is did.kept;
       rest = cursor_moves _ _ left c.tend-cursor.new.index.table result is;

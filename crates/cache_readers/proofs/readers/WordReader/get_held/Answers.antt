@@ -1,6 +1,6 @@
 use Rattle.std.proofs.Common.{ℕ, rules, inl, inr, subst}
 use Rattle.bump_rules.specs.declared.configs.Config.{Config}
-use Rattle.bump_parts.specs.Workers.{WorkerState}
+use Rattle.bump_unlocked.specs.Workers.{WorkerState}
 use Rattle.cache_readers.specs.Glances.{GlancesInVain}
 use Rattle.cache_readers.specs.Looks.{Finds}
 use Rattle.cache_readers.proofs.LookLemmas.{found_glanced, found_held}

@@ -1,5 +1,5 @@
 use Rattle.std.proofs.Common.{rules, inr, subst}
-use Rattle.bump_parts.specs.Workers.{WorkerState}
+use Rattle.bump_unlocked.specs.Workers.{WorkerState}
 use Rattle.cache_readers.specs.Glances.{GlanceFinds}
 use Rattle.cache_readers.proofs.LookLemmas.{found_at_once}
 use Rattle.cache_readers.proofs.readers.WordReader.glance.Goals as goal

@@ -5,7 +5,7 @@ use Rattle.head_tests.proofs.tests.applications.apply_front.Goals as goal
 use Rattle.head_tests.proofs.tests.applications.apply_front.Goals.{in-Cold, in_default}
 
 pub try_front-tried-requires-clause-own : goal.try_front-tried-requires-clause-own
-try_front-tried-requires-clause-own g c = own_aboard c.args.bump c.args.lane.now c.args.class.now.part c.requires.carries c.requires.own
+try_front-tried-requires-clause-own g c = own_aboard c.args.bump c.args.lane.now c.args.class.now.sheet c.requires.carries c.requires.own
 
 pub alight-last-requires-clause-ends : goal.alight-last-requires-clause-ends
 alight-last-requires-clause-ends g c =

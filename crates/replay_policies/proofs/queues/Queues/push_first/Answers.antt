@@ -1,25 +1,14 @@
-use Rattle.std.proofs.Common.{◌≡◌, ◌+◌, ◌<◌, ◌≤◌, List, sym, ap, subst, ◌∙◌}
-use Rattle.replay_policies.specs.declared.entries.Entry.{Entry}
-use Rattle.replay_policies.specs.Entries.{keys_in, times}
-use Rattle.replay_policies.specs.Plain.{is_hit}
-use Rattle.replay_policies.specs.Queues.{HasPlaces, QueuesView, all_keys, queues_view}
-use Rattle.replay_policies.proofs.QueueLemmas.{absent-both, once-pushed, placed-pushed}
+use Rattle.std.proofs.Common.{◌≡◌, sym, ap, subst, ◌∙◌}
+use Rattle.replay_policies.specs.Queues.{HasPlaces, QueuesView, held_by, queues_view}
+use Rattle.replay_policies.proofs.QueueLemmas.{queues-more}
 use Rattle.replay_policies.proofs.queues.Queues.push_first.Goals as goal
 
 pub invariant_of-self : goal.invariant_of-self
 invariant_of-self c =
     let q = c.self.inside in
     let e = c.args.entry in
-    let absent : times e.key (keys_in q.first.entries) + times e.key (keys_in q.second.entries) ≡ 0 =
-    absent-both e.key q.first.entries q.second.entries (ap (λ (v : QueuesView). is_hit e.key (all_keys v)) c.self.view_is ∙ c.requires.new) in
+    let absent : held_by (queues_view q.first q.second) e.key ≡ 0 =
+    ap (λ (v : QueuesView). held_by v e.key) c.self.view_is ∙ c.requires.new in
     let here : HasPlaces (queues_view q.first q.second) e.key =
     subst (λ (v : QueuesView). HasPlaces v e.key) (sym c.self.view_is) c.requires.place in
-    record {
-      once = λ k. subst (λ (es : List Entry). times k (keys_in es) + times k (keys_in q.second.entries) ≤ 1) (sym c.push.ensures.entries)
-          (once-pushed e q.first.entries q.second.entries absent c.self.invariant.once k);
-      placed = λ k among.
-          let was : HasPlaces (queues_view q.first q.second) k =
-          placed-pushed e q.first.entries q.second.entries absent (HasPlaces (queues_view q.first q.second)) here c.self.invariant.placed k
-          (subst (λ (es : List Entry). 0 < times k (keys_in es) + times k (keys_in q.second.entries)) c.push.ensures.entries among) in
-          record { first = c.push.ensures.places k was.first; second = was.second };
-    }
+    queues-more q.first q.second c.push.new.self e.key absent c.push.ensures.others here c.push.ensures.places c.self.invariant

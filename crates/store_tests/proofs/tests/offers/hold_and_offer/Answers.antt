@@ -10,8 +10,8 @@ pub offer_each-requires-clause-held : goal.offer_each-requires-clause-held
 offer_each-requires-clause-held g c =
     let item = c.link_cold-item.result in
     let hold = c.expect-hold.result in
-    let whole : hold ≡ whole_hold item (row_in hold.part) = search rules in (
-      new_hold item (row_in hold.part),
-      ap (λ (x : WorkerView). x.hold) c.hold_in.ensures.worker ∙ ap (λ (x : HoldView). x.part) whole,
+    let whole : hold ≡ whole_hold item (row_in hold.sheet) = search rules in (
+      new_hold item (row_in hold.sheet),
+      ap (λ (x : WorkerView). x.hold) c.hold_in.ensures.worker ∙ ap (λ (x : HoldView). x.sheet) whole,
       refl,
     )

@@ -1,0 +1,203 @@
+"""What stats tells: the value of each name after commands that are known, as memcached 1.6.18 counts them."""
+import re
+import time
+
+from c_checks import tell
+from client import Client
+from started import Server
+
+# A command, and what it adds to: of `stats`, and with slabs: or items: before the name of class 1. Hits are those of all lists together.
+COUNTED = [
+    ("set a 0 0 1\r\n1", "cmd_set slabs:cmd_set"),
+    ("get a", "cmd_get get_hits slabs:get_hits items:hits"),
+    ("gets a", "cmd_get get_hits slabs:get_hits items:hits"),
+    ("get none", "cmd_get get_misses"),
+    ("gat 0 a", "cmd_touch touch_hits slabs:touch_hits"),
+    ("gat 0 none", "cmd_touch touch_misses"),
+    ("touch a 0", "cmd_touch touch_hits slabs:touch_hits"),
+    ("touch none 0", "cmd_touch touch_misses"),
+    ("incr a 1", "incr_hits slabs:incr_hits"),
+    ("decr a 1", "decr_hits slabs:decr_hits"),
+    ("incr none 1", "incr_misses"),
+    ("decr none 1", "decr_misses"),
+    ("set w 0 0 1\r\nx", "cmd_set slabs:cmd_set"),
+    ("incr w 1", ""),
+    ("cas a 0 0 1 999999\r\n2", "cmd_set slabs:cmd_set cas_badval slabs:cas_badval"),
+    ("cas none 0 0 1 9\r\n2", "cmd_set slabs:cmd_set cas_misses"),
+    ("cas a 0 0 1 %a%\r\n2", "cmd_set slabs:cmd_set cas_hits slabs:cas_hits"),
+    ("delete a", "delete_hits slabs:delete_hits"),
+    ("delete none", "delete_misses"),
+    ("mg w v", "cmd_get get_hits slabs:get_hits items:hits"),
+    ("mg w u", "cmd_get get_hits slabs:get_hits items:hits"),
+    ("mg none", "cmd_get get_misses"),
+    ("mg w T0", "cmd_touch touch_hits slabs:touch_hits"),
+    ("mg new N30", "cmd_get get_hits slabs:get_hits items:hits"),
+    ("md w C99999", "delete_misses"),
+    ("md w I", ""),
+    ("md w", "delete_hits slabs:delete_hits"),
+    ("md none", "delete_misses"),
+    ("ms m 1\r\n1", "cmd_set slabs:cmd_set"),
+    ("ms m 1 C99999\r\n1", "cmd_set slabs:cmd_set cas_badval slabs:cas_badval"),
+    ("ms none 1 C1\r\n1", "cmd_set slabs:cmd_set cas_misses"),
+    ("ma m", "incr_hits slabs:incr_hits"),
+    ("ma m C0", "incr_hits slabs:incr_hits"),
+    ("ma m C99999", ""),
+    ("ma m MD", "decr_hits slabs:decr_hits"),
+    ("ma none", "incr_misses"),
+    ("append m 0 0 1\r\n3", "cmd_set slabs:cmd_set"),
+]
+NAMES = "cmd_get cmd_set cmd_touch get_hits get_misses touch_hits touch_misses".split()
+NAMES += [f"{what}_{how}" for what in ("delete", "incr", "decr", "cas") for how in ("hits", "misses")] + ["cas_badval"]
+SLABS = "get_hits cmd_set delete_hits incr_hits decr_hits cas_hits cas_badval touch_hits".split()
+ITEMS = [f"hits_to_{where}" for where in ("hot", "warm", "cold", "temp")]
+# Each command is followed by a get that misses, which Client.ask sends; and so is each of the three stats.
+OWN = {"cmd_get": 4, "get_misses": 4}
+
+
+class Told:
+    def check_told(self):
+        with Server(self.program, "-o", "temporary_ttl=61,hot_max_factor=1000,warm_max_factor=1000", environment={"BUMP_SERVER_DEBUGTIME": "1"}) as server:
+            client = Client(server.port)
+            wrong = self.count_faults(client)
+            tell(f"{len(COUNTED)} commands are counted by `stats`, by class and by list as memcached counts them", "; ".join(wrong[:4]))
+            client.ask(b"stats reset\r\n")
+            left = {name: number for name, number in self.counts(client).items() if number and name not in OWN}
+            tell("stats reset makes them 0", str(left) if left else "")
+            tell("moves, hits and ages of each list are told", "; ".join(self.list_faults(client)))
+            tell("then it ends with nothing left", server.end())
+        self.check_dropped()
+        self.check_connections()
+        self.check_settings()
+
+    @staticmethod
+    def counts(client):
+        counts = {name: int(client_number) for name, client_number in client.stats().items() if name in NAMES}
+        slabs, items = client.stats("slabs"), client.stats("items")
+        counts.update({f"slabs:{name}": int(slabs.get(f"1:{name}", 0)) for name in SLABS})
+        counts["items:hits"] = sum(int(items.get(f"items:1:{name}", 0)) for name in ITEMS)
+        return counts
+
+    def count_faults(self, client):
+        wrong, before = [], self.counts(client)
+        for request, names in COUNTED:
+            if "%a%" in request:
+                request = request.replace("%a%", client.ask(b"mg a c\r\n").decode().split()[1][1:])
+                before = self.counts(client)
+            client.ask(request.encode() + b"\r\n")
+            after = self.counts(client)
+            added = {name: after[name] - before.get(name, 0) - OWN.get(name, 0) for name in after}
+            added = {name: by for name, by in added.items() if by}
+            if added != dict.fromkeys(names.split(), 1):
+                wrong.append(f"{request.split(chr(13))[0]!r} adds {added}, not {names}")
+            before = after
+        return wrong
+
+    @staticmethod
+    def settled(client, name, wanted):
+        """What stats items tells, once a name of class 1 has this value; or after ten seconds."""
+        for _ in range(100):
+            items = {key.split(":", 2)[2]: int(number) for key, number in client.stats("items").items() if key.startswith("items:1:")}
+            if items.get(name) == wanted:
+                break
+            time.sleep(0.1)
+        return items
+
+    def list_faults(self, client):
+        """Items grow old, are hit in each list, and are moved by their hits."""
+        wrong = []
+        client.ask(b"flush_all\r\nlru_crawler crawl all\r\nstats reset\r\n")
+        for i in range(1000):
+            client.set(b"i%d" % i, b"1")
+        items = self.settled(client, "number_cold", 800)
+        if (items["number_hot"], items["moves_to_cold"], items["moves_to_warm"]) != (200, 800, 0):
+            wrong.append(f"1000 items: {items}")
+        client.ask(b"get i0\r\nget i0\r\n")  # the second hit queues a bump
+        items = self.settled(client, "number_warm", 1)
+        if (items["hits_to_cold"], items["moves_to_warm"], items["number_cold"]) != (2, 1, 799):
+            wrong.append(f"two hits in COLD: {items}")
+        client.ask(b"get i0\r\nget i999\r\nset t 0 50 1\r\n1\r\nget t\r\n")
+        items = self.settled(client, "hits_to_temp", 1)
+        if [items[name] for name in ITEMS] != [1, 1, 2, 1] or items["number_temp"] != 1:
+            wrong.append(f"hits in all lists: {items}")
+        stats = client.stats()
+        if (stats["moves_to_cold"], stats["moves_to_warm"], stats["lru_bumps_dropped"]) != ("800", "1", "0"):
+            wrong.append(f"stats: {[stats[name] for name in ('moves_to_cold', 'moves_to_warm', 'lru_bumps_dropped')]}")
+        if int(stats["cmd_touch"]) or items["age"] > 5:
+            wrong.append(f"age {items['age']}")
+        client.ask(b"debugtime 100\r\n")
+        items = self.settled(client, "number_temp", 0)
+        ages = [items[name] for name in ("age_hot", "age_warm", "age")]
+        if not all(100 <= age <= 130 for age in ages):
+            wrong.append(f"after 100 seconds the ages are {ages}")
+        return wrong
+
+    def check_dropped(self):
+        """Full memory, where whoever stores evicts; and more hits in COLD than a ring has room for."""
+        with Server(self.program, "-m", 8, "-t", 1) as server:
+            client = Client(server.port)
+            client.ask(b"".join(b"set i%d 0 0 400 noreply\r\n%s\r\n" % (i, b"x" * 400) for i in range(60_000)))
+            for _ in range(20):
+                client.ask(b"get " + b" ".join(b"i%d" % i for i in range(48_000, 60_000)) + b"\r\n")
+            items, stats, bump = client.stats("items"), client.stats(), client.stats("bump")
+            dropped = sum(int(number) for name, number in bump.items() if ":dropped_" in name)
+            reclaimed = sum(int(number) for name, number in items.items() if name.endswith(":direct_reclaims"))
+            wrong = []
+            if int(stats["evictions"]) == 0 or not int(stats["direct_reclaims"]) == reclaimed == int(stats["evictions"]):
+                wrong.append(f"{stats['evictions']} evictions, direct_reclaims {stats['direct_reclaims']} and {reclaimed}")
+            if int(stats["lru_bumps_dropped"]) != dropped or dropped == 0:
+                wrong.append(f"{dropped} bumps are dropped, lru_bumps_dropped {stats['lru_bumps_dropped']}")
+            if not 0 < int(stats["moves_within_lru"]) == sum(int(number) for name, number in items.items() if name.endswith(":moves_within_lru")):
+                wrong.append(f"moves_within_lru {stats['moves_within_lru']}")
+            tell(f"{stats['direct_reclaims']} evictions, {dropped} dropped bumps and {stats['moves_within_lru']} moves within WARM are told", "; ".join(wrong))
+            tell("then it ends with nothing left", server.end())
+
+    def check_connections(self):
+        """stats conns: each connection by its address, what it does and since when."""
+        with Server(self.program, environment={"BUMP_SERVER_DEBUGTIME": "1"}) as server:
+            client, reads, stores, skips, sends = (Client(server.port) for _ in range(5))
+            stores.socket.sendall(b"set a 0 0 1000\r\nabc")
+            skips.socket.sendall(b"set a 0 0 2000000\r\nabc")
+            sends.set(b"big", b"x" * 1_000_000)
+            sends.socket.sendall(b"get" + b" big" * 40 + b"\r\n")
+            reads.ask(b"debugtime 7\r\n")
+            time.sleep(0.5)
+            many = [Client(server.port) for _ in range(300)]
+            for one in many:
+                one.ask(b"")
+            told = client.stats("conns")
+            names = {told[name]: name.split(":")[0] for name in told if name.endswith(":addr")}
+            wrong, listens = [], f"tcp:127.0.0.1:{server.port}"
+            for one, state in ((client, "conn_parse_cmd"), (reads, "conn_read"), (stores, "conn_nread"), (skips, "conn_swallow"), (sends, "conn_mwrite"), (many[7], "conn_read")):
+                number = names.get("tcp:%s:%d" % one.socket.getsockname())
+                got = (told.get(f"{number}:state"), told.get(f"{number}:listen_addr"))
+                if got != (state, listens):
+                    wrong.append(f"{state}: {got}")
+            idle = int(told.get(names.get("tcp:%s:%d" % stores.socket.getsockname(), "") + ":secs_since_last_cmd", -1))
+            if told.get(f"{names.get(listens)}:state") != "conn_listening" or len(names) != 306 or not 7 <= idle <= 60:
+                wrong.append(f"{len(names)} addresses, idle for {idle}")
+            tell("stats conns tells each connection, what it does, and since when", "; ".join(wrong[:3]))
+            for one in [reads, stores, skips, sends, *many]:
+                one.close()
+            for _ in range(100):
+                if sum(name.endswith(":addr") for name in client.stats("conns")) == 2:
+                    break
+                time.sleep(0.1)
+            tell("and none that ended", "" if sum(name.endswith(":addr") for name in client.stats("conns")) == 2 else "some are told still")
+            tell("then it ends with nothing left", server.end())
+
+    def check_settings(self):
+        options = "-m 33 -c 99 -t 3 -b 55 -R 7 -I 2m -f 1.5 -n 56 -M -C -F -A -o".split() + ["hot_lru_pct=11,warm_lru_pct=22,hot_max_factor=0.3,warm_max_factor=1.5,"
+                   "temporary_ttl=44,idle_timeout=66,slab_automove_ratio=0.7,slab_chunk_max=100000,no_lru_crawler,no_lru_maintainer"]
+        with Server(self.program, *options) as server:
+            told = Client(server.port).stats("settings")
+            wanted = dict(maxbytes=33 << 20, maxconns=99, tcpport=server.port, udpport=0, inter="127.0.0.1", evictions="off", domain_socket="NULL", umask=700,
+                          shutdown_command="yes", growth_factor="1.50", chunk_size=56, num_threads=3, detail_enabled="no", reqs_per_event=7, cas_enabled="no",
+                          tcp_backlog=55, item_size_max=2 << 20, slab_automove_ratio="0.70", slab_chunk_max=100000, lru_crawler="no", tail_repair_time=0,
+                          flush_enabled="no", dump_enabled="yes", lru_maintainer_thread="no", hot_lru_pct=11, warm_lru_pct=22, hot_max_factor="0.30",
+                          warm_max_factor="1.50", temp_lru="yes", temporary_ttl=44, idle_timeout=66, read_buf_mem_limit=0, track_sizes="no", ssl_enabled="no",
+                          memory_file="(null)")
+            wrong = [f"{name} is {told.get(name)}, not {value}" for name, value in wanted.items() if told.get(name) != str(value)]
+            tell(f"stats settings tells {len(wanted)} options as they were given", "; ".join(wrong[:4]))
+            version = Client(server.port).stats()["version"]
+            tell("the version is numbers alone", "" if re.fullmatch(r"\d+(\.\d+)+", version) else version)
+            tell("then it ends with nothing left", server.end())

@@ -1,0 +1,160 @@
+"""What one client asks doesn't keep another one of the same thread waiting; and the answer is the same, in however many turns it is made."""
+import re
+import subprocess
+import sys
+from pathlib import Path
+
+from c_checks import tell
+from client import Client
+from started import Server
+
+HERE = Path(__file__).resolve().parent
+ITEMS = 500_000
+# Milliseconds. A get that waits for the end of a long command takes ten times that. One that waits for its turn takes less than one; and
+# what the scheduler of a busy machine adds, it doesn't add three times. What can be done once alone may take longer.
+MOST, TRIES, MOST_ONCE = 25.0, 3, 100.0
+
+
+class Watched:
+    """Another client's gets, while what stands in a with is done: the slowest one took so many milliseconds."""
+
+    def __init__(self, server):
+        self.port = server.port
+
+    def __enter__(self):
+        words = [sys.executable, str(HERE / "slowest.py"), str(self.port)]
+        self.process = subprocess.Popen(words, stdin=subprocess.PIPE, stdout=subprocess.PIPE, text=True)
+        self.process.stdout.readline()
+        return self
+
+    def __exit__(self, *_):
+        told = self.process.communicate()[0].split()
+        self.count, self.slowest = (int(told[0]), int(told[1]) / 1000) if len(told) == 2 else (0, float("inf"))
+
+
+def ask_much(client, request):
+    """Its whole answer, where that may have many megabytes."""
+    client.count += 1
+    end, parts = b"EN O%d\r\n" % client.count, []
+    client.socket.sendall(request + b"mg nobody-has-this-key O%d\r\n" % client.count)
+    while not (b"".join(parts[-2:])).endswith(end):
+        parts.append(client.socket.recv(1 << 20))
+        if not parts[-1]:
+            raise ConnectionError("the server closed the connection")
+    return b"".join(parts)[:-len(end)]
+
+
+class Turns:
+    def check_turns(self):
+        with self.served("-m", 1024) as server:
+            client = Client(server.port, 300)
+            self.watch(server, "each class has its first item", lambda: self.store_each_class(client), 1, MOST_ONCE)
+            small = self.memory(server)
+            tell("then the process takes less than 50 megabytes", "" if small < 50 else f"{small:.0f}")
+            self.watch(server, f"{ITEMS} items are stored", lambda: self.store_many(client), 1, MOST_ONCE)
+            self.check_long(server, client)
+            self.watch(server, "values of a megabyte are stored and read", lambda: self.large_faults(client))
+            self.watch(server, "flush_all and what follows", lambda: self.flush_faults(client))
+            tell("then it ends with nothing left", server.end())
+        self.check_room()
+
+    def served(self, *options):
+        return Server(self.program, "-t", 1, *options, before=["nice", "-n", "-10"], environment={"BUMP_SERVER_DEBUGTIME": "1"})
+
+    @staticmethod
+    def memory(server):
+        """Megabytes that the process has."""
+        return int(Path(f"/proc/{server.process.pid}/statm").read_text().split()[1]) * 4096 / 1e6
+
+    def check_long(self, server, client):
+        """Commands about many items, or with many keys."""
+        def ask(request, is_right):
+            answer = ask_much(client, request)
+            return "" if is_right(answer) else f"{answer[:80]} .. {answer[-80:]}"
+        many = b"get " + b" ".join(b"n%d" % i for i in range(100_000)) + b"\r\n"
+        told = b"".join(b"stats %s\r\n" % what for what in (b"slabs", b"items", b"bump", b"conns"))
+        for name, do in (("lru_crawler metadump all", lambda: self.dump_fault(ask_much(client, b"lru_crawler metadump all\r\n"))),
+                         ("stats cachedump 1 0", lambda: self.list_fault(ask_much(client, b"stats cachedump 1 0\r\n"))),
+                         ("stats sizes", lambda: ask(b"stats sizes\r\n", lambda answer: b"disabled" in answer)),
+                         ("stats", lambda: ask(b"stats\r\n", lambda answer: b"curr_items %d\r\n" % (ITEMS + 1) in answer)),
+                         ("stats slabs, items, bump and conns", lambda: ask(told, lambda answer: answer.count(b"END\r\n") == 4)),
+                         ("a get of 100,000 keys", lambda: ask(many, lambda answer: answer.count(b"VALUE n") == 100_000)),
+                         ("a get of 2,000,000 keys that aren't there", lambda: ask(b"get" + b" none" * 2_000_000 + b"\r\n", lambda answer: answer == b"END\r\n")),
+                         ("lru_crawler crawl all", lambda: self.crawl_fault(client))):
+            self.watch(server, name, do)
+
+    def watch(self, server, name, do, tries=TRIES, most=MOST):
+        for _ in range(tries):
+            with Watched(server) as watched:
+                wrong = do()
+            if wrong or watched.slowest <= most:
+                break
+        wrong = wrong or ("" if watched.slowest <= most else f"more than {most:.0f} ms")
+        tell(f"{name}: meanwhile the slowest of {watched.count} gets of another client took {watched.slowest:.1f} ms", wrong)
+
+    @staticmethod
+    def store_each_class(client):
+        wrong = [size for size in (int(40 * 1.2 ** i) for i in range(55)) if not client.set(b"class", b"c" * size)]
+        classes = sum(name.endswith(":chunk_size") for name in client.stats("slabs"))
+        client.ask(b"delete class\r\n")
+        return f"{wrong} aren't stored" if wrong else "" if classes > 35 else f"only {classes} classes"
+
+    @staticmethod
+    def store_many(client):
+        """Of which a tenth expires."""
+        for begin in range(0, ITEMS, 10_000):
+            client.socket.sendall(b"".join(b"set n%d 0 %d 5 noreply\r\nvalue\r\n" % (i, 0 if i % 10 else 1000) for i in range(begin, begin + 10_000)))
+        client.set(b"watched", b"here")
+        there = int(client.stats()["curr_items"])
+        return "" if there == ITEMS + 1 else f"{there} items are there"
+
+    @staticmethod
+    def dump_fault(answer):
+        """Each item once, and all that is told of it."""
+        keys = set(re.findall(rb"^key=(\S+) exp=-?\d+ la=\d+ cas=\d+ fetch=(?:yes|no) cls=1 size=\d+$", answer, re.M))
+        if len(keys) != ITEMS + 1 or answer.count(b"\n") != ITEMS + 2 or not answer.endswith(b"\nEND\r\n"):
+            return f"{len(keys)} keys in {answer.count(bytes([10]))} lines"
+        return ""
+
+    @staticmethod
+    def list_fault(answer):
+        keys = re.findall(rb"^ITEM (\S+) \[\d b; \d+ s\]\r$", answer, re.M)
+        right = len(keys) == len(set(keys)) == 20_000 and answer.endswith(b"\r\nEND\r\n")
+        return "" if right else f"{len(set(keys))} different keys in {len(keys)} lines"
+
+    @staticmethod
+    def crawl_fault(client):
+        client.ask(b"debugtime 2000\r\n")
+        answer, there = client.ask(b"lru_crawler crawl all\r\n"), int(client.stats()["curr_items"])
+        return "" if answer == b"OK\r\n" and there == ITEMS * 9 // 10 + 1 else f"{answer}, {there} items are there"
+
+    @staticmethod
+    def large_faults(client):
+        value = bytes(range(256)) * 4000
+        wrong = [i for i in range(20) if not client.set(b"large%d" % i, value) or client.get(b"large%d" % i) != value]
+        for request, count in ((b"get" + b" large1" * 20 + b"\r\n", 20), (b"mg large2 v\r\n" * 10, 10), (b"append large3 0 0 1\r\nx\r\nget large3\r\n", 1)):
+            wrong += [] if ask_much(client, request).count(value) == count else [request[:20]]
+        return f"{wrong[:5]} aren't stored, or are wrong" if wrong else ""
+
+    @staticmethod
+    def flush_faults(client):
+        """Items that were flushed are ended by and by, and when they are looked for."""
+        answers = client.ask(b"flush_all\r\nget n1 n2\r\nlru_crawler crawl all\r\n")
+        there = int(client.stats()["curr_items"])
+        return "" if (answers, there) == (b"OK\r\nEND\r\nOK\r\n", 0) else f"{answers}, {there} items are there"
+
+    def check_room(self):
+        """A large value comes where memory is full of small ones, of which thousands have to go."""
+        with self.served("-m", 32) as server:
+            client = Client(server.port, 300)
+            self.store_many(client)
+            self.watch(server, "values of a megabyte take the room of small ones", lambda: self.room_faults(client))
+            stats = client.stats()
+            tell("then memory isn't exceeded", "" if int(stats["bytes"]) <= 32 << 20 and stats["evictions"] != "0" else f"{stats['bytes']} bytes")
+            tell("then it ends with nothing left", server.end())
+
+    @staticmethod
+    def room_faults(client):
+        value = bytes(range(256)) * 4000
+        wrong = [i for i in range(25) if not client.set(b"large%d" % i, value) or client.get(b"large%d" % i) != value]
+        return f"{wrong[:5]} aren't stored, or are wrong" if wrong else ""

@@ -1,5 +1,0 @@
-use Rattle.std.proofs.Common.{rules}
-use Rattle.bump_parts.proofs.touching.attempt_counted.Goals as goal
-
-pub returns-clause-attempted : goal.returns-clause-attempted
-returns-clause-attempted g c = search rules

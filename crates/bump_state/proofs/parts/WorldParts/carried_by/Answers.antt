@@ -1,8 +1,0 @@
-use Rattle.std.proofs.Common.{rules}
-use Rattle.bump_state.specs.Views.{state_of}
-use Rattle.bump_state.proofs.LookUps.{some_carried}
-use Rattle.bump_state.proofs.parts.WorldParts.carried_by.Goals as goal
-
-pub returns-clause-chunk : goal.returns-clause-chunk
-returns-clause-chunk c = some_carried (state_of c.args.self.now) c.requires c.args.worker
-    (search rules) c.carried.result (search rules)

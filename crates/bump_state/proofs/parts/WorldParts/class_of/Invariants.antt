@@ -1,9 +1,0 @@
-use Rattle.std.proofs.Common.{◌≡◌, ◌+◌, drop, map}
-use Rattle.bump_state.specs.State.{class_from}
-use Rattle.bump_state.specs.Views.{class_view}
-use Rattle.bump_state.proofs.parts.WorldParts.class_of.Given as goal
-
--- no class so far ends behind the chunk
-abbrev pub invariant-loop-k : goal.invariant-loop-k
-invariant-loop-k l = class_from (map class_view l.self.classes.items) l.chunk
-    ≡ l.k + class_from (map class_view (drop l.k l.self.classes.items)) l.chunk

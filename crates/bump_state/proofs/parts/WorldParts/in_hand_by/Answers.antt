@@ -1,8 +1,0 @@
-use Rattle.std.proofs.Common.{rules}
-use Rattle.bump_state.specs.Views.{state_of}
-use Rattle.bump_state.proofs.LookUps.{some_in_hand}
-use Rattle.bump_state.proofs.parts.WorldParts.in_hand_by.Goals as goal
-
-pub returns-clause-chunk : goal.returns-clause-chunk
-returns-clause-chunk c = some_in_hand (state_of c.args.self.now) c.requires c.args.worker c.in_hand.result
-    (search rules) (search rules)

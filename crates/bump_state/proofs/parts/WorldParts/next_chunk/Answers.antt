@@ -1,8 +1,0 @@
-use Rattle.bump_state.specs.Views.{state_of}
-use Rattle.bump_state.proofs.Fronts.{some_next}
-use Rattle.bump_state.proofs.parts.WorldParts.next_chunk.Goals as goal
-
-pub returns-clause-free : goal.returns-clause-free
-returns-clause-free c = some_next
-    (state_of c.args.self.now) c.requires.lawful c.args.class c.unused_front.result c.requires.class
-    c.unused_front.ensures

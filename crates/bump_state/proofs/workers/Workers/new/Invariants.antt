@@ -1,9 +1,0 @@
-use Rattle.std.proofs.Common.{◌≡◌}
-use Rattle.std.specs.Prelude.{replicate}
-use Rattle.bump_state.specs.State.{new_worker}
-use Rattle.bump_state.specs.Workers.{worker_views}
-use Rattle.bump_state.proofs.workers.Workers.new.Given as goal
-
--- so many workers so far
-abbrev pub invariant-loop : goal.invariant-loop
-invariant-loop l = worker_views l.all.items ≡ replicate l.counter new_worker

@@ -1,0 +1,20 @@
+//! An index of words that leads from the hash of a key to the lives that may have it. Readers search it without a lock,
+//! and one writer, under a lock, keeps it. It knows no keys: whoever is led to a life has to look at the key there.
+#![tactic(auto)]
+
+mod exact;
+mod from_zero;
+mod index;
+mod known_words;
+mod led;
+mod nests;
+mod pen_rule;
+mod pens;
+mod readers;
+mod tags;
+#[cfg(test)]
+mod tests;
+
+pub use exact::ExactSearch;
+pub use index::{Index, MOST_CHUNKS, nests_for};
+pub use readers::{IndexReader, Search};

@@ -1,6 +1,0 @@
-use Rattle.std.proofs.Common.{◌≡◌, replicate}
-use Rattle.cache_nests.specs.Leads.{no_way}
-use Rattle.cache_nests.proofs.from_zero.IndexFromZero.new.Given as goal
-
-abbrev pub invariant-loop : goal.invariant-loop
-invariant-loop l = l.ways.items ≡ replicate l.counter no_way

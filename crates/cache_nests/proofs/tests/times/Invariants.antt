@@ -1,9 +1,0 @@
-use Rattle.std.proofs.Common.{◌≡◌}
-use Rattle.cache_nests.specs.Views.{ahead}
-use Rattle.cache_nests.proofs.tests.times.Given as goal
-
-abbrev pub invariant-loop-life : goal.invariant-loop-life
-invariant-loop-life l = l.search.nests ≡ l.reader.nests
-
-abbrev pub decreases-loop-life : goal.decreases-loop-life
-decreases-loop-life l = ahead l.search

@@ -1,6 +1,0 @@
-pub mod Tags
-pub mod Places
-pub mod Leads
-pub mod Changes
-pub mod Views
-pub mod Walks
