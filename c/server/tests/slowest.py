@@ -1,5 +1,6 @@
 #!/usr/bin/env python3
-"""Gets one key again and again, until its standard input ends, and prints how many microseconds the slowest get took: slowest.py PORT"""
+"""Gets one key again and again, until its standard input ends, and prints how many gets these were, how many microseconds the slowest one
+took, and during which one the server's process worked most, in microseconds of a processor: slowest.py PORT PROCESS"""
 import os
 import select
 import socket
@@ -12,9 +13,11 @@ except OSError:
     pass
 link = socket.create_connection(("127.0.0.1", int(sys.argv[1])), timeout=120)
 link.setsockopt(socket.IPPROTO_TCP, socket.TCP_NODELAY, 1)
-slowest = count = 0
+# Linux's clock of the time that all threads of another process ran (clock_getcpuclockid).
+WORK = (~int(sys.argv[2]) << 3) | 2
+slowest = most_work = count = 0
 while True:
-    begins = time.monotonic()
+    begins, worked = time.monotonic(), time.clock_gettime(WORK)
     link.sendall(b"get watched\r\n")
     got = b""
     while not got.endswith(b"END\r\n"):
@@ -22,10 +25,11 @@ while True:
         if not more:
             sys.exit("the server closed the connection")
         got += more
-    slowest, count = max(slowest, time.monotonic() - begins), count + 1
+    slowest, most_work = max(slowest, time.monotonic() - begins), max(most_work, time.clock_gettime(WORK) - worked)
+    count += 1
     if count == 1:
-        slowest = 0
+        slowest = most_work = 0
         print("gets", flush=True)
     if select.select([sys.stdin], [], [], 0)[0]:
         break
-print(count, int(slowest * 1e6), flush=True)
+print(count, int(slowest * 1e6), int(most_work * 1e6), flush=True)

@@ -10,26 +10,31 @@ from started import Server
 
 HERE = Path(__file__).resolve().parent
 ITEMS = 500_000
-# Milliseconds. A get that waits for the end of a long command takes ten times that. One that waits for its turn takes less than one; and
-# what the scheduler of a busy machine adds, it doesn't add three times. What can be done once alone may take longer.
-MOST, TRIES, MOST_ONCE = 25.0, 3, 100.0
+# Milliseconds that the server works while a get waits: one that waits for the end of a long command lets it work for ten times that, and one
+# that waits for its turn for less than one. What a busy machine adds to the time of a get isn't the server's work; MOST_TIME is for a server
+# that sleeps. What is slow once isn't slow three times; what can be done once alone may take longer.
+MOST, TRIES, MOST_ONCE, MOST_TIME = 25.0, 3, 100.0, 2000.0
 
 
 class Watched:
-    """Another client's gets, while what stands in a with is done: the slowest one took so many milliseconds."""
+    """Another client's gets, while what stands in a with is done: the slowest one took so many milliseconds, and the server worked for so many
+    at most while one waited."""
 
     def __init__(self, server):
-        self.port = server.port
+        self.server = server
 
     def __enter__(self):
-        words = [sys.executable, str(HERE / "slowest.py"), str(self.port)]
+        words = [sys.executable, str(HERE / "slowest.py"), str(self.server.port), str(self.server.process.pid)]
         self.process = subprocess.Popen(words, stdin=subprocess.PIPE, stdout=subprocess.PIPE, text=True)
         self.process.stdout.readline()
         return self
 
     def __exit__(self, *_):
         told = self.process.communicate()[0].split()
-        self.count, self.slowest = (int(told[0]), int(told[1]) / 1000) if len(told) == 2 else (0, float("inf"))
+        self.count, self.slowest, self.work = (int(told[0]), int(told[1]) / 1000, int(told[2]) / 1000) if len(told) == 3 else (0, float("inf"), float("inf"))
+
+    def is_slow(self, most):
+        return self.work > most or self.slowest > MOST_TIME
 
 
 def ask_much(client, request):
@@ -87,10 +92,11 @@ class Turns:
         for _ in range(tries):
             with Watched(server) as watched:
                 wrong = do()
-            if wrong or watched.slowest <= most:
+            if wrong or not watched.is_slow(most):
                 break
-        wrong = wrong or ("" if watched.slowest <= most else f"more than {most:.0f} ms")
-        tell(f"{name}: meanwhile the slowest of {watched.count} gets of another client took {watched.slowest:.1f} ms", wrong)
+        wrong = wrong or (f"more than {most:.0f} ms of work" if watched.is_slow(most) else "")
+        tell(f"{name}: meanwhile the server worked {watched.work:.1f} ms at most in one of {watched.count} gets of another client, the slowest took "
+             f"{watched.slowest:.1f} ms", wrong)
 
     @staticmethod
     def store_each_class(client):
