@@ -20,6 +20,9 @@ extern "C" {
 /* The most parts that a cache has. */
 #define BUMP_CACHE_MOST_PARTS 16
 
+/* How often a mutex that is taken is tried, with pauses of some ten nanoseconds, before a thread sleeps for it. */
+#define BUMP_CACHE_LOCKS_TRIES 64
+
 /* A part and its mutex. The room behind them keeps the next ones out of their line of memory. */
 typedef struct bump_cache_locked {
   pthread_mutex_t mutex;
@@ -62,6 +65,18 @@ static inline bool bump_cache_locks_init(bump_cache_locks *locks, bump_cache *ca
 /* Gives back all parts, and their mutexes. */
 static inline void bump_cache_locks_free(bump_cache_locks *locks) { bump_cache_locks_end(locks, locks->config.parts); }
 
+/* Takes the mutex of a part. Who has it gives it back within a microsecond, as a rule, and to sleep and to be woken
+ * takes longer: so a thread looks for about as long before it sleeps. */
+static inline void bump_cache_locks_wait(bump_cache_locked *part) {
+  for (int i = 0; i < BUMP_CACHE_LOCKS_TRIES; i++) {
+    if (pthread_mutex_trylock(&part->mutex) == 0) return;
+#if defined(__GNUC__) && defined(__x86_64__)
+    __builtin_ia32_pause();
+#endif
+  }
+  pthread_mutex_lock(&part->mutex);
+}
+
 /* ------------------------------------------------------------------------------------------------ calls of a key */
 
 /* Takes the mutex of a key's part, for several calls as one: a look, and a put of what is made from it. NULL: the key
@@ -69,7 +84,7 @@ static inline void bump_cache_locks_free(bump_cache_locks *locks) { bump_cache_l
 static inline bump_cache_locked *bump_cache_locks_take(bump_cache_locks *locks, const void *key, size_t key_length) {
   uint32_t number = bump_cache_part_of(&locks->config, key, key_length);
   if (number == BUMP_NONE) return NULL;
-  pthread_mutex_lock(&locks->of[number].mutex);
+  bump_cache_locks_wait(&locks->of[number]);
   return &locks->of[number];
 }
 
@@ -153,7 +168,7 @@ static inline bool bump_cache_locks_remove(bump_cache_locks *locks, const void *
 /* Tends each part. */
 static inline void bump_cache_locks_tend(bump_cache_locks *locks, uint64_t now) {
   for (uint32_t i = 0; i < locks->config.parts; i++) {
-    pthread_mutex_lock(&locks->of[i].mutex);
+    bump_cache_locks_wait(&locks->of[i]);
     bump_cache_tend(&locks->of[i].part, now);
     pthread_mutex_unlock(&locks->of[i].mutex);
   }
@@ -162,7 +177,7 @@ static inline void bump_cache_locks_tend(bump_cache_locks *locks, uint64_t now) 
 /* Ends each item of each part. What others put meanwhile into a part that was cleared stays. */
 static inline void bump_cache_locks_clear(bump_cache_locks *locks) {
   for (uint32_t i = 0; i < locks->config.parts; i++) {
-    pthread_mutex_lock(&locks->of[i].mutex);
+    bump_cache_locks_wait(&locks->of[i]);
     bump_cache_clear(&locks->of[i].part);
     pthread_mutex_unlock(&locks->of[i].mutex);
   }
@@ -193,7 +208,7 @@ static inline bump_cache_stats_of bump_cache_locks_stats(bump_cache_locks *locks
   bump_cache_stats_of sum;
   memset(&sum, 0, sizeof sum);
   for (uint32_t i = 0; i < locks->config.parts; i++) {
-    pthread_mutex_lock(&locks->of[i].mutex);
+    bump_cache_locks_wait(&locks->of[i]);
     bump_cache_stats_of own = bump_cache_stats(&locks->of[i].part);
     pthread_mutex_unlock(&locks->of[i].mutex);
     bump_cache_locks_sum_up(&sum, &own);

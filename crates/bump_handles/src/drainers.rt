@@ -17,7 +17,7 @@ use std::marker::Model;
 use std::sync::Arc;
 
 /// Why a worker isn't closed.
-#[derive(Clone, Copy, Debug, PartialEq, Eq)]
+#[derive(Clone, Copy)]
 pub enum NotClosed {
     /// The lane is of another store.
     OtherStore,
@@ -33,7 +33,7 @@ pub enum NotClosed {
 }
 
 /// How far a lane is with its ring.
-#[derive(Clone, Copy, Debug, PartialEq, Eq)]
+#[derive(Clone, Copy)]
 pub enum RestState {
     /// Its worker is closed, and all that the ring accepted is applied.
     Settled,
@@ -52,7 +52,7 @@ pub enum RestState {
 }
 
 /// What is left of a lane's ring.
-#[derive(Clone, Copy, Debug, PartialEq, Eq)]
+#[derive(Clone, Copy)]
 pub struct Rested {
     /// How far the lane is.
     pub state: RestState,
@@ -68,7 +68,7 @@ pub struct Rested {
 }
 
 /// The next bump is of another class than the Book.
-#[derive(Clone, Copy, Debug, PartialEq, Eq)]
+#[derive(Clone, Copy)]
 pub struct OtherClass;
 
 // How far a lane is whose worker is closed, and whose ring has so many bumps left.

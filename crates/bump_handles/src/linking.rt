@@ -9,7 +9,7 @@ use bump_heads::Name;
 use bump_rules::ItemId;
 
 /// Why an item isn't linked with further words.
-#[derive(Clone, Copy, Debug, PartialEq, Eq)]
+#[derive(Clone, Copy)]
 pub enum WordsRefusal {
     /// They are more than each chunk has.
     TooMany,

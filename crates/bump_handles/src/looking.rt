@@ -10,7 +10,7 @@ use bump_heads::Name;
 use bump_rules::{Head, Place};
 
 /// A chunk and what three loads found of it.
-#[derive(Clone, Copy, Debug, PartialEq, Eq)]
+#[derive(Clone, Copy)]
 pub struct Sight {
     /// The chunk.
     pub chunk: u32,
@@ -26,7 +26,7 @@ pub struct Sight {
 }
 
 /// How far a walk of a list came.
-#[derive(Clone, Copy, Debug, PartialEq, Eq)]
+#[derive(Clone, Copy)]
 pub struct Walked {
     /// How many chunks were told.
     pub count: u32,
@@ -36,7 +36,7 @@ pub struct Walked {
 }
 
 /// The chunk from which one is to go on doesn't stand in the list.
-#[derive(Clone, Copy, Debug, PartialEq, Eq)]
+#[derive(Clone, Copy)]
 pub struct NotThere;
 
 impl<N: Name> TaggedBook<N> {

@@ -18,7 +18,7 @@ use std::marker::Model;
 use std::sync::Arc;
 
 /// What became of a get into a place.
-#[derive(Clone, Copy, Debug, PartialEq, Eq)]
+#[derive(Clone, Copy)]
 pub enum Taken {
     /// The item is held, in that place.
     Held,
@@ -40,7 +40,7 @@ pub enum Taken {
 }
 
 /// What a whole hit found.
-#[derive(Clone, Copy, Debug, PartialEq, Eq)]
+#[derive(Clone, Copy)]
 pub struct WholeHit {
     /// What the touch answered.
     pub touch: Touch,

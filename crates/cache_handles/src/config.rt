@@ -17,7 +17,7 @@ const MOST_KEY_WORDS: usize = 129;
 const MOST_VALUE_BYTES: u32 = 1_048_576;
 
 /// Why a cache can't be made from these numbers.
-#[derive(Clone, Copy, Debug, PartialEq, Eq)]
+#[derive(Clone, Copy)]
 pub enum ByteFault {
     /// Keys may have more than 1,024 bytes.
     KeyBytes,

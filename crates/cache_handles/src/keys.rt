@@ -9,7 +9,7 @@ use keyed_hash::Seed;
 use packed_words::spell;
 
 /// Why a part doesn't take a key.
-#[derive(Clone, Copy, Debug, PartialEq, Eq)]
+#[derive(Clone, Copy)]
 pub enum KeyFault {
     /// It is longer than keys of this cache may be.
     TooLong,
@@ -19,7 +19,7 @@ pub enum KeyFault {
 }
 
 /// Which of how many parts a part is.
-#[derive(Clone, Copy, Debug, PartialEq, Eq)]
+#[derive(Clone, Copy)]
 pub struct PartPlace {
     /// Its number, from 0.
     pub number: u32,

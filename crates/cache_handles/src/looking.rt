@@ -9,7 +9,7 @@ use crate::values::{TOLD_WORDS, ValueTold};
 use bump_heads::Name;
 
 /// What is told of a value under a lock, beside its bytes.
-#[derive(Clone, Copy, Debug, PartialEq, Eq)]
+#[derive(Clone, Copy)]
 pub struct Looked {
     /// Its flags and its length.
     pub value: ValueTold,
@@ -19,7 +19,7 @@ pub struct Looked {
 }
 
 /// What became of a look for a key.
-#[derive(Clone, Copy, Debug, PartialEq, Eq)]
+#[derive(Clone, Copy)]
 pub enum LookTold {
     /// The key has this.
     Found(Looked),

@@ -11,7 +11,7 @@ use crate::parts::BytePart;
 use bump_heads::Name;
 
 /// What became of a put.
-#[derive(Clone, Copy, Debug, PartialEq, Eq)]
+#[derive(Clone, Copy)]
 pub enum PutTold {
     /// The value was put, and it is told whether another item was evicted.
     Done { evicted: bool },

@@ -9,7 +9,7 @@ use bump_readers::ReaderHeads;
 use cache_readers::Hold;
 
 /// What became of a get.
-#[derive(Clone, Copy, Debug, PartialEq, Eq)]
+#[derive(Clone, Copy)]
 pub enum GetTold {
     /// The key has a value: this is told beside its bytes, and their first eight words.
     Found {
@@ -25,7 +25,7 @@ pub enum GetTold {
 }
 
 /// What became of a get that holds.
-#[derive(Clone, Copy, Debug, PartialEq, Eq)]
+#[derive(Clone, Copy)]
 pub enum HeldTold {
     /// The key has a value, which is held: this is told beside its bytes.
     Found(ValueTold),

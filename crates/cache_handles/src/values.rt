@@ -12,7 +12,7 @@ pub const TOLD_WORDS: usize = 8;
 pub(crate) const FIRST_WORDS: usize = 2 + TOLD_WORDS;
 
 /// What is told of a value beside its bytes.
-#[derive(Clone, Copy, Debug, PartialEq, Eq)]
+#[derive(Clone, Copy)]
 pub struct ValueTold {
     /// Its flags.
     pub flags: u32,

@@ -7,7 +7,7 @@ use crate::values::{TOLD_WORDS, ValueTold};
 use bump_heads::Name;
 
 /// What is told of an item that is visited, beside its bytes.
-#[derive(Clone, Copy, Debug, PartialEq, Eq)]
+#[derive(Clone, Copy)]
 pub struct EntryTold {
     /// How many bytes its key has.
     pub key_length: u64,

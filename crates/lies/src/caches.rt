@@ -4,7 +4,7 @@ ghost use Rattle.bump_cache.specs.Changing.{Adds, CallsOnHad, ChangesWhereSome, 
 ghost use Rattle.bump_cache.specs.Ending.{TakesOfPart};
 ghost use Rattle.bump_cache.specs.Putting.{PutsValue, RefusesValue, RemovesValue};
 ghost use Rattle.bump_cache.specs.States.{from_of, part_called, to_of, now_of};
-ghost use Rattle.bump_cache.specs.Tending.{SumsUpParts};
+ghost use Rattle.bump_cache.specs.Tending.{SumsUpParts, TendsParts, TendsUntilOver};
 ghost use Rattle.bump_cache.specs.Visiting.{VisitsParts};
 ghost use Rattle.cache_part.specs.Stats.{stats_of as stats_of_part};
 ghost use Rattle.cache_shelf.specs.Shelves.{with_put};
@@ -270,4 +270,34 @@ pub fn for_each<N: Name + LogName, K: Packed, V: Packed, W: Wait, F: FnMut(K, V,
     ensures parts { me.new.parts ≡ me.old.parts }
 {
     cache.for_each(rt, me, now, visit)
+}
+
+/// Tends each part.
+pub fn tend<N: Name + LogName, K: Packed, V: Packed, W: Wait>(
+    cache: &Cache<N, K, V>,
+    rt: &W,
+    me: &mut Caller<N, CacheState>,
+    now: u64,
+)
+    requires part { 0 < me.old.parts }
+    ensures tends { TendsParts cache.now.parts now me.old me.new }
+    ensures calls { me.new.calls ≡ me.old.calls + cache.now.parts }
+    ensures parts { me.new.parts ≡ me.old.parts }
+{
+    cache.tend(rt, me, now)
+}
+
+/// Tends each part, each time at what a clock tells, until it tells nothing.
+pub fn tend_until<N: Name + LogName, K: Packed, V: Packed, W: Wait, F: FnMut() -> Option<u64>>(
+    cache: &Cache<N, K, V>,
+    rt: &W,
+    me: &mut Caller<N, CacheState>,
+    clock: F,
+) -> F
+    requires part { 0 < me.old.parts }
+    requires callable { F.IsAlwaysCallable clock }
+    ensures tends { TendsUntilOver (λ c told c'. F.step c told c') cache.now.parts clock me.old result me.new }
+    ensures parts { me.new.parts ≡ me.old.parts }
+{
+    cache.tend_until(rt, me, clock)
 }

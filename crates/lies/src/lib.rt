@@ -3,6 +3,7 @@
 #![tactic(auto)]
 
 pub mod caches;
+pub mod configs;
 pub mod held;
 pub mod readers;
 pub mod strings;

@@ -1,4 +1,4 @@
-//! Runs with known tallies, and runs beside a plain list.
+//! Runs with known tallies. How many accesses of whole logs hit is compared with other programs by `checks/replay`.
 use replay_policies::{MAX_ITEMS, Policy, PolicyFault, Replay, Tally, replay};
 use std::alloc::{AllocError, Global};
 use std::process::Abort;
@@ -43,34 +43,6 @@ fn skewed(alloc: Global, count: u32, bound: u32) -> Result<Vec<u32>, AllocError>
     Ok(keys)
 }
 
-// A cache as a plain list, the one to evict first: whether the key was in it.
-fn model_access(
-    keys: &mut Vec<u32>,
-    policy: Policy,
-    items: usize,
-    key: u32,
-) -> Result<bool, AllocError> {
-    let mut kept = Vec::new(keys.allocator().clone()?);
-    let mut hit = false;
-    for old in keys.iter() {
-        if *old == key {
-            hit = true;
-        }
-        if *old != key || policy == Policy::Fifo {
-            kept.push(*old)?;
-        }
-    }
-    if !hit || policy == Policy::Lru {
-        kept.push(key)?;
-    }
-    keys.clear();
-    let skipped = kept.len().saturating_sub(items);
-    for old in kept.iter().skip(skipped) {
-        keys.push(*old)?;
-    }
-    Ok(hit)
-}
-
 // Whether an access hits.
 fn access(run: &mut Replay, key: u32) -> Result<bool, AllocError> {
     run.access(key)
@@ -105,43 +77,6 @@ fn expect_both(
 ) -> Result<(), PolicyFault> {
     expect(rt, alloc, Policy::Lru, items, accesses, wanted)?;
     expect(rt, alloc, Policy::Fifo, items, accesses, wanted)
-}
-
-// Runs the log beside the plain list, and compares each answer. It gives how many were hits.
-fn count_alike(
-    rt: &impl Abort,
-    run: &mut Replay,
-    policy: Policy,
-    items: u32,
-    accesses: &[u32],
-    alloc: Global,
-) -> Result<u64, AllocError> {
-    let mut keys = Vec::new(alloc);
-    let mut hits = 0u64;
-    for key in accesses {
-        let wanted = model_access(&mut keys, policy, items as usize, *key)?;
-        let hit = access(run, *key)?;
-        assert_eq!(rt; hit, wanted);
-        hits = hits.wrapping_add(u64::from(hit));
-    }
-    Ok(hits)
-}
-
-// The log comes to the same as by the plain list, access by access and as a whole.
-fn runs_alike(
-    rt: &impl Abort,
-    alloc: Global,
-    policy: Policy,
-    items: u32,
-    accesses: &[u32],
-) -> Result<(), Fail> {
-    let mut run = Replay::new(alloc, policy, items)?;
-    let hits = count_alike(rt, &mut run, policy, items, accesses, alloc)?;
-    let misses = (accesses.len() as u64).wrapping_sub(hits);
-    let wanted = tally(hits, misses);
-    assert_eq!(rt; told(&run), wanted);
-    expect(rt, alloc, policy, items, accesses, wanted)?;
-    Ok(())
 }
 
 // Each access of these keys is a hit, or isn't.
@@ -229,16 +164,6 @@ fn scans_that_do_not_fit_never_hit(rt: HostRuntime) -> Result<(), Fail> {
         &accesses,
         tally(404, 101),
     )?;
-    Ok(())
-}
-
-#[test]
-fn runs_as_a_plain_list_does(rt: HostRuntime) -> Result<(), Fail> {
-    let accesses = shuffled(rt.alloc(), 3_000, 40)?;
-    for items in [1, 2, 7, 30, 41] {
-        runs_alike(&rt, rt.alloc(), Policy::Lru, items, &accesses)?;
-        runs_alike(&rt, rt.alloc(), Policy::Fifo, items, &accesses)?;
-    }
     Ok(())
 }
 
@@ -362,91 +287,6 @@ const S3_FIFO_OF_ONE: [(u32, bool); 5] = [(1, false), (1, true), (1, true), (2, 
 #[test]
 fn s3_fifo_of_one_item_has_no_ghosts(rt: HostRuntime) -> Result<(), Fail> {
     expect_run(&rt, rt.alloc(), Policy::S3Fifo, 1, &S3_FIFO_OF_ONE, 2)
-}
-
-// The same log comes to so many hits at each of these sizes: what checks/lib/policies.py comes to.
-fn expect_at(
-    rt: &impl Abort,
-    alloc: Global,
-    policy: Policy,
-    wanted: &[(u32, u64)],
-) -> Result<(), Fail> {
-    let log = skewed(alloc, 3_000, 40)?;
-    for (items, hits) in wanted {
-        let misses = (log.len() as u64).wrapping_sub(*hits);
-        expect(rt, alloc, policy, *items, &log, tally(*hits, misses))?;
-    }
-    Ok(())
-}
-
-const LRU_HITS: [(u32, u64); 6] = [
-    (1, 88),
-    (2, 179),
-    (7, 666),
-    (20, 1_869),
-    (30, 2_629),
-    (41, 2_961),
-];
-
-#[test]
-fn lru_comes_to_what_another_program_tells(rt: HostRuntime) -> Result<(), Fail> {
-    expect_at(&rt, rt.alloc(), Policy::Lru, &LRU_HITS)
-}
-
-const FIFO_HITS: [(u32, u64); 6] = [
-    (1, 88),
-    (2, 180),
-    (7, 670),
-    (20, 1_782),
-    (30, 2_516),
-    (41, 2_961),
-];
-
-#[test]
-fn fifo_comes_to_what_another_program_tells(rt: HostRuntime) -> Result<(), Fail> {
-    expect_at(&rt, rt.alloc(), Policy::Fifo, &FIFO_HITS)
-}
-
-const CLOCK_HITS: [(u32, u64); 6] = [
-    (1, 88),
-    (2, 178),
-    (7, 669),
-    (20, 1_887),
-    (30, 2_642),
-    (41, 2_961),
-];
-
-#[test]
-fn clock_comes_to_what_another_program_tells(rt: HostRuntime) -> Result<(), Fail> {
-    expect_at(&rt, rt.alloc(), Policy::Clock, &CLOCK_HITS)
-}
-
-const SIEVE_HITS: [(u32, u64); 6] = [
-    (1, 88),
-    (2, 178),
-    (7, 729),
-    (20, 2_002),
-    (30, 2_716),
-    (41, 2_961),
-];
-
-#[test]
-fn sieve_comes_to_what_another_program_tells(rt: HostRuntime) -> Result<(), Fail> {
-    expect_at(&rt, rt.alloc(), Policy::Sieve, &SIEVE_HITS)
-}
-
-const S3_FIFO_HITS: [(u32, u64); 6] = [
-    (1, 88),
-    (2, 209),
-    (7, 752),
-    (20, 2_003),
-    (30, 2_711),
-    (41, 2_961),
-];
-
-#[test]
-fn s3_fifo_comes_to_what_another_program_tells(rt: HostRuntime) -> Result<(), Fail> {
-    expect_at(&rt, rt.alloc(), Policy::S3Fifo, &S3_FIFO_HITS)
 }
 
 // What is done with a key, and whether it was in the cache.
