@@ -148,7 +148,7 @@ def get():
                zip(right, right[1:], (33, 33, 50, 33, 33), ("", "yes", "", "", ""))]
     arrows += [([(320, y + 16), (420, y + 16), (420, 139), (520, 139)], "no", (332, y + 10)) for y in left[1:4]]
     arrows += [([(20, 62), (8, 62), (8, 491), (20, 491)], "", None),
-               ([(520, 217), (475, 217), (475, 491), (320, 491)], "no place left, or expired", (330, 485)),
+               ([(520, 217), (475, 217), (475, 491), (320, 491)], "none left, or expired", (330, 485)),
                ([(850, 217), (872, 217), (872, 139), (850, 139)], "no: the next\nplace of the\nindex", (878, 165))]
     titles = [(20, 28, "A glance: it writes nothing"), (520, 106, "Where that is unsure, the item is held"), (20, 466, "no such tag")]
     return picture(975, 540, titles, boxes, arrows)
@@ -169,7 +169,7 @@ def put():
     arrows += [([(360, 180), (430, 180), (430, 105), (500, 105)], "a fresh key,\nand the part is full", (368, 70)),
                ([(677, 135), (677, 169)], "", None), ([(677, 303), (677, 337)], "still none", (685, 326)),
                ([(500, 190), (450, 190), (450, 242), (360, 242)], "", None),
-               ([(360, 252), (470, 252), (470, 270), (500, 270)], "no chunk is free", (372, 285)),
+               ([(360, 252), (470, 252), (470, 270), (500, 270)], "no chunk is free", (476, 246)),
                ([(500, 295), (400, 295), (400, 262), (360, 262)], "one came free", (405, 310))]
     titles = [(20, 28, "A put: readers go on meanwhile"), (500, 28, "Room, where there is none")]
     return picture(880, 600, titles, boxes, arrows)

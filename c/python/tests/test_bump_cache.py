@@ -1,15 +1,26 @@
 """Tests of bump_cache.py over the library: as a mapping, as TTLCache of cachetools, and its decorator as CPython tests functools.lru_cache,
 where that says nothing of which item is evicted. BUMP_LIBRARY names the library."""
+import ctypes
 import gc
 import pickle
 import random
+import shutil
+import subprocess
 import sys
+import tempfile
 import threading
 import unittest
 from pathlib import Path
 
-sys.path.insert(0, str(Path(__file__).resolve().parent.parent))
+HOME = Path(__file__).resolve().parent.parent
+sys.path.insert(0, str(HOME))
+import bump_cache
 from bump_cache import CALLS, WORDS, TTLCache, library, spelled, ttl_cache
+
+# The structs of the header, each with that of the module.
+RECORDS = {"bump_cache": "_Handle", "bump_cache_config": "_Config", "bump_cache_got": "_Got", "bump_cache_words_of": "_Words",
+           "bump_cache_got_words": "_GotWords", "bump_cache_put_told": "_PutTold", "bump_cache_looked": "_Looked",
+           "bump_cache_entry_of": "_Entry", "bump_cache_counts": "_Counts", "bump_cache_stats_of": "_Stats"}
 
 VALUES = [None, 0, "", b"", "ä", [1, {"a": (2, 3)}], b"x" * 63, b"x" * 64, b"x" * 65, list(range(100)), b"\0" * 400]
 KEYS = [None, False, 0, 0.0, 1, True, 1.0, -1, 2**70, "", "a", b"", b"a", (), ("a",), (b"a",), ("a", ("b", 1)), "k" * 90]
@@ -328,6 +339,26 @@ class ThreadTests(unittest.TestCase):
             self.assertEqual(len(cache["a"]), 900)
         gc.collect()
         self.assertEqual(len(told), 200)
+
+
+class HeaderTests(unittest.TestCase):
+    @unittest.skipUnless(shutil.which("gcc"), "there is no gcc")
+    def test_structs_lie_as_in_the_header(self):
+        wanted, lines = [], []
+        for name, record in RECORDS.items():
+            kind = getattr(bump_cache, record)
+            wanted.append(ctypes.sizeof(kind))
+            lines.append(f"sizeof({name})")
+            for field, *_ in kind._fields_:
+                wanted.append(getattr(kind, field).offset)
+                lines.append(f"offsetof({name}, {field})")
+        printed = "".join(f'printf("%zu\\n", {line});' for line in lines)
+        with tempfile.TemporaryDirectory() as folder:
+            source = Path(folder) / "sizes.c"
+            source.write_text(f'#include "bump_cache.h"\n#include <stdio.h>\n#include <stddef.h>\nint main(void) {{ {printed} }}\n')
+            subprocess.run(["gcc", f"-I{HOME.parent}", source, "-o", Path(folder) / "sizes"], check=True)
+            told = subprocess.run([Path(folder) / "sizes"], check=True, capture_output=True, text=True).stdout
+        self.assertEqual(dict(zip(lines, map(int, told.split()))), dict(zip(lines, wanted)))
 
 
 class LibraryTests(unittest.TestCase):
