@@ -1,9 +1,15 @@
 #!/usr/bin/env python3
 """Draws the pictures of this folder: tables of boxes and arrows, one for each. Run it after a change.
 
+    docs/pictures/draw.py            writes them
+    docs/pictures/draw.py --check    names those that are other ones than it would write, with status 1: checks/docs does it
+
+replay.svg isn't one of them: bump_replay draws it, and checks/replay compares it.
+
 A box is its left upper corner, its width, its lines of text and its colour; it is as high as its lines want. An arrow
 is its corners, a label and where the label begins. Each picture has a light ground of its own, so that it reads the
 same on a dark page."""
+import sys
 from pathlib import Path
 from xml.sax.saxutils import escape
 
@@ -33,14 +39,15 @@ def box(x, y, wide, text, fill):
         yield words(x + wide / 2, y + PAD + 12 + line * LINE, text, 'text-anchor="middle"')
 
 
-def draw(name, width, height, titles, boxes, arrows):
+def picture(width, height, titles, boxes, arrows):
+    """The text of a picture."""
     out = [f'<svg xmlns="http://www.w3.org/2000/svg" viewBox="0 0 {width} {height}" width="{width}" height="{height}"'
            f' font-family="Helvetica, Arial, sans-serif" font-size="13" fill="{DARK}">', MARKER,
            f'<rect width="{width}" height="{height}" rx="8" fill="#f4f6f8"/>']
     out += [words(x, y, text, 'font-weight="bold"') for x, y, text in titles]
     out += [part for one in arrows for part in arrow(*one)]
     out += [part for one in boxes for part in box(*one)]
-    (Path(__file__).parent / f"{name}.svg").write_text("\n".join(out + ["</svg>"]) + "\n")
+    return "\n".join(out + ["</svg>"]) + "\n"
 
 
 def hit():
@@ -66,7 +73,7 @@ def hit():
                ([(850, 265), (872, 265), (872, 396), (850, 396)], "elsewhere,\nor was\nclear:\nTimeOnly", (877, 280))]
     titles = [(20, 26, "A reader's hit: no lock, no wait"), (345, 26, "What it answers"),
               (660, 26, "Its lane, under the class's lock")]
-    draw("hit", 1015, 440, titles, boxes, arrows)
+    return picture(1015, 440, titles, boxes, arrows)
 
 
 def chunk():
@@ -86,7 +93,7 @@ def chunk():
               ([(885, 217), (905, 217), (905, 420), (45, 420), (45, 250)],
                "nobody holds it: found by the end itself, by a bump's end, or by a sweep", (250, 413))]
     titles = [(20, 28, "Where a chunk stands, and what moves it: always to the front of a list")]
-    draw("chunk", 925, 440, titles, boxes, arrows)
+    return picture(925, 440, titles, boxes, arrows)
 
 
 def crates():
@@ -120,9 +127,87 @@ def crates():
     titles = [(20, 28, "Who stands on whom: an arrow goes to what is below"), (60, 360, "the World"),
               (475, 112, "the store"), (620, 50, "from C"), (330, 100, "the program"),
               (475, 621, "lists of indices"), (900, 50, "the cache"), (900, 392, "and under it"), (1080, 50, "access logs")]
-    draw("crates", 1245, 670, titles, boxes, arrows)
+    return picture(1245, 670, titles, boxes, arrows)
 
 
-hit()
-chunk()
-crates()
+
+def get():
+    glance = ["look up the key's tag in the index", "read the item's head: are both marks set?",
+              "read its row: expiry, key, value", "read the head again: is it the same item?",
+              "answer the value"]
+    held = ["take a reference: a step on the head", "read key and expiry: is it the key's item?",
+            "set the mark that is clear;\nif it was the second, and in COLD, queue a bump", "read the value",
+            "give the reference back", "answer the value"]
+    left = [45 + 78 * i for i in range(5)]
+    right = [123, 201, 279, 357, 423, 489]
+    boxes = [(20, y, 300, text, STEP if text != glance[-1] else END) for y, text in zip(left, glance)]
+    boxes += [(520, y, 330, text, MOVE if text != held[-1] else END) for y, text in zip(right, held)]
+    boxes += [(20, 475, 300, "answer nothing: a miss", END)]
+    arrows = [([(170, y + 33), (170, y + 78)], text, (178, y + 60)) for y, text in zip(left, ["a tag is there", "yes", "the key's, and unexpired", "yes"])]
+    arrows += [([(685, a + high), (685, b)], text, (693, a + high + 20)) for a, b, high, text in
+               zip(right, right[1:], (33, 33, 50, 33, 33), ("", "yes", "", "", ""))]
+    arrows += [([(320, y + 16), (420, y + 16), (420, 139), (520, 139)], "no", (332, y + 10)) for y in left[1:4]]
+    arrows += [([(20, 62), (8, 62), (8, 491), (20, 491)], "", None),
+               ([(520, 217), (475, 217), (475, 491), (320, 491)], "none left, or expired", (330, 485)),
+               ([(850, 217), (872, 217), (872, 139), (850, 139)], "no: the next\nplace of the\nindex", (878, 165))]
+    titles = [(20, 28, "A glance: it writes nothing"), (520, 106, "Where that is unsure, the item is held"), (20, 466, "no such tag")]
+    return picture(975, 540, titles, boxes, arrows)
+
+
+def put():
+    steps = ["take the lock of the key's part", "apply bumps that wait, at most 16 of each reader", "look for the key's item",
+             "write expiry, key and value into a free chunk", "one store: the new item begins, in HOT or TEMP",
+             "lead the index to it", "end the key's old item, if it had one", "each eighth put: balance HOT and WARM",
+             "give the lock back;\nanswer what the key had, and what was evicted"]
+    room = ["those of COLD's last ones that were in use go to WARM,\nat most 8", "COLD's last item ends;\nelse WARM's, HOT's or TEMP's",
+            "free ended items that nobody holds any more,\nand apply all bumps"]
+    at = [45 + 62 * i for i in range(9)]
+    boxes = [(20, y, 340, text, STEP) for y, text in zip(at[:-1], steps)] + [(20, at[-1], 340, steps[-1], END)]
+    boxes += [(500, y, 355, text, MOVE) for y, text in zip((85, 169, 253), room)]
+    boxes += [(500, 337, 355, "give the lock back; answer NoRoom:\nthe key keeps what it had", END)]
+    arrows = [([(190, y + 33), (190, y + 62)], "", None) for y in at[:-1]]
+    arrows += [([(360, 180), (430, 180), (430, 105), (500, 105)], "a fresh key,\nand the part is full", (368, 70)),
+               ([(677, 135), (677, 169)], "", None), ([(677, 303), (677, 337)], "still none", (685, 326)),
+               ([(500, 190), (450, 190), (450, 242), (360, 242)], "", None),
+               ([(360, 252), (470, 252), (470, 270), (500, 270)], "no chunk is free", (476, 246)),
+               ([(500, 295), (400, 295), (400, 262), (360, 262)], "one came free", (405, 310))]
+    titles = [(20, 28, "A put: readers go on meanwhile"), (500, 28, "Room, where there is none")]
+    return picture(880, 600, titles, boxes, arrows)
+
+
+def proved():
+    boxes = [(20, 45, 170, "your program,\nin Rattle", END), (230, 45, 190, "your program,\nin C, C++, Rust or Go", END),
+             (440, 45, 130, "c/python", REST), (590, 45, 130, "c/server", REST),
+             (230, 125, 490, "the headers in c/, and c/memory.c", REST),
+             (20, 205, 170, "bump_cache", MOVE), (230, 205, 490, "bump_c: each call from C does its call, and tells its answer", MOVE),
+             (20, 275, 700, "the cache: index, lists, expiry, what is evicted, under a lock of each part", MOVE),
+             (20, 345, 700, "the store: items held, notes in rings, applied once and in order", MOVE),
+             (20, 415, 700, "single steps on shared words: one rule that holds between any two steps of any threads", MOVE),
+             (20, 485, 700, "the toolchain and its library, the C library, the processor", STEP)]
+    arrows = [([(x, a), (x, b)], "", None) for x, a, b in
+              [(105, 95, 205), (325, 95, 125), (505, 78, 125), (655, 78, 125), (475, 158, 205), (105, 238, 275), (475, 238, 275),
+               (370, 308, 345), (370, 378, 415), (370, 448, 485)]]
+    boxes += [(760, 205, 220, "green: proved,\nin whatever order threads run", MOVE), (760, 125, 220, "brown: only tested", REST),
+              (760, 485, 220, "blue: trusted", STEP),
+              (760, 290, 220, "only tested of the green, too:\nthat a get finds what is there,\nand a put free room", REST),
+              (760, 395, 220, "not claimed of any:\ntime, progress, fairness", END)]
+    return picture(1000, 540, [(20, 28, "Who stands on whom, and what is proved of it")], boxes, arrows)
+
+
+PICTURES = (hit, chunk, crates, get, put, proved)
+
+
+def main():
+    others = []
+    for made in PICTURES:
+        file, text = Path(__file__).parent / f"{made.__name__}.svg", made()
+        if sys.argv[1:] != ["--check"]:
+            file.write_text(text)
+        elif not file.exists() or file.read_text() != text:
+            others.append(file.name)
+    if others:
+        sys.exit(f"docs/pictures/draw.py writes others: {', '.join(others)}")
+
+
+if __name__ == "__main__":
+    main()

@@ -1,7 +1,9 @@
 -- What is read of the words of a string, and the words that a string gets.
 use Rattle.std.proofs.Common.{◌≡◌, ℕ, zero, suc, ◌+◌, ◌-◌, ◌*◌, ◌/◌, ◌%◌, ◌^◌, ◌<◌, ◌≤◌, List, [], ◌∷◌, ◌++◌, length}
 use Rattle.std.proofs.Common.{take, drop, get_or, refl, sym, ap, ◌∙◌, subst, arith}
-use Rattle.std.specs.Prelude.{replicate}
+use Rattle.std.specs.Prelude.{replicate, nat_eq}
+use Rattle.std.specs.Bool.{one_answer}
+use Rattle.std.specs.Cmp.Lexicographic.{pointwise, bytes_decides}
 use Rattle.std.specs.Int.{w64, to_le_bytes}
 use Rattle.std.proofs.lemmas.List.{get_or-drop, get_or-take, get_or-append_right}
 use Rattle.std.proofs.lemmas.Grind.{same_number_lists, get_or_default_zero}
@@ -11,6 +13,17 @@ use Rattle.packed_words.specs.StringLaws.{length-words_of, length-string_words, 
 -- words that are those of a string are a string's
 pub held_by : (w : ℕ) (bytes words : List ℕ) → MayHold w bytes → words ≡ string_words w bytes → IsString w words
 held_by w bytes words h e = subst (IsString w) (sym e) (is_string w bytes h)
+
+-- the words of two strings are the same exactly where the strings are
+pub equal_strings : (w : ℕ) (xs ys : List ℕ) → IsString w xs → IsString w ys
+    → pointwise nat_eq xs ys ≡ pointwise nat_eq (string_in xs) (string_in ys)
+equal_strings w xs ys h g =
+    let words = bytes_decides xs ys in
+    let strings = bytes_decides (string_in xs) (string_in ys) in
+    let spelled : string_in xs ≡ string_in ys → xs ≡ ys =
+    λ same. h.spelled ∙ ap (string_words w) same ∙ sym g.spelled in
+    one_answer (pointwise nat_eq xs ys) (pointwise nat_eq (string_in xs) (string_in ys)) words
+    ((λ told. spelled (strings.0 told)), (λ same. strings.1 (ap string_in same)))
 
 -- the number in the first word is the length of the string in the words
 pub count_in : (w : ℕ) (words : List ℕ) → IsString w words → get_or words 0 0 % 2 ^ 16 ≡ length (string_in words)

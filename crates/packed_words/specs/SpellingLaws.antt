@@ -1,7 +1,7 @@
 -- The words of a string tell the string.
 use Rattle.std.proofs.Common.{◌≡◌, ℕ, zero, suc, ◌-◌, ◌*◌, ◌<◌, ◌≤◌, List, [], ◌∷◌, ◌++◌, length}
 use Rattle.std.proofs.Common.{take, drop, refl, sym, ap, ap₂, ◌∙◌, arith, length-append, length-drop}
-use Rattle.std.specs.Prelude.{replicate, slice_index, All}
+use Rattle.std.specs.Prelude.{replicate, slice_index}
 use Rattle.std.specs.Int.{w64, from_le_bytes, to_le_bytes}
 use Rattle.std.proofs.Math.Seq.{take-append_seam}
 use Rattle.std.proofs.lemmas.Nat.{le_bytes_8}

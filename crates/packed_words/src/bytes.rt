@@ -1,13 +1,21 @@
 //! Byte strings of a bounded length in words.
-ghost use Rattle.std.specs.Prelude.{◌≡◌, ◌↔◌, ℕ, ◌+◌, ◌*◌, ◌<◌, ◌≤◌, ◌^◌, length, slice_index, IsOk, IfOk};
+ghost use Rattle.std.specs.Prelude.{◌≡◌, ◌↔◌, ℕ, ◌+◌, ◌*◌, ◌<◌, ◌≤◌, ◌^◌, length, slice_index, nat_eq, IsOk, IfOk, Some, ⊤};
+ghost use Rattle.std.specs.Fmt.{decimal, debug_list};
+ghost use Rattle.std.specs.Cmp.{partial_equiv_from_equiv};
+ghost use Rattle.std.specs.Cmp.Lexicographic.{pointwise, nat_list_eq_equiv};
 ghost use Rattle.packed_words.specs.Strings.{HasRoom, MayHold, counted, word_in, string_words, string_in, IsString};
 ghost use Rattle.packed_words.specs.StringLaws.{length-string_words, string_words_fit, one_string};
 
 use crate::packed::Packed;
 use crate::refusals::TooLong;
+use std::alloc::AllocError;
+use std::fmt;
 use std::marker::Model;
 
 const MOST_WORDS: usize = 64;
+
+// As many bytes as a string of the most words may have.
+const MOST_BYTES: usize = 510;
 
 /// A byte string in `W` words, of which there may be 1 to 64: it has at most `8 * W - 2` bytes. Two of the first
 /// word's bytes are its length.
@@ -167,6 +175,58 @@ impl<const W: usize> Bytes<W> {
         for (index, byte) in to.iter_mut().enumerate() {
             *byte = self.byte(index);
         }
+    }
+
+    /// The string's bytes. They are written to the beginning of `room`, which must have room for them, and returned from
+    /// there.
+    #[inline]
+    pub fn as_bytes<'a>(&self, room: &'a mut [u8]) -> &'a [u8]
+        requires { length self.now ≤ length room.old }
+        ensures { result.now ≡ self.now }
+    {
+        let bytes = &mut room[..self.len()];
+        self.copy_to(bytes);
+        bytes
+    }
+}
+
+/// Two strings are equal exactly where they have the same bytes.
+impl<const W: usize> PartialEq for Bytes<W> {
+    ghost eq = { pointwise nat_eq };
+
+    ghost laws = { partial_equiv_from_equiv nat_list_eq_equiv };
+
+    #[inline(always)]
+    fn eq(&self, other: &Bytes<W>) -> bool {
+        self.words == other.words
+    }
+}
+
+impl<const W: usize> Eq for Bytes<W> {
+    ghost laws = { nat_list_eq_equiv };
+}
+
+/// A clone is the same string, and takes no memory: it never fails.
+impl<const W: usize> Clone for Bytes<W> {
+    ghost is_clone = { λ one other. other ≡ one };
+
+    ghost is_infallible = { λ _. ⊤ };
+
+    #[inline(always)]
+    fn clone(&self) -> Result<Bytes<W>, AllocError> {
+        Ok(Bytes { words: self.words })
+    }
+}
+
+/// The bytes are printed as a list of numbers.
+impl<const W: usize> fmt::Debug for Bytes<W> {
+    ghost debug_output = { debug_list (λ byte. Some (decimal byte)) };
+
+    fn fmt<Writer: fmt::Write>(&self, f: &mut fmt::Formatter<Writer>) -> fmt::Result {
+        // that the string has at most so many bytes is known where its words are read
+        let _ = &self.words;
+        let mut room = [0; MOST_BYTES];
+        fmt::Debug::fmt(&self.as_bytes(&mut room), f)
     }
 }
 

@@ -160,6 +160,22 @@ fn strings_have_a_greatest_length(rt: HostRuntime) -> Result<(), Fail> {
 }
 
 #[test]
+fn strings_are_compared_copied_and_printed(rt: HostRuntime) -> Result<(), Fail> {
+    let string: Bytes<4> = Bytes::from_text("abc, and more")?;
+    let other: Bytes<4> = Bytes::from_text("abc, and mare")?;
+    assert!(rt; string == string.clone()?);
+    assert!(rt; string != other);
+    assert!(rt; string != Bytes::new(b"abc")?);
+    let mut room = [7; 15];
+    assert!(rt; string.as_bytes(&mut room) == b"abc, and more".as_slice());
+    let short: Bytes<1> = Bytes::new(b"\x00\xff")?;
+    let empty: Bytes<1> = Bytes::new(b"")?;
+    let printed = format!(in rt.alloc(); "{short:?} {empty:?}")?;
+    assert!(rt; printed.as_str() == "[0, 255] []");
+    Ok(())
+}
+
+#[test]
 fn strings_stand_beside_numbers(rt: HostRuntime) -> Result<(), Fail> {
     let string: Bytes<2> = Bytes::new(b"key")?;
     let mut three = [7; 3];
