@@ -16,12 +16,8 @@ use call_log::{Caller, LogName, Logged};
 use crossbeam_utils::CachePadded;
 use keyed_hash::Seed;
 use packed_words::Packed;
-use std::hint;
 use std::marker::Model;
 use std::sync::{Mutex, MutexGuard, Wait};
-
-// How often a lock that is taken is tried before a thread sleeps for it.
-const LOCK_TRIES: u32 = 64;
 
 /// A cache, which all threads share: whoever changes it waits for the lock of one of its parts, and whoever gets
 /// doesn't. A key's part is by its hash.
@@ -85,24 +81,6 @@ impl<N: Name + LogName, K: Packed, V: Packed> Cache<N, K, V> {
         if next < self.parts.len() { next } else { 0 }
     }
 
-    // What the lock at this place guards, until the guard is let go. Who has it gives it back within a microsecond, as a
-    // rule, and to sleep and to be woken takes longer: so a thread looks for about as long before it sleeps.
-    fn wait_for_lock<W: Wait>(
-        &self,
-        rt: &W,
-        at: usize,
-    ) -> MutexGuard<'_, Logged<N, Numbered<N, K, V>, CacheState>>
-        requires { at < self.now.parts }
-    {
-        for _ in 0..LOCK_TRIES {
-            if let Some(guard) = self.parts[at].try_lock() {
-                return guard;
-            }
-            hint::spin_loop();
-        }
-        self.parts[at].lock(rt)
-    }
-
     // What the lock of the part of this number guards, until the guard is let go. The number is compared under the
     // lock, since a caller that has two guards could exchange what they guard; where that was done, it goes round the
     // locks, one at a time, until it finds the part.
@@ -116,7 +94,7 @@ impl<N: Name + LogName, K: Packed, V: Packed> Cache<N, K, V> {
     {
         let mut at = part;
         for _ in rt.forever() {
-            let guard = self.wait_for_lock(rt, at);
+            let guard = self.parts[at].lock(rt);
             if is_part(&guard, part) {
                 return guard;
             }
