@@ -159,7 +159,7 @@ def put():
              "write expiry, key and value into a free chunk", "one store: the new item begins, in HOT or TEMP",
              "lead the index to it", "end the key's old item, if it had one", "each eighth put: balance HOT and WARM",
              "give the lock back;\nanswer what the key had, and what was evicted"]
-    room = ["those of COLD's last ones that were in use go to WARM,\nat most 8", "COLD's last item ends;\nelse WARM's, HOT's or TEMP's",
+    room = ["COLD's last ones that were in use\ngo to WARM, at most 8", "COLD's last item ends;\nelse WARM's, HOT's or TEMP's",
             "free ended items that nobody holds any more,\nand apply all bumps"]
     at = [45 + 62 * i for i in range(9)]
     boxes = [(20, y, 340, text, STEP) for y, text in zip(at[:-1], steps)] + [(20, at[-1], 340, steps[-1], END)]
