@@ -103,6 +103,15 @@ enum bump_cache_open_answer {
  * of their 4,294,967,295 items. With fewer it comes where readers hold as many ended items of a part. */
 bump_cache_config bump_cache_defaults(uint32_t items, uint32_t readers, uint32_t key_bytes, uint32_t value_bytes);
 
+/* The bytes that a cache of this configuration asks for when it is opened, and keeps; some hundred for each numbered hold
+ * and each part come to them, and what malloc takes. 0: no cache is made from this. Any thread. Cost: grows with parts. */
+uint64_t bump_cache_bytes_taken(const bump_cache_config *config);
+
+/* The defaults with the most items with which a cache takes at most `limit` bytes, by bump_cache_bytes_taken. Its items
+ * are 0, and it opens no cache, where one item takes more, or another of these numbers is a fault. Any thread. Cost:
+ * twenty calls of that. */
+BUMP_MADE bump_cache_config bump_cache_for_bytes(uint64_t limit, uint32_t readers, uint32_t key_bytes, uint32_t value_bytes);
+
 /* Opens a cache, and puts it into `cache`, which is {0} before and stays so where it answers anything but
  * BUMP_CACHE_OPEN_DONE. Any thread. Cost: grows with the chunks and their words. It asks for memory, and where blocks
  * are large for huge pages. */
@@ -300,6 +309,21 @@ void bump_cache_reader_free(bump_cache_reader reader);
 static inline void bump_cache_copy(void *bytes, size_t at, size_t count, const uint64_t *words) {
   size_t left = count - at;
   memcpy((char *)bytes + at, words, left < BUMP_CACHE_MOST_BYTES ? left : BUMP_CACHE_MOST_BYTES);
+}
+
+static inline bump_cache_config bump_cache_for_bytes(uint64_t limit, uint32_t readers, uint32_t key_bytes,
+                                                     uint32_t value_bytes) {
+  uint32_t fits = 0, over = 1000001; /* no cache has that many */
+  while (over - fits > 1) {
+    uint32_t middle = fits + (over - fits) / 2;
+    bump_cache_config config = bump_cache_defaults(middle, readers, key_bytes, value_bytes);
+    uint64_t bytes = bump_cache_bytes_taken(&config);
+    if (bytes > 0 && bytes <= limit)
+      fits = middle;
+    else
+      over = middle;
+  }
+  return bump_cache_defaults(fits, readers, key_bytes, value_bytes);
 }
 
 static inline void bump_cache_read(bump_cache_reader *reader, uint32_t hold, uint32_t from, void *bytes, size_t count) {

@@ -437,6 +437,17 @@ enum bump_cache_open_answer bump_debug_cache_open(struct handle *cache, const bu
 TAKE(cache_take_part, CACHE, cache_of, CACHE_PART, part_of)
 TAKE(cache_take_reader, CACHE, cache_of, CACHE_READER, reader_of)
 
+uint64_t bump_debug_cache_bytes_taken(const bump_cache_config *config, AT) {
+  CALL(cache_bytes_taken);
+  is_there(&c, config);
+  return bump_cache_bytes_taken(config);
+}
+bump_cache_config bump_debug_cache_for_bytes(uint64_t limit, uint32_t readers, uint32_t key_bytes, uint32_t value_bytes,
+                                             AT) {
+  (void)file, (void)line; /* it has no pointer that could be wrong */
+  return bump_cache_for_bytes(limit, readers, key_bytes, value_bytes);
+}
+
 uint32_t bump_debug_cache_part_of(const bump_cache_config *config, const void *key, size_t key_length, AT) {
   CALL(cache_part_of);
   is_there(&c, config);

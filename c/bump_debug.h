@@ -77,6 +77,8 @@
 #define bump_cache_open(...) bump_cache_open(__VA_ARGS__, BUMP_AT) BUMP_SYMBOL(cache_open)
 #define bump_cache_take_part(...) bump_cache_take_part(__VA_ARGS__, BUMP_AT) BUMP_SYMBOL(cache_take_part)
 #define bump_cache_take_reader(...) bump_cache_take_reader(__VA_ARGS__, BUMP_AT) BUMP_SYMBOL(cache_take_reader)
+#define bump_cache_bytes_taken(...) bump_cache_bytes_taken(__VA_ARGS__, BUMP_AT) BUMP_SYMBOL(cache_bytes_taken)
+#define bump_cache_for_bytes(...) bump_cache_for_bytes(__VA_ARGS__, BUMP_AT) BUMP_SYMBOL(cache_for_bytes)
 #define bump_cache_part_of(...) bump_cache_part_of(__VA_ARGS__, BUMP_AT) BUMP_SYMBOL(cache_part_of)
 #define bump_cache_get(...) bump_cache_get(__VA_ARGS__, BUMP_AT) BUMP_SYMBOL(cache_get)
 #define bump_cache_get_words(...) bump_cache_get_words(__VA_ARGS__, BUMP_AT) BUMP_SYMBOL(cache_get_words)
@@ -152,6 +154,8 @@
 #undef bump_cache_open
 #undef bump_cache_take_part
 #undef bump_cache_take_reader
+#undef bump_cache_bytes_taken
+#undef bump_cache_for_bytes
 #undef bump_cache_part_of
 #undef bump_cache_get
 #undef bump_cache_get_words

@@ -196,6 +196,14 @@ impl Config {
         }
     }
 
+    /// How many bytes a cache of this asks for when it is opened, and keeps; some ten thousand for each reader, for its
+    /// holds, come to them. None: no cache is made from this.
+    pub fn bytes_taken(&self) -> Option<u64> {
+        // SAFETY: it is there for the call.
+        let bytes = unsafe { raw::bump_cache_bytes_taken(&self.raw()) };
+        Some(bytes).filter(|bytes| *bytes > 0)
+    }
+
     /// The number of the part that a key is of; None: the key is too long, or no cache is made from this.
     pub fn part_of(&self, key: &[u8]) -> Option<u32> {
         // SAFETY: both are there for the call.

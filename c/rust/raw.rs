@@ -231,6 +231,7 @@ extern "C" {
     pub fn bump_cache_open(out: *mut Handle, config: *const CacheConfig) -> u32;
     pub fn bump_cache_take_part(cache: *mut Handle, number: u32, part: *mut Handle) -> bool;
     pub fn bump_cache_take_reader(cache: *mut Handle, number: u32, part: *mut Handle) -> bool;
+    pub fn bump_cache_bytes_taken(config: *const CacheConfig) -> u64;
     pub fn bump_cache_part_of(config: *const CacheConfig, key: *const u8, key_length: usize) -> u32;
     pub fn bump_cache_get_words(reader: *mut Handle, key: *const u8, key_length: usize, now: u64) -> CacheGotWords;
     pub fn bump_cache_hold(reader: *mut Handle, hold: u32, key: *const u8, key_length: usize, now: u64) -> CacheGot;

@@ -100,6 +100,7 @@ static void no_pointers(void) {
   STOPPED(bump_cache_remove(&a.part, NULL, 1, 1), "a pointer is NULL");
   STOPPED(bump_cache_each(&a.part, 0, NULL, 8, value, 8, 1), "a pointer is NULL");
   STOPPED(bump_cache_each(&a.part, 0, value, 8, NULL, 8, 1), "a pointer is NULL");
+  STOPPED(bump_cache_bytes_taken(NULL), "a pointer is NULL");
   STOPPED(bump_cache_part_of(NULL, "key", 3), "a pointer is NULL");
   STOPPED(bump_cache_part_of(&config, NULL, 3), "a pointer is NULL");
   free_parts(a);

@@ -39,6 +39,7 @@ static enum bump_cache_open_answer open_with(const bump_cache_config *config) {
   if (cache.p) bump_cache_close(cache);
   HOLDS_THAT(bump_cache_open, (cache.p != NULL) == (answer == BUMP_CACHE_OPEN_DONE));
   HOLDS_THAT(bump_cache_part_of, is_part == (answer == BUMP_CACHE_OPEN_DONE));
+  HOLDS_THAT(bump_cache_bytes_taken, (bump_cache_bytes_taken(config) > 0) == (answer == BUMP_CACHE_OPEN_DONE));
   return answer;
 }
 
@@ -84,6 +85,26 @@ static void faults(void) {
 #undef FAULT
 }
 
+/* The most items that fit: with one more a cache takes more than the limit, or has too many chunks. */
+static void limits_in_bytes(void) {
+  for (uint64_t limit = 100000; limit < 1000000000; limit *= 3) {
+    bump_cache_config most = bump_cache_for_bytes(limit, 2, 10, 100), more = most;
+    more.items++;
+    uint64_t bytes = bump_cache_bytes_taken(&most), beyond = bump_cache_bytes_taken(&more);
+    HOLDS_THAT(bump_cache_for_bytes, most.items == 0 ? bytes == 0 : bytes > 0 && bytes <= limit);
+    HOLDS_THAT(bump_cache_for_bytes, more.items + more.spare > 1000000 ? beyond == 0 : beyond > limit);
+  }
+  bump_cache_config d = bump_cache_defaults(1000, 1, 8, 8), two = d;
+  two.parts = 2;
+  HOLDS_THAT(bump_cache_bytes_taken, bump_cache_bytes_taken(&d) > 1000 * (8 * 8 + 12 + 8 + 64 / 3));
+  HOLDS_THAT(bump_cache_bytes_taken, bump_cache_bytes_taken(&two) > bump_cache_bytes_taken(&d) + 8192 * 8);
+  ANSWERS(bump_cache_for_bytes, bump_cache_for_bytes(1, 1, 8, 8).items, 0);
+  ANSWERS(bump_cache_for_bytes, bump_cache_for_bytes(1 << 30, 0, 8, 8).items, 0);
+  ANSWERS(bump_cache_for_bytes, bump_cache_for_bytes(1 << 30, 65, 8, 8).items, 0);
+  ANSWERS(bump_cache_for_bytes, bump_cache_for_bytes(1 << 30, 1, 1025, 8).items, 0);
+  ANSWERS(bump_cache_for_bytes, bump_cache_for_bytes(1 << 30, 1, 8, 1048577).items, 0);
+}
+
 static void configurations(void) {
   bump_cache_config d = bump_cache_defaults(6401, 3, 10, 20);
   HOLDS_THAT(bump_cache_defaults, d.items == 6401 && d.readers == 3 && d.key_bytes == 10 && d.value_bytes == 20);
@@ -104,6 +125,7 @@ static void configurations(void) {
   d.readers = 1;
   ANSWERS(bump_cache_open, open_with(&d), BUMP_CACHE_OPEN_DONE);
   faults();
+  limits_in_bytes();
 }
 
 /* ------------------------------------------------------------------------------------------------ keys and values */

@@ -2,7 +2,7 @@
 ghost use Rattle.std.specs.Prelude.{◌≡◌, ◌+◌, ◌<◌, IfOk, IfErr, IfSome, IfNone, None, true, false, unwrap_or};
 ghost use Rattle.bump_handles.specs.Opening.{TakesPart};
 ghost use Rattle.cache_config.specs.Configs.{IsStoreOf};
-ghost use Rattle.cache_handles.specs.Configs.{default_config, first_byte_fault, key_words_of, part_of_key};
+ghost use Rattle.cache_handles.specs.Configs.{bytes_taken_by, default_config, first_byte_fault, key_words_of, part_of_key};
 ghost use Rattle.cache_handles.specs.Configs.{value_words_of};
 ghost use Rattle.cache_handles.specs.Views.{BytePartView as TheBytePartView, ByteReaderView as TheByteReaderView};
 ghost use Rattle.bump_c.specs.One.{IsOne};
@@ -155,6 +155,16 @@ pub extern "C" fn bump_cache_defaults(
 {
     let config = ByteConfig::defaults(items, readers, key_bytes, value_bytes);
     numbers_of(&config)
+}
+
+/// How many bytes a cache of these numbers asks for when it is opened and keeps, beside some hundred for each numbered
+/// hold and each part; 0: no cache is made from them.
+#[unsafe(no_mangle)]
+pub extern "C" fn bump_cache_bytes_taken(numbers: &CacheNumbers) -> u64
+    ensures { result ≡ unwrap_or (bytes_taken_by (cache_config_of numbers.now)) 0 }
+{
+    let config = config_of(numbers);
+    config.bytes_taken().unwrap_or(0)
 }
 
 fn open_named<N: Name>(

@@ -4,6 +4,7 @@ use Rattle.packed_words.specs.Spelling.{long_string, words_for}
 use Rattle.keyed_hash.specs.Hashes.{hash_of}
 use Rattle.cache_config.specs.Choosing.{part_of}
 use Rattle.cache_config.specs.Configs.{first_cache_fault, new_config}
+use Rattle.cache_config.specs.Memory.{bytes_of}
 use Rattle.cache_handles.specs.declared.config.ByteConfig.{ByteConfig}
 use Rattle.cache_handles.specs.declared.config.ByteFault.{ByteFault}
 use Rattle.cache_handles.specs.declared.config.ByteFault.TheVariants.{KeyBytes, ValueBytes, Cache}
@@ -49,3 +50,12 @@ part_without None config key =
 -- the part that a key is of, if one is made from this and the key isn't too long
 abbrev pub part_of_key : ByteConfig → List ℕ → Option ℕ
 part_of_key config key = part_without (first_byte_fault config) config key
+
+-- how many bytes a cache without this fault takes, if it has none
+abbrev pub bytes_without : Option ByteFault → ByteConfig → Option ℕ
+bytes_without (Some fault) config = None
+bytes_without None config = Some (bytes_of config.cache (key_words_of config) (value_words_of config))
+
+-- how many bytes a cache of this takes, if one is made from it
+abbrev pub bytes_taken_by : ByteConfig → Option ℕ
+bytes_taken_by config = bytes_without (first_byte_fault config) config

@@ -1,6 +1,6 @@
 //! What a cache of byte strings is made from.
 ghost use Rattle.std.specs.Prelude.{◌≡◌, ◌+◌, ◌≤◌, None};
-ghost use Rattle.cache_handles.specs.Configs.{default_config, first_byte_fault, key_words_of, most_value_bytes, part_of_key};
+ghost use Rattle.cache_handles.specs.Configs.{bytes_taken_by, default_config, first_byte_fault, key_words_of, most_value_bytes, part_of_key};
 ghost use Rattle.cache_handles.specs.Configs.{value_words_of};
 
 use cache_config::{CacheConfig, CacheFault, part_of_hash};
@@ -97,6 +97,18 @@ impl ByteConfig {
         ensures { result ≡ key_words_of self.now + value_words_of self.now }
     {
         self.key_words() + self.value_words()
+    }
+
+    /// How many bytes a cache of this asks for when it is opened and keeps, as `CacheConfig::bytes_taken` tells; or None
+    /// exactly where none is made from this. A cache for C takes some more beside them: for each numbered hold and each
+    /// part some hundred.
+    pub fn bytes_taken(&self) -> Option<u64>
+        ensures { result ≡ bytes_taken_by self.now }
+    {
+        if self.fault().is_some() {
+            return None;
+        }
+        Some(self.cache.bytes_taken(self.key_words(), self.value_words()))
     }
 
     /// The part that a key is of, by number; or None exactly where the key is too long, or no cache is made from this. It
