@@ -1,7 +1,6 @@
 /* Walks over items, for commands that tell of many or look at all. Each turn does a part, and others are served
  * between: so items may come, move and go meanwhile. */
 #define _GNU_SOURCE
-#include <ctype.h>
 #include <inttypes.h>
 #include <pthread.h>
 #include <string.h>
@@ -48,29 +47,12 @@ void walk_crawling(struct connection *connection, uint32_t class) {
 
 /* --------------------------------------------------------------------------------------------------- metadump */
 
-/* A key of any bytes, as a part of one line: what is no letter, digit, or one of four signs is told by its number. */
-static void put_encoded(struct connection *connection, const char *key, size_t bytes) {
-  static const char DIGITS[] = "0123456789ABCDEF";
-  char *at = connection_room(connection, bytes * 3);
-  if (at == NULL) return;
-  for (size_t i = 0; i < bytes; i++) {
-    unsigned char byte = (unsigned char)key[i];
-    if (byte != 0 && (isalnum(byte) || strchr("-._~", byte) != NULL)) {
-      *at++ = (char)byte;
-      continue;
-    }
-    *at++ = '%';
-    *at++ = DIGITS[byte >> 4];
-    *at++ = DIGITS[byte & 15];
-  }
-  connection_put_to(connection, at);
-}
-
 static void dump_item(struct connection *connection, uint32_t class, const bump_seen *seen) {
   const struct item *item = (const struct item *)(uintptr_t)seen->label;
   uint32_t expires = atomic_load(&item->expires);
+  char name[KEY_MOST * 3], *end = put_encoded(name, item->key, item->key_bytes);
   connection_put(connection, "key=", 4);
-  put_encoded(connection, item->key, item->key_bytes);
+  connection_put(connection, name, (size_t)(end - name));
   connection_print(connection, " exp=%" PRId64 " la=%" PRId64 " cas=%" PRIu64 " fetch=%s cls=%" PRIu32 " size=%zu\n",
                    expires != 0 ? clock_unix(expires) : -1, clock_unix((uint32_t)seen->time),
                    atomic_load(&item->unique), seen->fetched ? "yes" : "no", class,
