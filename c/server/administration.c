@@ -10,7 +10,7 @@
 
 enum { VERBOSITY_MOST = 2, MEGABYTES_LEAST = 8, MEGABYTES_MOST = 1000000000 };
 
-void administer_flush_at(int32_t given) {
+void administer_flush_at(int64_t given) {
   uint32_t now = clock_now();
   items_flush(given > 0 ? clock_expiry(given) : now, now);
 }

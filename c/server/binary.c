@@ -97,7 +97,8 @@ static char *put_16(char *at, uint16_t number) { return (char *)memcpy(at, &(uin
 static char *put_32(char *at, uint32_t number) { return (char *)memcpy(at, &(uint32_t){ htobe32(number) }, 4) + 4; }
 static char *put_64(char *at, uint64_t number) { return (char *)memcpy(at, &(uint64_t){ htobe64(number) }, 8) + 8; }
 
-static uint32_t read_expiry(const char *at) { return clock_expiry((int32_t)read_32(at)); }
+/* It has no sign: what text's -1 is, is a time of Unix far away. */
+static uint32_t read_expiry(const char *at) { return clock_expiry(read_32(at)); }
 
 static uint64_t value_bytes(const struct request *request) {
   return request->body_bytes - request->extras_bytes - request->key_bytes;
@@ -314,7 +315,7 @@ static void quit(struct connection *connection, const struct request *request) {
 }
 
 static void flush(struct connection *connection, const struct request *request) {
-  int32_t given = request->extras_bytes > 0 ? (int32_t)read_32(request->extras) : 0;
+  int64_t given = request->extras_bytes > 0 ? read_32(request->extras) : 0;
   if (!settings.may_flush) {
     tell_fault(connection, STATUS_REFUSED);
     return;

@@ -309,7 +309,7 @@ static enum store_answer try_add(struct thread *thread, const struct key *key, c
   done->expired_before = atomic_load(&old->expires);
   done->shelf = old->shelf;
   done->bytes = old->bytes;
-  if (delta->has_unique && atomic_load(&old->unique) != delta->unique) {
+  if (old->bytes > 0 && delta->has_unique && atomic_load(&old->unique) != delta->unique) {
     *answer = DELTA_EXISTS;
   } else if (!number_of(old, &number)) {
     *answer = DELTA_NO_NUMBER;

@@ -31,7 +31,7 @@ void meta_debug(struct connection *connection, struct words *words);
 void meta_no_operation(struct connection *connection, struct words *words);
 
 /* What isn't about one key. The first one flushes all items, at a time as clients give it. */
-void administer_flush_at(int32_t given);
+void administer_flush_at(int64_t given);
 void administer_flush(struct connection *connection, struct words *words);
 void administer_version(struct connection *connection, struct words *words);
 void administer_verbosity(struct connection *connection, struct words *words);

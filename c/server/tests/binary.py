@@ -130,8 +130,9 @@ ROWS = [
     ([request(opcode, b"a", seconds(100)) for opcode in (TOUCH, GAT, GATQ, GATK, GATKQ)],
      [done(FIVE)] + [done(FIVE, b"", b"yy")] * 2 + [done(FIVE, b"a", b"yy")] * 2),
     ([request(opcode, b"none", seconds(100)) for opcode in (TOUCH, GAT, GATQ, GATK, GATKQ)], [MISSED, MISSED, fault(1, b"", b"none")]),
-    ([request(GAT, b"a", seconds(0xFFFFFFFF)), request(GET, b"a")], [done(FIVE, b"", b"yy"), MISSED]),
-    ([request(SET, b"a", flagged(0, 0xFFFFFFFF), b"x"), request(GET, b"a")], [done(), MISSED]),
+    ([request(GAT, b"a", seconds(0xFFFFFFFF)), request(GET, b"a"), request(GAT, b"a", seconds(2592001)), request(GET, b"a")], [done(FIVE, b"", b"yy")] * 3 + [MISSED]),
+    ([request(SET, b"a", flagged(0, 2592001), b"x"), request(GET, b"a"), request(SET, b"a", flagged(0, 0xFFFFFFFF), b"x"), request(GET, b"a")],
+     [done(), MISSED, done(), done(NONE, b"", b"x")]),
     # the server
     ([request(VERSION), request(NOOP)], [done(value=b"1.6.18"), done()]),
     ([request(VERBOSITY), request(0x2F), request(0xFF), request(SASL_LIST), request(SASL_AUTH, b"PLAIN", b"", b"\0a\0b"), request(SASL_STEP, b"PLAIN")], [UNKNOWN] * 6),
