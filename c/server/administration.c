@@ -96,29 +96,35 @@ void administer_lists(struct connection *connection, struct words *words) {
 
 /* ------------------------------------------------------------------------------------- crawling and dumping */
 
-/* Which class a command names: 0 all, UINT32_MAX none. */
-static uint32_t class_named(const struct word *word) {
-  uint32_t class;
-  if (word_is(word, "all") || word_is(word, "hash")) return 0;
-  return number_u32(word->at, &class) && class != 0 && class <= class_count() ? class : UINT32_MAX;
+/* Which classes a command names, with commas between, as bits; 0: one that isn't there. */
+static uint64_t classes_named(const struct word *word) {
+  if (word_is(word, "all") || word_is(word, "hash")) return UINT64_MAX;
+  uint64_t classes = 0;
+  char *rest = NULL;
+  for (char *name = strtok_r(word->at, ",", &rest); name != NULL; name = strtok_r(NULL, ",", &rest)) {
+    uint32_t class;
+    if (!number_u32(name, &class) || class == 0 || class > class_count()) return 0;
+    classes |= UINT64_C(1) << class;
+  }
+  return classes;
 }
 
-/* lru_crawler crawl CLASS, lru_crawler metadump CLASS */
+/* lru_crawler crawl CLASSES, lru_crawler metadump CLASSES */
 static void crawl_or_dump(struct connection *connection, const struct word *word) {
-  uint32_t class = class_named(&word[2]);
+  uint64_t classes = classes_named(&word[2]);
   bool dumps = word_is(&word[1], "metadump");
   if (!atomic_load(&settings.crawls)) {
     connection_say(connection, "CLIENT_ERROR lru crawler disabled");
-  } else if (class == UINT32_MAX) {
+  } else if (classes == 0) {
     connection_say(connection, "BADCLASS invalid class id");
   } else if (dumps && !settings.may_dump) {
     connection_say(connection, "ERROR metadump not allowed");
   } else if (dumps && buffer_size(&connection->out) > 0) {
     connection_say(connection, "ERROR cannot pipeline other commands before metadump");
   } else if (dumps) {
-    walk_dumping(connection, class);
+    walk_dumping(connection, classes);
   } else {
-    walk_crawling(connection, class);
+    walk_crawling(connection, classes);
   }
 }
 

@@ -1,4 +1,4 @@
-/* What both protocols do with a key: look its item up and hold it, store one, end one, change it. */
+/* What the protocols do with a key: look its item up and hold it, store one, end one, change it. */
 #ifndef CACHE_H
 #define CACHE_H
 

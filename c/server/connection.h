@@ -76,7 +76,7 @@ enum { WALK_KEPT = 8 };
 struct walk {
   bool (*step)(struct connection *connection); /* a bounded part of it: whether that was the last one */
   const char *end;                             /* what is told then */
-  uint32_t class;                              /* 0: all */
+  uint64_t classes;                            /* a bit for each that it is about */
   uint32_t number;                             /* of the shelf, the class or the file it has come to */
   uint32_t part;                               /* of that: the thread or the list */
   uint32_t chunk;

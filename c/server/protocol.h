@@ -44,10 +44,10 @@ void administer_shutdown(struct connection *connection, struct words *words);
 void administer_time(struct connection *connection, struct words *words);
 void administer_quit(struct connection *connection, struct words *words);
 
-/* Walks over the items of a class, or of all where it is 0: one that ends what expired, and two that tell what is
- * there. The last one tells at most so many items, and of one class alone. */
-void walk_crawling(struct connection *connection, uint32_t class);
-void walk_dumping(struct connection *connection, uint32_t class);
+/* Walks over the items of some classes, of each of which a bit is set: one that ends what expired, and two that tell
+ * what is there. The last one tells at most so many items, and of one class alone. */
+void walk_crawling(struct connection *connection, uint64_t classes);
+void walk_dumping(struct connection *connection, uint64_t classes);
 void walk_listing(struct connection *connection, uint32_t class, uint32_t most);
 
 /* `stats`, and what it tells of one thing. */

@@ -11,11 +11,11 @@
 /* LISTED_MOST: memcached tells two megabytes at most. */
 enum { CRAWLED_WITH_LOCK = 100, DUMPED_WITH_LOCK = 50, LISTED_MOST = 20000 };
 
-/* The open shelf that a walk has come to, of the class that it is about; NULL: it is over. */
+/* The open shelf that a walk has come to, of a class that it is about; NULL: it is over. */
 static struct shelf *walked_shelf(struct walk *walk) {
   for (; walk->number < shelf_count(); walk->number++) {
     struct shelf *shelf = shelf_at(walk->number);
-    if (shelf_is_open(shelf) && (walk->class == 0 || walk->class == shelf->class)) return shelf;
+    if (shelf_is_open(shelf) && (walk->classes >> shelf->class & 1) != 0) return shelf;
   }
   return NULL;
 }
@@ -40,9 +40,9 @@ static bool step_crawl(struct connection *connection) {
   return false;
 }
 
-void walk_crawling(struct connection *connection, uint32_t class) {
+void walk_crawling(struct connection *connection, uint64_t classes) {
   connection_walk(connection, step_crawl, "OK");
-  connection->walk.class = class;
+  connection->walk.classes = classes;
 }
 
 /* --------------------------------------------------------------------------------------------------- metadump */
@@ -77,9 +77,9 @@ static bool step_dump(struct connection *connection) {
   return false;
 }
 
-void walk_dumping(struct connection *connection, uint32_t class) {
+void walk_dumping(struct connection *connection, uint64_t classes) {
   connection_walk(connection, step_dump, "END");
-  connection->walk.class = class;
+  connection->walk.classes = classes;
 }
 
 /* -------------------------------------------------------------------------------------------------- cachedump */
@@ -138,6 +138,6 @@ static bool step_list(struct connection *connection) {
 
 void walk_listing(struct connection *connection, uint32_t class, uint32_t most) {
   connection_walk(connection, step_list, "END");
-  connection->walk.class = class == 0 ? UINT32_MAX : class; /* there is no class 0, and here it doesn't stand for all */
+  connection->walk.classes = UINT64_C(1) << class; /* there is no class 0 */
   connection->walk.left = most == 0 || most > LISTED_MOST ? LISTED_MOST : most;
 }
