@@ -7,8 +7,8 @@
 /* The first byte of each request. */
 enum { BINARY_REQUEST = 0x80 };
 
-/* Answers the request that what was received begins with; or begins it, where a value comes behind. false: it needs more
- * to be received, or ends the connection. */
+/* Answers the request that what was received begins with; or begins it, where a value comes behind. false: it needs
+ * more to be received, or ends the connection. */
 bool binary_request(struct connection *connection);
 
 /* Makes answers of the lines that were written behind so many bytes that are to be sent: for what `stats` tells, which

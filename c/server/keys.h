@@ -1,12 +1,12 @@
-/* What each protocol's commands do with a key, beside storing: with what `stats` counts then, and what watchers are told.
- * How it is told to the client is the protocol's. */
+/* What each protocol's commands do with a key, beside storing: with what `stats` counts then, and what watchers are
+ * told. How it is told to the client is the protocol's. */
 #ifndef KEYS_H
 #define KEYS_H
 
 #include "cache.h"
 
-/* The key's item, hit and held, for who reads it: cache_release gives it back. Where `expires` isn't NULL, it expires at
- * that time from now on. NULL: the key has none. */
+/* The key's item, hit and held, for who reads it: cache_release gives it back. Where `expires` isn't NULL, it expires
+ * at that time from now on. NULL: the key has none. */
 struct item *key_fetch(struct thread *thread, const struct key *key, uint32_t now, const uint32_t *expires);
 
 /* Gives the key's item another time to expire. Whether it has one. */

@@ -219,6 +219,9 @@ static void tell_lists(struct connection *connection) {
   connection_print(connection, "STAT temporary_ttl %d\r\n", ttl);
 }
 
+/* As memcached names them. */
+static const char *const PROTOCOLS[] = { "auto-negotiate", "ascii", "binary" };
+
 static void tell_settings(struct connection *connection) {
   tell(connection, "maxbytes", atomic_load(&settings.memory));
   tell(connection, "maxconns", (uint64_t)settings.connections);
@@ -238,7 +241,6 @@ static void tell_settings(struct connection *connection) {
   tell(connection, "reqs_per_event", (uint64_t)settings.requests_at_once);
   tell_word(connection, "cas_enabled", yes_or_no(settings.has_unique));
   tell(connection, "tcp_backlog", (uint64_t)settings.backlog);
-  static const char *const PROTOCOLS[] = { "auto-negotiate", "ascii", "binary" };
   tell_word(connection, "binding_protocol", PROTOCOLS[settings.protocol]);
   tell_word(connection, "auth_enabled_sasl", "no");
   tell_word(connection, "auth_enabled_ascii", "no");

@@ -5,8 +5,8 @@
 
 #include "connection.h"
 
-/* Prepares for a value of so many bytes, which come next. What it is stored on, who tells of it, and whether it outdates
- * what the key has, stands in connection->storing. Where there is no room for it, it is to be skipped. */
+/* Prepares for a value of so many bytes, which come next. What it is stored on, who tells of it, and whether it
+ * outdates what the key has, stands in connection->storing. Where there is no room for it, it is to be skipped. */
 void value_begin(struct connection *connection, const struct key *key, uint32_t flags, uint32_t expires, size_t bytes);
 
 /* Makes room for more of the value than came, or for a part of that: then it is called again in the next turn. Where

@@ -197,6 +197,6 @@ void watchers_tell_store(const struct thread *thread, const struct watched_store
   struct encoded name = encode(store->key.at, store->key.bytes);
   uint32_t now = clock_now(), ttl = store->expires > now ? store->expires - now : 0;
   write_line(WATCHED_MUTATIONS,
-             "item_store key=%s status=%s cmd=%s ttl=%" PRIu32 " clsid=%" PRIu32 " cfd=%d size=%" PRIu32 "\n", name.text,
-             status, COMMANDS[store->how], ttl, store->class, thread->file, store->bytes);
+             "item_store key=%s status=%s cmd=%s ttl=%" PRIu32 " clsid=%" PRIu32 " cfd=%d size=%" PRIu32 "\n",
+             name.text, status, COMMANDS[store->how], ttl, store->class, thread->file, store->bytes);
 }

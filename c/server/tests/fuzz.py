@@ -85,7 +85,8 @@ def binary_session(chance):
 def text_session(chance):
     """Rows of the text protocols, in another order."""
     rows = chance.choices(protocol.ROWS, k=chance.randrange(1, 40))
-    return b"".join(re.sub(r"%\w+%", "7", row[0]).encode() + b"\r\n" for row in rows if len(row[0]) < 5000)
+    watching = b"watch fetchers mutations evictions deletions\r\n" if chance.randrange(10) == 0 else b""
+    return watching + b"".join(re.sub(r"%\w+%", "7", row[0]).encode() + b"\r\n" for row in rows if len(row[0]) < 5000)
 
 
 class Fuzz:

@@ -88,12 +88,13 @@ class WatchChecks:
             watcher.watch(b" evictions fetchers")
             for i in range(400):
                 client.socket.sendall(b"set e%d 0 %d 100000 noreply\r\n%s\r\n" % (i, i % 2 * 1000, b"x" * 100000))
-            stats = client.stats()
+            before = int(client.stats()["evictions"])
             client.ask(b"get end\r\n")
+            after = int(client.stats()["evictions"])  # the maintainer may evict meanwhile
             lines = [line for line in watcher.lines_until("end") if "type=eviction" in line]
             like = re.compile(HEAD + r"eviction key=e\d+ fetch=(no|yes) ttl=(-1|\d+) la=\d+ clsid=\d+ size=100000")
-            right = len(lines) == int(stats["evictions"]) > 0 and all(like.fullmatch(line) for line in lines)
-            tell(f"{len(lines)} evictions are told", "" if right else f"{stats['evictions']}: {lines[:3]}")
+            right = 0 < before <= len(lines) <= after and all(like.fullmatch(line) for line in lines)
+            tell(f"{len(lines)} evictions are told", "" if right else f"{before} to {after}: {lines[:3]}")
             tell("then it ends with nothing left", server.end())
 
     def check_slow_watcher(self):
@@ -107,7 +108,7 @@ class WatchChecks:
                     break
             seen, skipped, wrong = self.count_lines(watcher, client)
             stats = client.stats()
-            if skipped == 0 or skipped != int(stats["log_watcher_skipped"]) or seen > int(stats["log_watcher_sent"]):
+            if skipped == 0 or skipped > int(stats["log_watcher_skipped"]) or seen > int(stats["log_watcher_sent"]):
                 wrong.append(f"{skipped} skipped, {stats['log_watcher_skipped']} told")
             tell(f"who doesn't read loses {skipped} of {seen + skipped} lines, which it is told, and others work on", "; ".join(wrong))
             tell("then it ends with nothing left", server.end())
