@@ -6,9 +6,14 @@
 #include <unistd.h>
 #include "clock.h"
 #include "protocol.h"
-#include "shelf.h"
+#include "watchers.h"
 
 enum { VERBOSITY_MOST = 2, MEGABYTES_LEAST = 8, MEGABYTES_MOST = 1000000000 };
+
+void administer_flush_at(int64_t given) {
+  uint32_t now = clock_now();
+  items_flush(given > 0 ? clock_expiry(given) : now, now);
+}
 
 void administer_flush(struct connection *connection, struct words *words) {
   int32_t given = 0;
@@ -22,8 +27,7 @@ void administer_flush(struct connection *connection, struct words *words) {
     connection_say(connection, "CLIENT_ERROR invalid exptime argument");
     return;
   }
-  uint32_t now = clock_now();
-  items_flush(given > 0 ? clock_expiry(given) : now, now);
+  administer_flush_at(given);
   connection_say(connection, "OK");
 }
 
@@ -92,27 +96,35 @@ void administer_lists(struct connection *connection, struct words *words) {
 
 /* ------------------------------------------------------------------------------------- crawling and dumping */
 
-/* Which class a command names: 0 all, UINT32_MAX none. */
-static uint32_t class_named(const struct word *word) {
-  uint32_t class;
-  if (word_is(word, "all") || word_is(word, "hash")) return 0;
-  return number_u32(word->at, &class) && class != 0 && class <= class_count() ? class : UINT32_MAX;
+/* Which classes a command names, with commas between, as bits; 0: one that isn't there. */
+static uint64_t classes_named(const struct word *word) {
+  if (word_is(word, "all") || word_is(word, "hash")) return UINT64_MAX;
+  uint64_t classes = 0;
+  char *rest = NULL;
+  for (char *name = strtok_r(word->at, ",", &rest); name != NULL; name = strtok_r(NULL, ",", &rest)) {
+    uint32_t class;
+    if (!number_u32(name, &class) || class == 0 || class > class_count()) return 0;
+    classes |= UINT64_C(1) << class;
+  }
+  return classes;
 }
 
-/* lru_crawler crawl CLASS, lru_crawler metadump CLASS */
+/* lru_crawler crawl CLASSES, lru_crawler metadump CLASSES */
 static void crawl_or_dump(struct connection *connection, const struct word *word) {
-  uint32_t class = class_named(&word[2]);
+  uint64_t classes = classes_named(&word[2]);
   bool dumps = word_is(&word[1], "metadump");
   if (!atomic_load(&settings.crawls)) {
     connection_say(connection, "CLIENT_ERROR lru crawler disabled");
-  } else if (class == UINT32_MAX) {
+  } else if (classes == 0) {
     connection_say(connection, "BADCLASS invalid class id");
+  } else if (dumps && !settings.may_dump) {
+    connection_say(connection, "ERROR metadump not allowed");
   } else if (dumps && buffer_size(&connection->out) > 0) {
     connection_say(connection, "ERROR cannot pipeline other commands before metadump");
   } else if (dumps) {
-    walk_dumping(connection, class);
+    walk_dumping(connection, classes);
   } else {
-    walk_crawling(connection, class);
+    walk_crawling(connection, classes);
   }
 }
 
@@ -134,7 +146,7 @@ void administer_crawler(struct connection *connection, struct words *words) {
   }
 }
 
-/* ------------------------------------------------------------------------------------------- what isn't here */
+/* ----------------------------------------------------------------------------------------- slabs, and watching */
 
 /* Items aren't in pages, so there are none to move: shelves give memory to each other an item at a time. */
 void administer_slabs(struct connection *connection, struct words *words) {
@@ -160,9 +172,36 @@ void administer_slabs(struct connection *connection, struct words *words) {
   }
 }
 
+/* What a word of `watch` names; 0: nothing that is told of here. */
+static uint32_t kind_named(const struct word *word) {
+  if (word_is(word, "evictions")) return WATCHED_EVICTIONS;
+  if (word_is(word, "fetchers")) return WATCHED_FETCHERS;
+  if (word_is(word, "mutations")) return WATCHED_MUTATIONS;
+  return word_is(word, "deletions") ? WATCHED_DELETIONS : 0;
+}
+
+static const char *watch(struct connection *connection, uint32_t kinds) {
+  switch (watchers_join(connection, kinds)) {
+    case WATCH_DONE: connection->state = WATCHES; return "OK";
+    case WATCH_TOO_MANY: return "WATCHER_TOO_MANY log watcher limit reached";
+    default: return "WATCHER_FAILED failed to add log watcher";
+  }
+}
+
 void administer_watch(struct connection *connection, struct words *words) {
+  uint32_t kinds = words->count == 1 ? WATCHED_FETCHERS : 0;
   text_wants_no_reply(connection, words);
-  connection_say(connection, "CLIENT_ERROR watch commands not allowed");
+  if (!settings.may_watch) {
+    connection_say(connection, "CLIENT_ERROR watch commands not allowed");
+    return;
+  }
+  bool is_known = buffer_size(&connection->out) == 0; /* else the answers before it would be among its lines */
+  for (size_t i = 1; i < words->count; i++) {
+    uint32_t kind = kind_named(&words->word[i]);
+    is_known &= kind != 0;
+    kinds |= kind;
+  }
+  connection_say(connection, is_known ? watch(connection, kinds) : "ERROR");
 }
 
 /* -------------------------------------------------------------------------------------------------- the end */

@@ -1,6 +1,7 @@
 #include "aging.h"
 #include "network.h"
 #include "table.h"
+#include "watchers.h"
 
 /* memcached's numbers: of pulls while a lock is kept, and of tries to find an item that may be ended. And how many
  * items are evicted in one turn, unless more than an OWED_MOST-th of the memory would be owed then. */
@@ -147,6 +148,7 @@ bool shelf_evict(struct shelf *shelf, struct counters *counters, uint32_t now) {
   count(counters, COUNT_evicted_unfetched, !seen.fetched);
   count(counters, COUNT_evicted_active, seen.active);
   if (seen.refs > 1) count(counters, COUNT_lrutail_reflocked, 1);
+  watchers_tell_eviction(item, seen.fetched, now - (uint32_t)seen.time, now);
   table_forget(item);
   shelf_end(shelf, item_name(item));
   return true;

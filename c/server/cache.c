@@ -5,6 +5,7 @@
 #include "aging.h"
 #include "clock.h"
 #include "table.h"
+#include "watchers.h"
 #include "words.h"
 
 enum { THE_HOLD = 0, LINK_TRIES = 50, NUMBER_MOST = 63 };
@@ -37,6 +38,7 @@ struct held cache_hold_locked(struct thread *thread, const struct key *key, uint
   for (;;) {
     table_lock(key->hash);
     struct item **at = table_find(key), *item = *at;
+    if (item == NULL || !is_gone(item, now)) watchers_tell_fetch(thread, key, item);
     if (item == NULL) return (struct held){ NULL, false };
     if (!is_gone(item, now)) return take(thread, item);
     count_gone(&thread->counters, item, now);
@@ -197,6 +199,7 @@ static struct named name_item(struct thread *thread, struct item *item, const st
   table_lock(key.hash);
   struct item **at = table_find(&key), *old = *at;
   bool gone = old != NULL && is_gone(old, now);
+  if (terms->how != STORE_SWAP) watchers_tell_fetch(thread, &key, gone ? NULL : old);
   named.answer = judge(thread, terms, item, gone ? NULL : old);
   if (gone) count_gone(&thread->counters, old, now);
   if (old != NULL && (gone || named.answer == STORE_DONE)) {
@@ -234,32 +237,38 @@ enum store_answer cache_store(struct thread *thread, struct item *item, const st
   return named.answer;
 }
 
-struct shelf *cache_end(struct thread *thread, const struct key *key) {
+/* What becomes of an item that is there. Under the stripe's lock. */
+static enum end_answer judge_end(struct item *item, const struct end_terms *terms) {
+  if (terms->has_unique && atomic_load(&item->unique) != terms->unique) return END_EXISTS;
+  if (!terms->invalidates) return END_DONE;
+  if (terms->has_expiry) atomic_store(&item->expires, terms->expires);
+  item->is_stale = true;
+  item->has_winner = false;
+  atomic_store(&item->unique, unique_next());
+  return END_MADE_STALE;
+}
+
+enum end_answer cache_end(struct thread *thread, const struct key *key, const struct end_terms *terms) {
   uint32_t now = clock_now();
   struct item_name old = { 0 };
-  bool there = false;
+  enum end_answer answer = END_NOT_FOUND;
   table_lock(key->hash);
-  struct item **at = table_find(key);
-  if (*at != NULL) {
-    there = !is_gone(*at, now);
-    if (!there) count_gone(&thread->counters, *at, now);
-    old = item_name(*at);
+  struct item **at = table_find(key), *item = *at;
+  bool gone = item != NULL && is_gone(item, now);
+  if (gone) count_gone(&thread->counters, item, now);
+  watchers_tell_fetch(thread, key, gone ? NULL : item);
+  if (item != NULL && !gone) answer = judge_end(item, terms);
+  if (answer == END_DONE && terms->command != NULL) {
+    shelf_count_event(item->shelf, thread->number, SHELF_delete_hits);
+    watchers_tell_end(thread, item, terms->command);
+  }
+  if (gone || answer == END_DONE) {
+    old = item_name(item);
     table_take_out(at);
   }
   table_unlock(key->hash);
   if (old.generation != 0) shelf_end_item(old);
-  return there ? shelf_at(old.shelf) : NULL;
-}
-
-bool cache_set_expiry(struct thread *thread, const struct key *key, uint32_t expires) {
-  uint32_t now = clock_now();
-  struct held held = cache_hold(thread, key, now);
-  if (held.item == NULL) return false;
-  atomic_store(&held.item->expires, expires);
-  shelf_count_event(held.item->shelf, thread->number, SHELF_touch_hits);
-  cache_hit(thread, held.item, now);
-  cache_release(thread, held.item);
-  return true;
+  return answer;
 }
 
 /* The number that a value begins with, behind any blanks and any noughts. */
@@ -289,12 +298,6 @@ static struct item *changed(struct thread *thread, const struct key *key, const 
   return item;
 }
 
-static void count_delta(struct thread *thread, bool goes_up, const struct delta_done *done, bool hit) {
-  if (goes_up) count(&thread->counters, hit ? COUNT_incr_hits : COUNT_incr_misses, 1);
-  else count(&thread->counters, hit ? COUNT_decr_hits : COUNT_decr_misses, 1);
-  if (hit) shelf_count_event(done->shelf, thread->number, goes_up ? SHELF_incr_hits : SHELF_decr_hits);
-}
-
 /* One try: STORE_AGAIN where another thread stored the key meanwhile. */
 static enum store_answer try_add(struct thread *thread, const struct key *key, const struct delta *delta,
                                  struct delta_done *done, enum delta_answer *answer) {
@@ -306,7 +309,7 @@ static enum store_answer try_add(struct thread *thread, const struct key *key, c
   done->expired_before = atomic_load(&old->expires);
   done->shelf = old->shelf;
   done->bytes = old->bytes;
-  if (delta->has_unique && atomic_load(&old->unique) != delta->unique) {
+  if (old->bytes > 0 && delta->has_unique && atomic_load(&old->unique) != delta->unique) {
     *answer = DELTA_EXISTS;
   } else if (!number_of(old, &number)) {
     *answer = DELTA_NO_NUMBER;
@@ -327,7 +330,9 @@ enum delta_answer cache_add(struct thread *thread, const struct key *key, const 
   do stored = try_add(thread, key, delta, done, &answer);
   while (stored == STORE_AGAIN);
   if (stored == STORE_NO_MEMORY) answer = DELTA_NO_MEMORY;
-  if (answer == DELTA_DONE || answer == DELTA_NOT_FOUND)
-    count_delta(thread, delta->goes_up, done, answer == DELTA_DONE);
+  if (answer == DELTA_DONE) {
+    count(&thread->counters, delta->goes_up ? COUNT_incr_hits : COUNT_decr_hits, 1);
+    shelf_count_event(done->shelf, thread->number, delta->goes_up ? SHELF_incr_hits : SHELF_decr_hits);
+  }
   return answer;
 }

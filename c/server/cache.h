@@ -1,4 +1,4 @@
-/* What both protocols do with a key: look its item up and hold it, store one, end one, change it. */
+/* What the protocols do with a key: look its item up and hold it, store one, end one, change it. */
 #ifndef CACHE_H
 #define CACHE_H
 
@@ -58,11 +58,20 @@ bool cache_complete_item(struct thread *thread, struct item *item);
 enum store_answer cache_store(struct thread *thread, struct item *item, const struct store_terms *terms,
                               uint64_t *unique);
 
-/* Ends the key's item. Its shelf; NULL: it had none. */
-struct shelf *cache_end(struct thread *thread, const struct key *key);
+enum end_answer { END_DONE, END_MADE_STALE, END_NOT_FOUND, END_EXISTS };
 
-/* Gives the key's item another time to expire. Whether it has one. */
-bool cache_set_expiry(struct thread *thread, const struct key *key, uint32_t expires);
+/* How a key's item is ended. */
+struct end_terms {
+  bool has_unique; /* only where it has this number for cas; else END_EXISTS */
+  uint64_t unique;
+  bool invalidates; /* it stays, as a stale one */
+  bool has_expiry;  /* which then has another time to expire */
+  uint32_t expires;
+  const char *command; /* by which a client ends it: it is counted, and watchers are told; NULL: no client does */
+};
+
+/* Ends the key's item. */
+enum end_answer cache_end(struct thread *thread, const struct key *key, const struct end_terms *terms);
 
 enum delta_answer { DELTA_DONE, DELTA_NOT_FOUND, DELTA_NO_NUMBER, DELTA_NO_MEMORY, DELTA_EXISTS };
 

@@ -29,7 +29,7 @@ uint32_t clock_now(void) {
   return (uint32_t)(seconds_of_unix() - began_at_unix + atomic_load_explicit(&moved, memory_order_relaxed));
 }
 
-uint32_t clock_expiry(int32_t given) {
+uint32_t clock_expiry(int64_t given) {
   if (given == 0) return TICK_NEVER;
   if (given < 0) return TICK_LONG_AGO;
   if (given <= THIRTY_DAYS) return (uint32_t)given + clock_now();

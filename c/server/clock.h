@@ -14,7 +14,7 @@ uint32_t clock_now(void);
 
 /* What a client gave as the time when its item expires: 0 is never, a negative number long ago; up to thirty days are
  * seconds from now on, and what is more is a time of Unix. */
-uint32_t clock_expiry(int32_t given);
+uint32_t clock_expiry(int64_t given);
 
 /* A tick as a time of Unix. */
 int64_t clock_unix(uint32_t tick);

@@ -21,7 +21,8 @@ enum connection_state {
   SKIPS_BYTES,  /* of a value that isn't stored */
   CHECKS_KEYS,  /* of a get: whether none of them is too long */
   ANSWERS_KEYS, /* of a get that has more than one turn answers */
-  WALKS         /* over items, classes or connections, for a command about many of them */
+  WALKS,        /* over items, classes or connections, for a command about many of them */
+  WATCHES       /* is told what the server does, and asks for nothing any more */
 };
 
 /* What a connection does before others have their turn, in steps of about a nanosecond: so another one waits for some
@@ -29,14 +30,25 @@ enum connection_state {
  * that is looked at, an item that is ended, a line that tells of one, and what tells of a class. */
 enum { TURN_WORK = 150000, WORK_KEY = 500, WORK_LOOKED = 100, WORK_ENDED = 2500, WORK_TOLD = 1500, WORK_CLASS = 15000 };
 
+/* Why a value isn't stored. */
+enum refusal { REFUSED_TOO_LARGE, REFUSED_NO_MEMORY, REFUSED_BAD_END };
+
+/* How a protocol tells what became of a value. */
+struct speaker {
+  size_t behind; /* bytes that come behind a value: \r\n, or none */
+  void (*tell_stored)(struct connection *connection, enum store_answer answer, uint64_t unique);
+  void (*tell_refused)(struct connection *connection, enum refusal refusal);
+};
+
 /* A value that is being received. */
 struct storing {
   struct item *item;
-  size_t received;   /* with the \r\n behind it */
-  size_t room;       /* for so much of it there is memory */
+  const struct speaker *speaker;
+  size_t received;   /* with the \r\n behind it, where that comes */
+  size_t room;       /* for so much of it there is memory, with a \r\n behind */
   bool is_under_way; /* its item isn't complete */
+  bool outdates;     /* where it isn't stored, what the key has is out of date */
   struct store_terms terms;
-  bool is_meta;
   bool tells_unique;       /* of a meta set's answer: whether the number for cas is told, */
   char before_unique[416]; /* what comes before it, */
   char behind_unique[416]; /* and behind it */
@@ -51,13 +63,20 @@ struct asked_keys {
   uint32_t expires;
 };
 
+/* A request of the binary protocol whose answer isn't made yet. */
+struct asked_binary {
+  uint8_t opcode;
+  bool is_quiet; /* it wants no answer where all went well */
+  uint32_t opaque;
+};
+
 /* A walk, of which each turn does a part. By the items of a list that were told last it finds its place again. */
 enum { WALK_KEPT = 8 };
 
 struct walk {
   bool (*step)(struct connection *connection); /* a bounded part of it: whether that was the last one */
   const char *end;                             /* what is told then */
-  uint32_t class;                              /* 0: all */
+  uint64_t classes;                            /* a bit for each that it is about */
   uint32_t number;                             /* of the shelf, the class or the file it has come to */
   uint32_t part;                               /* of that: the thread or the list */
   uint32_t chunk;
@@ -77,11 +96,14 @@ struct connection {
   bool waits_to_send;
   bool is_yielded;
   bool has_begun; /* something was received */
+  bool is_binary; /* it speaks the binary protocol */
   struct buffer in;
   struct buffer out;
   struct storing storing;
   struct asked_keys keys;
+  struct asked_binary binary;
   struct walk walk;
+  struct watcher *watcher; /* NULL: it doesn't watch */
   uint64_t skip;
   size_t sought;           /* of what was received, for the end of the line */
   int32_t work;            /* that is left of its turn */
@@ -102,6 +124,12 @@ char *connection_room(struct connection *connection, size_t bytes);
 
 static inline void connection_put_to(struct connection *connection, const char *end) {
   connection->out.end = (size_t)(end - connection->out.at);
+}
+
+/* Up to which place what comes of a value may be received now. */
+static inline size_t storing_most(const struct storing *storing) {
+  size_t all = storing->item->bytes + storing->speaker->behind;
+  return storing->room < all ? storing->room : all;
 }
 
 /* The bytes that came and aren't received yet. */

@@ -4,7 +4,10 @@
 #include <stdlib.h>
 #include <string.h>
 #include <sys/socket.h>
+#include "binary.h"
 #include "protocol.h"
+#include "values.h"
+#include "watchers.h"
 
 /* A line may be so long only if it is a get. A buffer that grew past KEPT_MOST is given back when it is empty. */
 enum {
@@ -15,8 +18,7 @@ enum {
   KEPT_MOST = 1 << 16,
   RECEIVED_AT_ONCE = 1 << 17,
   SENT_AT_ONCE = 1 << 18, /* in a turn */
-  BLANKS_MOST = 100,
-  BINARY_REQUEST = 0x80
+  BLANKS_MOST = 100
 };
 
 /* ------------------------------------------------------------------------------------------- sending, receiving */
@@ -88,7 +90,7 @@ static enum received receive(struct connection *connection) {
   size_t bytes;
   if (connection->state == READS_VALUE && buffer_size(in) == 0) {
     char *at = storing->item->value + storing->received;
-    enum received received = receive_to(connection, at, storing->room - storing->received, &bytes);
+    enum received received = receive_to(connection, at, storing_most(storing) - storing->received, &bytes);
     storing->received += bytes;
     return received;
   }
@@ -103,14 +105,14 @@ static enum received receive(struct connection *connection) {
 static bool step_value(struct connection *connection) {
   struct buffer *in = &connection->in;
   struct storing *storing = &connection->storing;
-  size_t left = storing->room - storing->received;
+  size_t left = storing_most(storing) - storing->received;
   size_t bytes = buffer_size(in) < left ? buffer_size(in) : left;
   memcpy(storing->item->value + storing->received, in->at + in->begin, bytes);
   storing->received += bytes;
   in->begin += bytes;
   if (bytes < left) return false;
-  if (storing->room < (size_t)storing->item->bytes + 2) text_grow_value(connection);
-  else text_end_value(connection);
+  if (storing->room < (size_t)storing->item->bytes + 2) value_grow(connection);
+  else value_end(connection);
   return true;
 }
 
@@ -138,13 +140,6 @@ static bool step_line(struct connection *connection) {
   struct buffer *in = &connection->in;
   char *line = in->at + in->begin;
   if (buffer_size(in) == 0) return false;
-  if (!connection->has_begun) {
-    connection->has_begun = true;
-    if ((unsigned char)*line == BINARY_REQUEST) {
-      connection->ends = true; /* the binary protocol, whose client would wait for an answer */
-      return false;
-    }
-  }
   char *end = memchr(line + connection->sought, '\n', buffer_size(in) - connection->sought);
   if (end == NULL) {
     connection->sought = buffer_size(in);
@@ -159,11 +154,32 @@ static bool step_line(struct connection *connection) {
   return true;
 }
 
+/* A request begins. By a connection's first byte it is told which protocol it speaks, unless the settings say so. */
+static bool step_request(struct connection *connection) {
+  const struct buffer *in = &connection->in;
+  if (buffer_size(in) == 0) return false;
+  if (!connection->has_begun) {
+    connection->has_begun = true;
+    bool is_binary = (unsigned char)in->at[in->begin] == BINARY_REQUEST;
+    connection->is_binary = settings.protocol == PROTOCOL_BINARY || (settings.protocol == PROTOCOL_AUTO && is_binary);
+  }
+  return connection->is_binary ? binary_request(connection) : step_line(connection);
+}
+
 /* One step of a walk; and behind the last one, what is told at its end. */
 static void step_walk(struct connection *connection) {
-  if (!connection->walk.step(connection)) return;
-  connection->state = READS_LINE;
-  connection_say(connection, connection->walk.end);
+  size_t before = buffer_size(&connection->out);
+  if (connection->walk.step(connection)) {
+    connection->state = READS_LINE;
+    connection_say(connection, connection->walk.end);
+  }
+  if (connection->is_binary) binary_retell(connection, before);
+}
+
+/* What comes of who watches is for nobody. */
+static bool step_watch(struct connection *connection) {
+  connection->in.begin = connection->in.end;
+  return watchers_take(connection);
 }
 
 /* One step. false: it needs more to be received. */
@@ -174,7 +190,8 @@ static bool step(struct connection *connection) {
     case CHECKS_KEYS: text_check_keys(connection); return true;
     case ANSWERS_KEYS: text_answer_keys(connection); return true;
     case WALKS: step_walk(connection); return true;
-    default: return step_line(connection);
+    case WATCHES: return step_watch(connection);
+    default: return step_request(connection);
   }
 }
 
@@ -194,7 +211,7 @@ static bool step_on(struct connection *connection, int *requests) {
 /* Whether there is something to step through, or may be. */
 static bool has_more(const struct connection *connection) {
   const struct storing *storing = &connection->storing;
-  if (connection->state == READS_VALUE && storing->received == storing->room) return true;
+  if (connection->state == READS_VALUE && storing->received == storing_most(storing)) return true;
   return buffer_size(&connection->in) > 0 || connection->state >= CHECKS_KEYS;
 }
 
@@ -204,6 +221,7 @@ enum driven drive(struct connection *connection) {
   int requests = settings.requests_at_once;
   bool is_drained = false;
   connection->work = TURN_WORK;
+  connection->thread->file = connection->file;
   for (;;) {
     bool could_go_on = step_on(connection, &requests);
     enum sent sent = drive_send(connection);

@@ -5,9 +5,11 @@
 #include <string.h>
 #include "base64.h"
 #include "clock.h"
+#include "keys.h"
 #include "protocol.h"
 #include "shelf.h"
 #include "table.h"
+#include "values.h"
 
 /* memcached's measures; and room for a line of an answer, in which each flag is told once at most. */
 enum { META_WORDS_MOST = 19, OPAQUE_MOST = 32, ANSWER_MOST = 1024, VIVIFY_TRIES = 4 };
@@ -323,38 +325,7 @@ static void prepare_answer(struct storing *storing, const struct words *words, c
   *at = *behind = 0;
 }
 
-void meta_set(struct connection *connection, struct words *words) {
-  size_t bytes = 0;
-  const char *fault = fault_of(words, "CLIENT_ERROR options flags too long");
-  if (words->count == 2) fault = WRONG_FORMAT;
-  if (fault == NULL && !number_length(words->word[2].at, &bytes)) fault = WRONG_FORMAT;
-  if (fault != NULL) {
-    connection_say_always(connection, fault);
-    return;
-  }
-  struct meta meta = read_flags(words, 3);
-  int how = how_of(&meta);
-  if (meta.error == NULL && how < 0) meta.error = "CLIENT_ERROR invalid mode for ms M token";
-  if (meta.error == NULL && has_long_opaque(words, 3)) meta.error = "CLIENT_ERROR opaque token too long";
-  if (meta.error != NULL) {
-    connection_say_always(connection, meta.error);
-    connection->state = SKIPS_BYTES;
-    connection->skip = bytes + 2;
-    return;
-  }
-  struct storing *storing = &connection->storing;
-  storing->terms = (struct store_terms){ .how = (enum store_how)how,
-                                         .unique = meta.has_unique ? meta.unique : 0,
-                                         .may_be_stale = meta.invalidates && how == STORE_CAS };
-  storing->is_meta = true;
-  connection->is_quiet = meta.is_quiet;
-  prepare_answer(storing, words, &meta);
-  struct key key = table_key(words->word[1].at, words->word[1].bytes);
-  text_begin_value(connection, &key, meta.flags, meta.expires, bytes);
-  if (connection->state == READS_VALUE) storing->item->has_binary_key = meta.has_binary_key;
-}
-
-void meta_tell_stored(struct connection *connection, enum store_answer answer, uint64_t unique) {
+static void tell_stored(struct connection *connection, enum store_answer answer, uint64_t unique) {
   const struct storing *storing = &connection->storing;
   bool is_quiet = connection->is_quiet;
   connection->is_quiet = false;
@@ -375,36 +346,43 @@ void meta_tell_stored(struct connection *connection, enum store_answer answer, u
   connection_put(connection, "\r\n", 2);
 }
 
-/* --------------------------------------------------------------------------------------------------------- md */
-
-/* Ends the key's item, or makes it a stale one. Answers the code that tells what became of it. */
-static const char *end_or_invalidate(struct thread *thread, const struct key *key, const struct meta *meta) {
-  uint32_t now = clock_now();
-  struct item_name old = { 0 };
-  const char *code = "NF";
-  table_lock(key->hash);
-  struct item **at = table_find(key), *item = *at;
-  if (item != NULL && (item_is_expired(item, now) || item_is_flushed(item, now))) {
-    old = item_name(item);
-    table_take_out(at);
-  } else if (item != NULL && meta->has_unique && atomic_load(&item->unique) != meta->unique) {
-    code = "EX";
-  } else if (item != NULL && meta->invalidates) {
-    if (meta->has_expiry) atomic_store(&item->expires, meta->expires);
-    item->is_stale = true;
-    item->has_winner = false;
-    atomic_store(&item->unique, unique_next());
-    code = "HD";
-  } else if (item != NULL) {
-    old = item_name(item);
-    table_take_out(at);
-    shelf_count_event(old.shelf, thread->number, SHELF_delete_hits);
-    code = "HD";
-  }
-  table_unlock(key->hash);
-  if (old.generation != 0) shelf_end_item(old);
-  return code;
+static void tell_refused(struct connection *connection, enum refusal refusal) {
+  connection_say_always(connection, TEXT_REFUSALS[refusal]);
 }
+
+void meta_set(struct connection *connection, struct words *words) {
+  static const struct speaker SPEAKER = { 2, tell_stored, tell_refused };
+  size_t bytes = 0;
+  const char *fault = fault_of(words, "CLIENT_ERROR options flags too long");
+  if (words->count == 2) fault = WRONG_FORMAT;
+  if (fault == NULL && !number_length(words->word[2].at, &bytes)) fault = WRONG_FORMAT;
+  if (fault != NULL) {
+    connection_say_always(connection, fault);
+    return;
+  }
+  struct meta meta = read_flags(words, 3);
+  int how = how_of(&meta);
+  if (meta.error == NULL && how < 0) meta.error = "CLIENT_ERROR invalid mode for ms M token";
+  if (meta.error == NULL && has_long_opaque(words, 3)) meta.error = "CLIENT_ERROR opaque token too long";
+  if (meta.error != NULL) {
+    connection_say_always(connection, meta.error);
+    value_skip(connection, bytes + 2);
+    return;
+  }
+  struct storing *storing = &connection->storing;
+  storing->terms = (struct store_terms){ .how = (enum store_how)how,
+                                         .unique = meta.has_unique ? meta.unique : 0,
+                                         .may_be_stale = meta.invalidates && how == STORE_CAS };
+  storing->speaker = &SPEAKER;
+  storing->outdates = true;
+  connection->is_quiet = meta.is_quiet;
+  prepare_answer(storing, words, &meta);
+  struct key key = table_key(words->word[1].at, words->word[1].bytes);
+  value_begin(connection, &key, meta.flags, meta.expires, bytes);
+  if (connection->state == READS_VALUE) storing->item->has_binary_key = meta.has_binary_key;
+}
+
+/* --------------------------------------------------------------------------------------------------------- md */
 
 void meta_delete(struct connection *connection, struct words *words) {
   const char *fault = fault_of(words, "CLIENT_ERROR options flags too long");
@@ -417,53 +395,17 @@ void meta_delete(struct connection *connection, struct words *words) {
   }
   struct key key = table_key(words->word[1].at, words->word[1].bytes);
   char text[ANSWER_MOST];
-  const char *code = end_or_invalidate(connection->thread, &key, &meta);
-  bool done = code[0] == 'H';
-  if (!done || !meta.invalidates)
-    count(connection_counters(connection), done ? COUNT_delete_hits : COUNT_delete_misses, 1);
+  const struct end_terms terms = { meta.has_unique, meta.unique,  meta.invalidates,
+                                   meta.has_expiry, meta.expires, "md" };
+  enum end_answer answer = key_end(connection->thread, &key, &terms);
+  if (answer == END_EXISTS) count(connection_counters(connection), COUNT_delete_misses, 1);
+  bool done = answer == END_DONE || answer == END_MADE_STALE;
   if (meta.is_quiet && done) return;
-  memcpy(text, code, 2);
+  memcpy(text, done ? "HD" : answer == END_EXISTS ? "EX" : "NF", 2);
   put_line(connection, text, put_common(text + 2, words, 2, meta.has_binary_key));
 }
 
 /* --------------------------------------------------------------------------------------------------------- ma */
-
-/* What became of a number. */
-struct reckoned {
-  enum delta_answer answer;
-  struct delta_done done;
-  bool is_new;
-};
-
-/* Stores the number that the key begins with, where it has no item. */
-static enum store_answer begin_number(struct thread *thread, const struct key *key, const struct meta *meta,
-                                      struct reckoned *to) {
-  char digits[20];
-  size_t bytes = (size_t)(put_u64(digits, meta->initial) - digits);
-  uint32_t expires = meta->ends_by_vivify ? meta->vivify_expires : meta->expires;
-  struct item *item = cache_new_item(thread, key, 0, expires, bytes);
-  if (item == NULL) return STORE_NO_MEMORY;
-  memcpy(item->value, digits, bytes);
-  item->has_binary_key = meta->has_binary_key;
-  to->done = (struct delta_done){ .number = meta->initial, .expired_before = TICK_NEVER };
-  to->is_new = true;
-  return cache_store(thread, item, &(struct store_terms){ .how = STORE_ADD }, &to->done.unique);
-}
-
-static struct reckoned reckon(struct thread *thread, const struct key *key, const struct meta *meta, bool goes_up) {
-  /* A number of 0 for cas is none, as in memcached; and not so in md and ms. */
-  const bool has_unique = meta->has_unique && meta->unique != 0;
-  const struct delta delta = { goes_up, meta->by, has_unique, meta->unique, meta->has_expiry, meta->expires };
-  for (;;) {
-    struct reckoned reckoned = { 0 };
-    reckoned.answer = cache_add(thread, key, &delta, &reckoned.done);
-    if (reckoned.answer != DELTA_NOT_FOUND || !meta->vivifies) return reckoned;
-    enum store_answer stored = begin_number(thread, key, meta, &reckoned);
-    if (stored == STORE_NOT) continue; /* another thread began it meanwhile */
-    reckoned.answer = stored == STORE_DONE ? DELTA_DONE : DELTA_NO_MEMORY;
-    return reckoned;
-  }
-}
 
 /* In the order of the flags: so t behind T or N tells the new time. */
 static char *put_reckoned(char *at, const struct words *words, const struct meta *meta,
@@ -522,7 +464,12 @@ void meta_arithmetic(struct connection *connection, struct words *words) {
     return;
   }
   struct key key = table_key(words->word[1].at, words->word[1].bytes);
-  struct reckoned reckoned = reckon(connection->thread, &key, &meta, !goes_down);
+  /* A number of 0 for cas is none, as in memcached; and not so in md and ms. */
+  const bool has_unique = meta.has_unique && meta.unique != 0;
+  const struct delta delta = { !goes_down, meta.by, has_unique, meta.unique, meta.has_expiry, meta.expires };
+  const struct beginning beginning = { meta.vivifies, meta.initial,
+                                       meta.ends_by_vivify ? meta.vivify_expires : meta.expires, meta.has_binary_key };
+  struct reckoned reckoned = key_reckon(connection->thread, &key, &delta, &beginning);
   connection->work -= (int32_t)reckoned.done.bytes;
   tell_reckoned(connection, words, &meta, &reckoned);
 }

@@ -18,6 +18,7 @@
 #include "clock.h"
 #include "connection.h"
 #include "drive.h"
+#include "watchers.h"
 #include "words.h"
 
 enum {
@@ -196,6 +197,7 @@ static void end_connection(struct connection *connection) {
   sit(connection->file, NULL);
   close(connection->file); /* and so it leaves the epoll */
   connection_drop_value(connection);
+  watchers_leave(connection);
   free(connection->in.at);
   free(connection->out.at);
   free(connection);
@@ -319,6 +321,15 @@ static void attend_yielded(struct thread *thread) {
   }
 }
 
+/* Some of the connections that watch have lines to take. */
+static void attend_watchers(struct thread *thread) {
+  eventfd_t times;
+  uint32_t from = 0;
+  eventfd_read(thread->wake, &times);
+  for (struct connection *connection; (connection = watchers_of(thread, &from)) != NULL;)
+    if (!connection->is_yielded) attend(connection);
+}
+
 /* ------------------------------------------------------------------------------------------------ stats conns */
 
 static void tell(struct connection *to, int file, const char *name, const char *text) {
@@ -350,6 +361,7 @@ static void tell_address(struct connection *to, int file, const char *name,
 static const char *name_of(int told) {
   if (told >= DOES_STEPS) return "conn_parse_cmd";
   if (told >= DOES_SEND) return "conn_mwrite";
+  if (told == WATCHES) return "conn_watch";
   return told == READS_VALUE ? "conn_nread" : told == SKIPS_BYTES ? "conn_swallow" : "conn_read";
 }
 
@@ -389,11 +401,12 @@ bool network_tell(struct connection *connection) {
   return walk->number == (uint32_t)seats;
 }
 
-/* A connection that did nothing for too long; NULL: there is none. */
+/* A connection that did nothing for too long, and doesn't watch; NULL: there is none. */
 static struct connection *find_idle(struct thread *thread, uint32_t now) {
   pthread_mutex_lock(&thread->lock);
   struct connection *connection = thread->connections;
-  while (connection != NULL && (connection->is_yielded || now - connection->active <= (uint32_t)settings.idle_most))
+  while (connection != NULL && (connection->is_yielded || connection->state == WATCHES ||
+                                now - connection->active <= (uint32_t)settings.idle_most))
     connection = connection->next;
   pthread_mutex_unlock(&thread->lock);
   return connection;
@@ -432,11 +445,14 @@ void *network_serve(void *given) {
   const int patience = settings.idle_most > 0 ? 1000 : -1;
   uint32_t looked = clock_now();
   while (!atomic_load(&is_ending)) {
+    bool is_woken = false;
     int events = epoll_wait(thread->events, event, EVENTS_MOST, thread->yielded != NULL ? 0 : patience);
     for (int i = 0; i < events; i++) {
       struct connection *connection = event[i].data.ptr;
-      if (connection != NULL && !connection->is_yielded) attend(connection);
+      if (connection == NULL) is_woken = true;
+      else if (!connection->is_yielded) attend(connection);
     }
+    if (is_woken) attend_watchers(thread);
     attend_yielded(thread);
     if (settings.idle_most > 0 && clock_now() != looked) end_idle(thread, looked = clock_now());
   }

@@ -16,16 +16,8 @@ void text_line(struct connection *connection, char *line);
 void text_check_keys(struct connection *connection);
 void text_answer_keys(struct connection *connection);
 
-/* Prepares for a value of so many bytes, which come next. Where there is no room for it, it is to be skipped. */
-void text_begin_value(struct connection *connection, const struct key *key, uint32_t flags, uint32_t expires,
-                      size_t bytes);
-
-/* Makes room for more of the value than came, or for a part of that: then it is called again in the next turn. Where
- * there is none, the rest of it is to be skipped. */
-void text_grow_value(struct connection *connection);
-
-/* The value that was to come is there, with what stands behind it. */
-void text_end_value(struct connection *connection);
+/* How text and meta tell that a value isn't stored: by enum refusal. */
+extern const char *const TEXT_REFUSALS[];
 
 /* Whether the last word wants no reply, which is noted. */
 bool text_wants_no_reply(struct connection *connection, const struct words *words);
@@ -38,10 +30,8 @@ void meta_arithmetic(struct connection *connection, struct words *words);
 void meta_debug(struct connection *connection, struct words *words);
 void meta_no_operation(struct connection *connection, struct words *words);
 
-/* A meta set is done. */
-void meta_tell_stored(struct connection *connection, enum store_answer answer, uint64_t unique);
-
-/* What isn't about one key. */
+/* What isn't about one key. The first one flushes all items, at a time as clients give it. */
+void administer_flush_at(int64_t given);
 void administer_flush(struct connection *connection, struct words *words);
 void administer_version(struct connection *connection, struct words *words);
 void administer_verbosity(struct connection *connection, struct words *words);
@@ -54,10 +44,10 @@ void administer_shutdown(struct connection *connection, struct words *words);
 void administer_time(struct connection *connection, struct words *words);
 void administer_quit(struct connection *connection, struct words *words);
 
-/* Walks over the items of a class, or of all where it is 0: one that ends what expired, and two that tell what is
- * there. The last one tells at most so many items, and of one class alone. */
-void walk_crawling(struct connection *connection, uint32_t class);
-void walk_dumping(struct connection *connection, uint32_t class);
+/* Walks over the items of some classes, of each of which a bit is set: one that ends what expired, and two that tell
+ * what is there. The last one tells at most so many items, and of one class alone. */
+void walk_crawling(struct connection *connection, uint64_t classes);
+void walk_dumping(struct connection *connection, uint64_t classes);
 void walk_listing(struct connection *connection, uint32_t class, uint32_t most);
 
 /* `stats`, and what it tells of one thing. */

@@ -20,6 +20,8 @@ struct settings settings = { .port = 11211,
                              .evicts = true,
                              .has_unique = true,
                              .may_flush = true,
+                             .may_watch = true,
+                             .may_dump = true,
                              .begins_crawling = true,
                              .maintains = true,
                              .memory = 64 << 20,
@@ -51,6 +53,11 @@ static const struct option LONG[] = { { "port", required_argument, NULL, 'p' },
                                       { "disable-flush-all", no_argument, NULL, 'F' },
                                       { "enable-shutdown", no_argument, NULL, 'A' },
                                       { "protocol", required_argument, NULL, 'B' },
+                                      { "disable-dumping", no_argument, NULL, 'X' },
+                                      { "disable-watch", no_argument, NULL, 'W' },
+                                      { "enable-sasl", no_argument, NULL, 'S' },
+                                      { "auth-file", required_argument, NULL, 'Y' },
+                                      { "enable-ssl", no_argument, NULL, 'Z' },
                                       { "user", required_argument, NULL, 'u' },
                                       { "pidfile", required_argument, NULL, 'P' },
                                       { "lock-memory", no_argument, NULL, 'k' },
@@ -65,7 +72,7 @@ static const struct option LONG[] = { { "port", required_argument, NULL, 'p' },
                                       { NULL, 0, NULL, 0 } };
 
 static const char HELP[] =
-    "bump-server: memcached's text and meta protocols over bump\n"
+    "bump-server: memcached's text, meta and binary protocols over bump\n"
     "\n"
     "-p, --port=<number>          port to listen on (11211)\n"
     "-l, --listen=<address>       addresses or names to listen on, with :<port> behind or without, and with commas\n"
@@ -84,6 +91,9 @@ static const char HELP[] =
     "-C, --disable-cas            items have no number for cas\n"
     "-F, --disable-flush-all      refuse flush_all\n"
     "-A, --enable-shutdown        allow the command shutdown\n"
+    "-X, --disable-dumping        refuse stats cachedump and lru_crawler metadump\n"
+    "-W, --disable-watch          refuse watch\n"
+    "-B, --protocol=<name>        ascii, binary, or auto: that of a connection's first byte (auto)\n"
     "-u, --user=<name>            whom to become, where root starts it, who has to say so\n"
     "-P, --pidfile=<file>         write the number of the process there\n"
     "-k, --lock-memory            keep all memory out of swap\n"
@@ -107,9 +117,9 @@ static const char HELP[] =
     "    lru_maintainer, no_lru_maintainer  age lists in a thread of their own, or don't\n"
     "    modern, no_modern          both, or none\n"
     "\n"
-    "Not here: UDP (-U has no effect), authentication, encryption, storage on disk, the binary protocol.\n";
+    "Not here: UDP (-U has no effect), authentication (-S, -Y), encryption (-Z), storage on disk.\n";
 
-static void wrong(const char *what, const char *text) {
+static _Noreturn void wrong(const char *what, const char *text) {
   fprintf(stderr, "bump-server: %s: %s. --help tells the options.\n", what, text);
   exit(EXIT_WRONG_OPTION);
 }
@@ -144,6 +154,13 @@ static unsigned mode(const char *name, const char *text) {
   unsigned long number = strtoul(text, &end, 8);
   if (*text == 0 || *end != 0 || number > 0777) wrong(name, "not permissions in octal");
   return (unsigned)number;
+}
+
+static enum protocol protocol(const char *name, const char *text) {
+  if (strcmp(text, "auto") == 0) return PROTOCOL_AUTO;
+  if (strcmp(text, "ascii") == 0) return PROTOCOL_TEXT;
+  if (strcmp(text, "binary") != 0) wrong(name, "not ascii, binary or auto");
+  return PROTOCOL_BINARY;
 }
 
 /* Words of memcached's -o that say what is so here anyway, or that there is nothing to say of here. */
@@ -186,6 +203,7 @@ static void read_extended(char *text) {
     else if (strcmp(name, "lru_maintainer") == 0) settings.maintains = true;
     else if (strcmp(name, "no_lru_maintainer") == 0) settings.maintains = false;
     else if (value != NULL && read_valued(name, value)) continue;
+    else if (strncmp(name, "ssl_", 4) == 0) wrong(name, "there is no TLS here: let a proxy speak it");
     else if (!is_without_effect(name)) wrong("-o", name);
   }
 }
@@ -217,9 +235,10 @@ static bool read_place(int option) {
       if (whole("-U", optarg, 0, 65535) != 0 && settings.verbosity > 0)
         fprintf(stderr, "bump-server: there is no UDP here\n");
       return true;
-    case 'B':
-      if (strcmp(optarg, "ascii") != 0 && strcmp(optarg, "auto") != 0) wrong("-B", "there is only ascii");
-      return true;
+    case 'B': settings.protocol = protocol("-B", optarg); return true;
+    case 'S': wrong("-S", "there is no SASL here: whoever can connect may do all");
+    case 'Y': wrong("-Y", "there is no authentication here: whoever can connect may do all");
+    case 'Z': wrong("-Z", "there is no TLS here: let a proxy speak it");
     case 'V': printf("bump-server over bump %u, as memcached %s\n", bump_version(), SERVER_VERSION); exit(EXIT_SETTLED);
     case 'h': fputs(HELP, stdout); exit(EXIT_SETTLED);
     default: return false;
@@ -241,6 +260,8 @@ static void read_measure(int option) {
     case 'C': settings.has_unique = false; return;
     case 'F': settings.may_flush = false; return;
     case 'A': settings.may_shut_down = true; return;
+    case 'W': settings.may_watch = false; return;
+    case 'X': settings.may_dump = false; return;
     case 'o': read_extended(optarg); return;
     case OPTION_WALK: settings.walks = true; return;
     default: wrong("the command line", "no such option");
@@ -258,7 +279,7 @@ static void read_environment(void) {
 void settings_read(int count, char **words) {
   int option;
   opterr = 0;
-  while ((option = getopt_long(count, words, "p:l:s:a:u:P:kdrLvU:B:Vhm:t:c:b:R:I:f:n:MCFAo:", LONG, NULL)) != -1)
+  while ((option = getopt_long(count, words, "p:l:s:a:u:P:kdrLvU:B:SY:ZVhm:t:c:b:R:I:f:n:MCFAWXo:", LONG, NULL)) != -1)
     if (!read_place(option)) read_measure(option);
   if (optind < count) wrong(words[optind], "not an option");
   if (settings.hot_percent + settings.warm_percent > 80)

@@ -11,6 +11,9 @@
 /* As memcached's where it has them: sysexits.h names the two of a start that failed. */
 enum { EXIT_SETTLED = 0, EXIT_LEFT = 1, EXIT_WRONG_OPTION = 64, EXIT_NO_START = 71 };
 
+/* Which protocol a connection speaks: one of them, or that which its first byte is of. */
+enum protocol { PROTOCOL_AUTO, PROTOCOL_TEXT, PROTOCOL_BINARY };
+
 /* A worker of bump's for each thread: a store has at most 64. */
 enum { THREADS_MOST = 64 };
 
@@ -34,6 +37,9 @@ struct settings {
   bool has_unique; /* each item has a number for cas */
   bool may_flush;
   bool may_shut_down;
+  bool may_watch;
+  bool may_dump;
+  enum protocol protocol;
   bool locks_memory;
   bool is_daemon;
   bool dumps_core;

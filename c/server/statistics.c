@@ -13,6 +13,7 @@
 #include "protocol.h"
 #include "shelf.h"
 #include "table.h"
+#include "watchers.h"
 
 static void tell(struct connection *connection, const char *name, uint64_t number) {
   connection_print(connection, "STAT %s %" PRIu64 "\r\n", name, number);
@@ -145,10 +146,7 @@ static const char *const PAGES[] = { "slab_reassign_rescues",
                                      "slab_reassign_running",
                                      "slabs_moved",
                                      NULL };
-static const char *const LOGS[] = { "log_worker_dropped",   "log_worker_written",
-                                    "log_watcher_skipped",  "log_watcher_sent",
-                                    "log_watchers",         "unexpected_napi_ids",
-                                    "round_robin_fallback", NULL };
+static const char *const NETWORK[] = { "unexpected_napi_ids", "round_robin_fallback", NULL };
 static const char *const AUTHENTICATION[] = { "auth_cmds", "auth_errors", NULL };
 
 static void tell_items_of_all(struct connection *connection, uint64_t items) {
@@ -166,6 +164,15 @@ static void tell_items_of_all(struct connection *connection, uint64_t items) {
   tell(connection, "moves_within_lru", all.counts.moves_within_lru);
   tell(connection, "direct_reclaims", all.counts.direct_reclaims);
   tell(connection, "lru_bumps_dropped", all.dropped);
+}
+
+static void tell_watching(struct connection *connection) {
+  struct watchers_measure measure = watchers_measure();
+  tell(connection, "log_worker_dropped", 0);
+  tell(connection, "log_worker_written", measure.written);
+  tell(connection, "log_watcher_skipped", measure.skipped);
+  tell(connection, "log_watcher_sent", measure.sent);
+  tell(connection, "log_watchers", measure.watching);
 }
 
 static void tell_general(struct connection *connection) {
@@ -195,7 +202,8 @@ static void tell_general(struct connection *connection) {
   }
   if (settings.maintains) tell(connection, "lru_maintainer_juggles", maintainer_rounds().juggles);
   tell_counters(connection, COUNT_malloc_fails, COUNT_malloc_fails);
-  tell_nothing_of(connection, LOGS);
+  tell_watching(connection);
+  tell_nothing_of(connection, NETWORK);
   tell_items_of_all(connection, table.items);
 }
 
@@ -210,6 +218,9 @@ static void tell_lists(struct connection *connection) {
   tell_word(connection, "temp_lru", yes_or_no(ttl >= 0));
   connection_print(connection, "STAT temporary_ttl %d\r\n", ttl);
 }
+
+/* As memcached names them. */
+static const char *const PROTOCOLS[] = { "auto-negotiate", "ascii", "binary" };
 
 static void tell_settings(struct connection *connection) {
   tell(connection, "maxbytes", atomic_load(&settings.memory));
@@ -230,7 +241,7 @@ static void tell_settings(struct connection *connection) {
   tell(connection, "reqs_per_event", (uint64_t)settings.requests_at_once);
   tell_word(connection, "cas_enabled", yes_or_no(settings.has_unique));
   tell(connection, "tcp_backlog", (uint64_t)settings.backlog);
-  tell_word(connection, "binding_protocol", "ascii");
+  tell_word(connection, "binding_protocol", PROTOCOLS[settings.protocol]);
   tell_word(connection, "auth_enabled_sasl", "no");
   tell_word(connection, "auth_enabled_ascii", "no");
   tell(connection, "item_size_max", settings.item_most);
@@ -242,7 +253,7 @@ static void tell_settings(struct connection *connection) {
   tell_word(connection, "lru_crawler", yes_or_no(atomic_load(&settings.crawls)));
   tell(connection, "tail_repair_time", 0);
   tell_word(connection, "flush_enabled", yes_or_no(settings.may_flush));
-  tell_word(connection, "dump_enabled", "yes");
+  tell_word(connection, "dump_enabled", yes_or_no(settings.may_dump));
   tell_word(connection, "hash_algorithm", "murmur3");
   tell_lists(connection);
   tell(connection, "read_buf_mem_limit", 0);
@@ -455,7 +466,9 @@ static bool step_bump(struct connection *connection) {
 /* stats cachedump CLASS LIMIT */
 static void dump(struct connection *connection, const struct words *words) {
   uint32_t class, most;
-  if (words->count < 4) {
+  if (!settings.may_dump) {
+    connection_say(connection, "CLIENT_ERROR stats cachedump not allowed");
+  } else if (words->count < 4) {
     connection_say(connection, "CLIENT_ERROR bad command line");
   } else if (!number_u32(words->word[2].at, &class) || !number_u32(words->word[3].at, &most)) {
     connection_say(connection, WRONG_FORMAT);

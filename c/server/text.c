@@ -3,14 +3,14 @@
 #include <inttypes.h>
 #include <stdio.h>
 #include <string.h>
-#include "aging.h"
 #include "clock.h"
+#include "keys.h"
 #include "protocol.h"
-#include "shelf.h"
 #include "table.h"
+#include "values.h"
 
-/* GROUP_MOST: keys of a get that memory is asked for at once. ROOM_LEAST: for a value that is under way. */
-enum { VALUE_LINE_MOST = 64 + KEY_MOST, GROUP_MOST = 32, ROOM_LEAST = ROW_VALUE_MOST + 2 };
+/* GROUP_MOST: keys of a get that memory is asked for at once. */
+enum { VALUE_LINE_MOST = 64 + KEY_MOST, GROUP_MOST = 32 };
 
 bool text_wants_no_reply(struct connection *connection, const struct words *words) {
   connection->is_quiet = words->count > 1 && word_is(&words->word[words->count - 1], "noreply");
@@ -42,20 +42,10 @@ static void put_item(struct connection *connection, const struct item *item, boo
 
 static void answer_key(struct connection *connection, const struct key *key, uint32_t now) {
   const struct asked_keys *keys = &connection->keys;
-  struct thread *thread = connection->thread;
-  struct held held = cache_hold(thread, key, now);
-  count(&thread->counters, keys->sets_expiry ? COUNT_cmd_touch : COUNT_cmd_get, 1);
-  if (held.item == NULL) {
-    count(&thread->counters, keys->sets_expiry ? COUNT_touch_misses : COUNT_get_misses, 1);
-    return;
-  }
-  if (keys->sets_expiry) atomic_store(&held.item->expires, keys->expires);
-  put_item(connection, held.item, keys->tells_unique);
-  if (keys->sets_expiry) shelf_count_event(held.item->shelf, thread->number, SHELF_touch_hits);
-  else cache_count_hit(thread, held.item);
-  cache_hit(thread, held.item, now);
-  cache_release(thread, held.item);
-  count(&thread->counters, keys->sets_expiry ? COUNT_touch_hits : COUNT_get_hits, 1);
+  struct item *item = key_fetch(connection->thread, key, now, keys->sets_expiry ? &keys->expires : NULL);
+  if (item == NULL) return;
+  put_item(connection, item, keys->tells_unique);
+  cache_release(connection->thread, item);
 }
 
 /* Cuts off the next keys, at most GROUP_MOST, and answers how many. Memory is asked for what all of them need. */
@@ -159,7 +149,10 @@ static bool is_get(struct connection *connection, char *line) {
 
 /* ---------------------------------------------------------------------------------------------------- storing */
 
-static void tell_stored(struct connection *connection, enum store_answer answer) {
+const char *const TEXT_REFUSALS[] = { TOO_LARGE, OUT_OF_MEMORY, "CLIENT_ERROR bad data chunk" };
+
+static void tell_stored(struct connection *connection, enum store_answer answer, uint64_t unique) {
+  (void)unique;
   switch (answer) {
     case STORE_DONE: connection_say(connection, "STORED"); return;
     case STORE_EXISTS: connection_say(connection, "EXISTS"); return;
@@ -171,138 +164,12 @@ static void tell_stored(struct connection *connection, enum store_answer answer)
   }
 }
 
-/* The key's value with another one behind it or before it, as a new item; NULL: no memory, or too large for an item. */
-static struct item *joined(struct connection *connection, const struct key *key, const struct item *old,
-                           const struct item *more, bool behind) {
-  uint32_t expires = atomic_load(&old->expires);
-  size_t bytes = (size_t)old->bytes + more->bytes;
-  if (class_for(item_reckoned(key->bytes, old->flags, bytes)) == 0) return NULL;
-  struct item *item = cache_new_item(connection->thread, key, old->flags, expires, bytes);
-  if (item == NULL) return NULL;
-  connection->work -= (int32_t)bytes;
-  const struct item *first = behind ? old : more, *second = behind ? more : old;
-  memcpy(item->value, first->value, first->bytes);
-  memcpy(item->value + first->bytes, second->value, second->bytes);
-  item->has_binary_key = old->has_binary_key;
-  return item;
-}
-
-/* One try to append or prepend: STORE_AGAIN where another thread stored the key meanwhile. */
-static enum store_answer try_join(struct connection *connection, const struct item *more,
-                                  const struct store_terms *terms, uint64_t *unique) {
-  struct thread *thread = connection->thread;
-  const struct key key = { more->key, more->key_bytes, more->hash };
-  struct held held = cache_hold(thread, &key, clock_now());
-  if (held.item == NULL) return STORE_NOT;
-  if (terms->unique != 0 && atomic_load(&held.item->unique) != terms->unique) {
-    cache_release(thread, held.item);
-    return STORE_EXISTS;
-  }
-  const struct store_terms swap = { .how = STORE_SWAP, .expected = item_name(held.item) };
-  struct item *item = joined(connection, &key, held.item, more, terms->how == STORE_APPEND);
-  cache_release(thread, held.item);
-  return item != NULL ? cache_store(thread, item, &swap, unique) : STORE_NOT;
-}
-
-static enum store_answer store(struct connection *connection, struct item *item, uint64_t *unique) {
-  struct thread *thread = connection->thread;
-  const struct store_terms *terms = &connection->storing.terms;
-  if (terms->how != STORE_APPEND && terms->how != STORE_PREPEND) return cache_store(thread, item, terms, unique);
-  enum store_answer answer;
-  do answer = try_join(connection, item, terms, unique);
-  while (answer == STORE_AGAIN);
-  item_free(item);
-  return answer;
-}
-
-/* Tells that a value isn't stored, and skips what is left of it. */
-static void refuse_value(struct connection *connection, const struct key *key, bool fits, uint64_t left) {
-  const struct storing *storing = &connection->storing;
-  count(connection_counters(connection), fits ? COUNT_store_no_memory : COUNT_store_too_large, 1);
-  if (storing->is_meta) connection_say_always(connection, fits ? OUT_OF_MEMORY : TOO_LARGE);
-  else connection_say(connection, fits ? OUT_OF_MEMORY : TOO_LARGE);
-  if (storing->is_meta || storing->terms.how == STORE_SET)
-    cache_end(connection->thread, key); /* its value is out of date */
-  connection->state = SKIPS_BYTES;
-  connection->skip = left;
-}
-
-/* The same, of one that was under way. */
-static void give_value_up(struct connection *connection, uint64_t left) {
-  const struct item *item = connection->storing.item;
-  const struct key key = { item->key, item->key_bytes, item->hash };
-  refuse_value(connection, &key, true, left);
-  connection_drop_value(connection);
-}
-
-static bool complete_value(struct connection *connection) {
-  struct storing *storing = &connection->storing;
-  if (!storing->is_under_way) return true;
-  storing->is_under_way = false;
-  return cache_complete_item(connection->thread, storing->item);
-}
-
-void text_end_value(struct connection *connection) {
-  struct item *item = connection->storing.item;
-  if (!complete_value(connection)) {
-    give_value_up(connection, 0);
-    return;
-  }
-  connection->storing.item = NULL;
-  connection->state = READS_LINE;
-  count(connection_counters(connection), COUNT_cmd_set, 1);
-  shelf_count_event(item->shelf, connection->thread->number, SHELF_cmd_set);
-  if (memcmp(item->value + item->bytes, "\r\n", 2) != 0) {
-    item_free(item);
-    if (connection->storing.is_meta) connection_say_always(connection, "CLIENT_ERROR bad data chunk");
-    else connection_say(connection, "CLIENT_ERROR bad data chunk");
-    return;
-  }
-  uint64_t unique = 0;
-  enum store_answer answer = store(connection, item, &unique);
-  if (connection->storing.is_meta) meta_tell_stored(connection, answer, unique);
-  else tell_stored(connection, answer);
-}
-
-/* Memory for what came of a value and for as much again: so it is at most twice what its client sent, or ROOM_LEAST.
- * What waits in the socket came, too: so most values have their memory at once, and aren't copied to get more. But for
- * those that have to wait for room. */
-static size_t room_for(const struct connection *connection, size_t all, size_t came) {
-  if (came * 2 < all && !room_is_owed()) came += connection_waiting(connection);
-  size_t room = came * 2 > ROOM_LEAST ? came * 2 : ROOM_LEAST;
-  return room < all ? room : all;
-}
-
-/* One that is all there already, as most are, is never under way. */
-void text_begin_value(struct connection *connection, const struct key *key, uint32_t flags, uint32_t expires,
-                      size_t bytes) {
-  struct storing *storing = &connection->storing;
-  struct thread *thread = connection->thread;
-  size_t all = bytes + 2, came = buffer_size(&connection->in);
-  bool fits = class_for(item_reckoned(key->bytes, flags, bytes)) != 0;
-  storing->received = 0;
-  storing->is_under_way = came < all;
-  storing->room = storing->is_under_way ? room_for(connection, all, came) : all;
-  if (!fits) storing->item = NULL;
-  else if (!storing->is_under_way) storing->item = cache_new_item(thread, key, flags, expires, bytes);
-  else storing->item = cache_begin_item(thread, key, flags, expires, bytes, storing->room);
-  if (storing->item != NULL) connection->state = READS_VALUE;
-  else refuse_value(connection, key, fits, all);
-}
-
-void text_grow_value(struct connection *connection) {
-  struct storing *storing = &connection->storing;
-  if (cache_waits_for_room(connection->thread, storing->item)) {
-    connection->work = 0;
-    return;
-  }
-  size_t all = (size_t)storing->item->bytes + 2;
-  size_t room = room_for(connection, all, storing->received + buffer_size(&connection->in));
-  if (cache_grow_item(connection->thread, storing->item, room)) storing->room = room;
-  else give_value_up(connection, all - storing->received);
+static void tell_refused(struct connection *connection, enum refusal refusal) {
+  connection_say(connection, TEXT_REFUSALS[refusal]);
 }
 
 static void update(struct connection *connection, struct words *words, enum store_how how) {
+  static const struct speaker SPEAKER = { 2, tell_stored, tell_refused };
   uint32_t flags;
   int32_t expires;
   size_t bytes;
@@ -315,9 +182,10 @@ static void update(struct connection *connection, struct words *words, enum stor
     return;
   }
   connection->storing.terms = (struct store_terms){ .how = how, .unique = unique };
-  connection->storing.is_meta = false;
+  connection->storing.speaker = &SPEAKER;
+  connection->storing.outdates = how == STORE_SET;
   struct key key = table_key(word[1].at, word[1].bytes);
-  text_begin_value(connection, &key, flags, clock_expiry(expires), bytes);
+  value_begin(connection, &key, flags, clock_expiry(expires), bytes);
 }
 
 static void set(struct connection *connection, struct words *words) { update(connection, words, STORE_SET); }
@@ -332,7 +200,6 @@ static void cas(struct connection *connection, struct words *words) { update(con
 static void arithmetic(struct connection *connection, struct words *words, bool goes_up) {
   struct word *word = words->word;
   struct delta delta = { .goes_up = goes_up };
-  struct delta_done done = { 0 };
   text_wants_no_reply(connection, words);
   if (word[1].bytes > KEY_MOST) {
     connection_say(connection, WRONG_FORMAT);
@@ -344,11 +211,11 @@ static void arithmetic(struct connection *connection, struct words *words, bool 
   }
   struct key key = table_key(word[1].at, word[1].bytes);
   char text[24] = { 0 };
-  enum delta_answer answer = cache_add(connection->thread, &key, &delta, &done);
-  connection->work -= (int32_t)done.bytes;
-  switch (answer) {
+  struct reckoned reckoned = key_reckon(connection->thread, &key, &delta, &(struct beginning){ 0 });
+  connection->work -= (int32_t)reckoned.done.bytes;
+  switch (reckoned.answer) {
     case DELTA_DONE:
-      put_u64(text, done.number);
+      put_u64(text, reckoned.done.number);
       connection_say(connection, text);
       return;
     case DELTA_NOT_FOUND: connection_say(connection, "NOT_FOUND"); return;
@@ -376,10 +243,8 @@ static void delete_key(struct connection *connection, struct words *words) {
     return;
   }
   struct key key = table_key(word[1].at, word[1].bytes);
-  const struct shelf *shelf = cache_end(connection->thread, &key);
-  count(connection_counters(connection), shelf != NULL ? COUNT_delete_hits : COUNT_delete_misses, 1);
-  if (shelf != NULL) shelf_count_event(shelf->number, connection->thread->number, SHELF_delete_hits);
-  connection_say(connection, shelf != NULL ? "DELETED" : "NOT_FOUND");
+  enum end_answer answer = key_end(connection->thread, &key, &(struct end_terms){ .command = "delete" });
+  connection_say(connection, answer == END_DONE ? "DELETED" : "NOT_FOUND");
 }
 
 static void touch(struct connection *connection, struct words *words) {
@@ -395,9 +260,7 @@ static void touch(struct connection *connection, struct words *words) {
     return;
   }
   struct key key = table_key(word[1].at, word[1].bytes);
-  bool there = cache_set_expiry(connection->thread, &key, clock_expiry(given));
-  count(connection_counters(connection), COUNT_cmd_touch, 1);
-  count(connection_counters(connection), there ? COUNT_touch_hits : COUNT_touch_misses, 1);
+  bool there = key_touch(connection->thread, &key, clock_expiry(given));
   connection_say(connection, there ? "TOUCHED" : "NOT_FOUND");
 }
 

@@ -20,6 +20,7 @@ struct thread {
   pthread_mutex_t lock;           /* of the list */
   struct connection *connections; /* its own */
   struct connection *yielded;     /* those that have more to do, in a ring: the last one */
+  int file;                       /* of the connection that it serves now */
   struct counters counters;
 };
 

@@ -1,7 +1,6 @@
 /* Walks over items, for commands that tell of many or look at all. Each turn does a part, and others are served
  * between: so items may come, move and go meanwhile. */
 #define _GNU_SOURCE
-#include <ctype.h>
 #include <inttypes.h>
 #include <pthread.h>
 #include <string.h>
@@ -12,11 +11,11 @@
 /* LISTED_MOST: memcached tells two megabytes at most. */
 enum { CRAWLED_WITH_LOCK = 100, DUMPED_WITH_LOCK = 50, LISTED_MOST = 20000 };
 
-/* The open shelf that a walk has come to, of the class that it is about; NULL: it is over. */
+/* The open shelf that a walk has come to, of a class that it is about; NULL: it is over. */
 static struct shelf *walked_shelf(struct walk *walk) {
   for (; walk->number < shelf_count(); walk->number++) {
     struct shelf *shelf = shelf_at(walk->number);
-    if (shelf_is_open(shelf) && (walk->class == 0 || walk->class == shelf->class)) return shelf;
+    if (shelf_is_open(shelf) && (walk->classes >> shelf->class & 1) != 0) return shelf;
   }
   return NULL;
 }
@@ -41,36 +40,19 @@ static bool step_crawl(struct connection *connection) {
   return false;
 }
 
-void walk_crawling(struct connection *connection, uint32_t class) {
+void walk_crawling(struct connection *connection, uint64_t classes) {
   connection_walk(connection, step_crawl, "OK");
-  connection->walk.class = class;
+  connection->walk.classes = classes;
 }
 
 /* --------------------------------------------------------------------------------------------------- metadump */
 
-/* A key of any bytes, as a part of one line: what is no letter, digit, or one of four signs is told by its number. */
-static void put_encoded(struct connection *connection, const char *key, size_t bytes) {
-  static const char DIGITS[] = "0123456789ABCDEF";
-  char *at = connection_room(connection, bytes * 3);
-  if (at == NULL) return;
-  for (size_t i = 0; i < bytes; i++) {
-    unsigned char byte = (unsigned char)key[i];
-    if (byte != 0 && (isalnum(byte) || strchr("-._~", byte) != NULL)) {
-      *at++ = (char)byte;
-      continue;
-    }
-    *at++ = '%';
-    *at++ = DIGITS[byte >> 4];
-    *at++ = DIGITS[byte & 15];
-  }
-  connection_put_to(connection, at);
-}
-
 static void dump_item(struct connection *connection, uint32_t class, const bump_seen *seen) {
   const struct item *item = (const struct item *)(uintptr_t)seen->label;
   uint32_t expires = atomic_load(&item->expires);
+  char name[KEY_MOST * 3], *end = put_encoded(name, item->key, item->key_bytes);
   connection_put(connection, "key=", 4);
-  put_encoded(connection, item->key, item->key_bytes);
+  connection_put(connection, name, (size_t)(end - name));
   connection_print(connection, " exp=%" PRId64 " la=%" PRId64 " cas=%" PRIu64 " fetch=%s cls=%" PRIu32 " size=%zu\n",
                    expires != 0 ? clock_unix(expires) : -1, clock_unix((uint32_t)seen->time),
                    atomic_load(&item->unique), seen->fetched ? "yes" : "no", class,
@@ -95,9 +77,9 @@ static bool step_dump(struct connection *connection) {
   return false;
 }
 
-void walk_dumping(struct connection *connection, uint32_t class) {
+void walk_dumping(struct connection *connection, uint64_t classes) {
   connection_walk(connection, step_dump, "END");
-  connection->walk.class = class;
+  connection->walk.classes = classes;
 }
 
 /* -------------------------------------------------------------------------------------------------- cachedump */
@@ -156,6 +138,6 @@ static bool step_list(struct connection *connection) {
 
 void walk_listing(struct connection *connection, uint32_t class, uint32_t most) {
   connection_walk(connection, step_list, "END");
-  connection->walk.class = class == 0 ? UINT32_MAX : class; /* there is no class 0, and here it doesn't stand for all */
+  connection->walk.classes = UINT64_C(1) << class; /* there is no class 0 */
   connection->walk.left = most == 0 || most > LISTED_MOST ? LISTED_MOST : most;
 }

@@ -65,6 +65,21 @@ bool number_real(const char *text, double *number) {
   return is_read(text, end);
 }
 
+char *put_encoded(char *at, const char *key, size_t bytes) {
+  static const char DIGITS[] = "0123456789ABCDEF";
+  for (size_t i = 0; i < bytes; i++) {
+    unsigned char byte = (unsigned char)key[i];
+    if (byte != 0 && (isalnum(byte) || strchr("-._~", byte) != NULL)) {
+      *at++ = (char)byte;
+      continue;
+    }
+    *at++ = '%';
+    *at++ = DIGITS[byte >> 4];
+    *at++ = DIGITS[byte & 15];
+  }
+  return at;
+}
+
 char *put_u64(char *at, uint64_t number) {
   if (number < 10) { /* as most flags are */
     *at = (char)('0' + number);

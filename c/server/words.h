@@ -47,6 +47,10 @@ bool number_real(const char *text, double *number);
  * be 5, and the rest of the value commands. */
 bool number_length(const char *text, size_t *length);
 
+/* Writes a key of any bytes as a part of one line, and answers the place behind it: what is no letter, digit, or one of
+ * four signs is told by its number, in three bytes. */
+char *put_encoded(char *at, const char *key, size_t bytes);
+
 /* Writes a number's digits, and answers the place behind them: at most 20, and no 0 is put there. */
 char *put_u64(char *at, uint64_t number);
 
