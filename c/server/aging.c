@@ -13,7 +13,8 @@ enum {
   EVICTED_WITH_LOCK = 10,
   EVICTED_AT_ONCE = 40,
   OWED_MOST = 16,
-  LEAST_PART = 16 /* of the memory, which a class may have whatever the others want */
+  FEW = 8, /* items of a class, if they take less than a FEW_PART-th of the memory */
+  FEW_PART = 16
 };
 
 /* A pull names a list by the number that the list has. */
@@ -223,13 +224,17 @@ uint32_t shelf_juggle(struct shelf *shelf, struct counters *counters, uint32_t n
   return moves;
 }
 
-/* A class that has little gives nothing to others: so what was stored last isn't evicted for being large. */
+/* Then it gives nothing to others: so what was stored last isn't evicted for being large. */
+static bool has_few(uint32_t class) {
+  uint64_t charged = shelf_class_charged(class);
+  return charged < (uint64_t)class_size(class) * FEW && charged < atomic_load(&settings.memory) / FEW_PART;
+}
+
 void shelves_compare(void) {
-  uint64_t least = atomic_load(&settings.memory) / LEAST_PART;
   struct shelf *found = NULL;
   for (uint32_t number = 0; number < shelf_count(); number++) {
     struct shelf *shelf = shelf_at(number);
-    if (!shelf_is_open(shelf) || shelf_class_charged(shelf->class) < least) continue;
+    if (!shelf_is_open(shelf) || has_few(shelf->class)) continue;
     if (found == NULL || weight(shelf) > weight(found)) found = shelf;
   }
   atomic_store(&heaviest, found);

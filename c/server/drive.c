@@ -66,7 +66,7 @@ static bool step_value(struct connection *connection) {
   struct storing *storing = &connection->storing;
   size_t left = storing->room - storing->received;
   size_t bytes = buffer_size(in) < left ? buffer_size(in) : left;
-  memcpy(storing->item->value + storing->received, in->at + in->begin, bytes);
+  if (bytes > 0) memcpy(storing->item->value + storing->received, in->at + in->begin, bytes);
   storing->received += bytes;
   in->begin += bytes;
   if (bytes < left) return false;

@@ -9,7 +9,7 @@
 #include "memory.h"
 
 /* The lower bits of a hash choose the stripe, those above the bucket. */
-enum { STRIPE_BITS = 12, STRIPES = 1 << STRIPE_BITS, BUCKETS_FIRST = 16 };
+enum { STRIPE_BITS = 12, STRIPES = 1 << STRIPE_BITS, BUCKETS_FIRST = 4 };
 
 /* One line of a processor's cache: so who takes the lock has the rest of it too. */
 struct stripe {
