@@ -13,14 +13,14 @@
  * would choose by what was freed before. */
 enum { MAPPED_LEAST = 1 << 17, TRIMMED_LEAST = 1 << 20, BEFORE_BLOCK = sizeof(size_t) };
 
-/* Parts of -m: the most that counts of what isn't items, of what connections take, and of what is exceeded. That is what
- * the process has beyond -m, a SPARE_PART-th of it, and what it had at its start: since some memory always lies free
- * between pieces. It doesn't grow less by itself when items are evicted. But those that come take the places of those
- * that went, and so it grows no more. */
+/* Parts of -m: the most that counts of what isn't items, of what connections take, and of what is exceeded. That is
+ * what the process has beyond -m, a SPARE_PART-th of it, and what it had at its start: since some memory always lies
+ * free between pieces. It doesn't grow less by itself when items are evicted. But those that come take the places of
+ * those that went, and so it grows no more. */
 enum { NOT_ITEMS_PART = 2, CONNECTIONS_PART = 4, EXCEEDED_PART = 4, SPARE_PART = 50 };
 
-/* Free pages are given back where at least a FREE_PART-th of -m is free, and where that is no more than GIVEN_BACK_MOST:
- * in a larger heap it would take too long. */
+/* Free pages are given back where at least a FREE_PART-th of -m is free, and where -m is no more than GIVEN_BACK_MOST: in
+ * a larger heap it would take too long. */
 enum { FREE_PART = 16, PAUSE_TIMES = 32, PAUSE_LEAST = 100000000, SECOND = 1000000000, GIVEN_BACK_MOST = 1 << 30 };
 
 static _Atomic uint64_t taken[MEMORY_KIND_COUNT];
@@ -72,7 +72,8 @@ static int64_t nanoseconds(void) {
 }
 
 /* Gives back pages of the heap in which nothing is any more, where many are: as where small values made room for large
- * ones, or for what isn't in the heap. malloc waits meanwhile, so it isn't done often. false: it is to be done later. */
+ * ones, or for what isn't in the heap. malloc waits meanwhile, so it isn't done often. false: it is to be done later.
+ */
 static bool give_back_pages(uint64_t all) {
 #ifdef __GLIBC__
   static int64_t not_before;
@@ -95,7 +96,8 @@ static bool give_back_pages(uint64_t all) {
  * what was known before. */
 void memory_look(void) {
   static uint64_t known;
-  uint64_t all = atomic_load_explicit(&settings.memory, memory_order_relaxed), may = all + all / SPARE_PART + at_start;
+  uint64_t all = atomic_load_explicit(&settings.memory, memory_order_relaxed);
+  uint64_t may = all + all / SPARE_PART + at_start;
   atomic_store_explicit(&now_resident, resident(), memory_order_relaxed);
   bool is_known = memory_resident() <= may || give_back_pages(all);
   uint64_t over = memory_resident() > may ? memory_resident() - may : 0;

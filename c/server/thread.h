@@ -23,7 +23,7 @@ struct thread {
   pthread_mutex_t lock;           /* of the list */
   struct connection *connections; /* its own */
   struct connection *yielded;     /* those that have more to do, in a ring: the last one */
-  char *spare_block[SPARE_BLOCKS_MOST];
+  char *spare_block[SPARE_BLOCKS_MOST]; /* of buffers: buffer.h */
   int spare_blocks;
   struct counters counters;
 };
