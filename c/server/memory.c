@@ -19,7 +19,7 @@ enum { MAPPED_LEAST = 1 << 17, TRIMMED_LEAST = 1 << 20, BEFORE_BLOCK = sizeof(si
  * those that went, and so it grows no more. */
 enum { NOT_ITEMS_PART = 2, CONNECTIONS_PART = 4, EXCEEDED_PART = 4, SPARE_PART = 50 };
 
-/* Free pages are given back where at least a FREE_PART-th of -m is free, and where -m is no more than GIVEN_BACK_MOST: in
+/* Free pages are given back where at least a FREE_PART-th of -m is free, and where -m is at most GIVEN_BACK_MOST: in
  * a larger heap it would take too long. */
 enum { FREE_PART = 16, PAUSE_TIMES = 32, PAUSE_LEAST = 100000000, SECOND = 1000000000, GIVEN_BACK_MOST = 1 << 30 };
 
@@ -92,7 +92,7 @@ static bool give_back_pages(uint64_t all) {
   return true;
 }
 
-/* Whether that much is exceeded is known once free pages were given back. Until then a part of it doesn't count, but for
+/* How much is exceeded is known once free pages were given back. Until then a FREE_PART-th of -m is let pass, beside
  * what was known before. */
 void memory_look(void) {
   static uint64_t known;
