@@ -119,7 +119,7 @@ static void crawl_or_dump(struct connection *connection, const struct word *word
     connection_say(connection, "BADCLASS invalid class id");
   } else if (dumps && !settings.may_dump) {
     connection_say(connection, "ERROR metadump not allowed");
-  } else if (dumps && buffer_size(&connection->out) > 0) {
+  } else if (dumps && !sending_is_empty(connection)) {
     connection_say(connection, "ERROR cannot pipeline other commands before metadump");
   } else if (dumps) {
     walk_dumping(connection, classes);

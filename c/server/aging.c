@@ -1,4 +1,5 @@
 #include "aging.h"
+#include "memory.h"
 #include "network.h"
 #include "table.h"
 #include "watchers.h"
@@ -12,7 +13,9 @@ enum {
   EVICTIONS_MOST = 100000,
   EVICTED_WITH_LOCK = 10,
   EVICTED_AT_ONCE = 40,
-  OWED_MOST = 16
+  OWED_MOST = 16,
+  FEW = 8, /* items of a class, if they take less than a FEW_PART-th of the memory */
+  FEW_PART = 16
 };
 
 /* A pull names a list by the number that the list has. */
@@ -20,8 +23,8 @@ _Static_assert((int)BUMP_TAIL_HOT == (int)BUMP_PLACE_HOT && (int)BUMP_TAIL_WARM 
                    (int)BUMP_TAIL_COLD == (int)BUMP_PLACE_COLD,
                "lists and pulls have the same numbers");
 
-/* The shelf whose next item to be evicted is the oldest. */
-static _Atomic(struct shelf *) oldest;
+/* The shelf whose next item to be evicted has the greatest weight. */
+static _Atomic(struct shelf *) heaviest;
 
 static struct item *item_of(const bump_seen *seen) { return (struct item *)(uintptr_t)seen->label; }
 
@@ -154,10 +157,10 @@ bool shelf_evict(struct shelf *shelf, struct counters *counters, uint32_t now) {
   return true;
 }
 
-/* Whether more is charged than the memory, and that part of it where it isn't 0. */
+/* Whether more is taken than the memory, and that part of it where it isn't 0. */
 static bool is_over(uint64_t part) {
   uint64_t memory = atomic_load_explicit(&settings.memory, memory_order_relaxed);
-  return items_charged() + settings.bytes_before > memory + (part != 0 ? memory / part : 0);
+  return memory_used() + settings.bytes_before > memory + (part != 0 ? memory / part : 0);
 }
 
 bool room_is_owed(void) { return settings.evicts && is_over(0); }
@@ -173,11 +176,18 @@ static bool relieve(struct shelf *shelf, struct counters *counters, uint32_t now
   return evicted > 0 || !is_over(0);
 }
 
-/* The shelf that gives: this one, unless its items are much younger than those of the oldest one. */
+/* What speaks for evicting a shelf's next item: its age, and its size by the cube root. By ages alone a large value
+ * takes the room of thousands of small ones that are asked for as often; by bytes alone small ones that nobody asks for
+ * any more would keep the room for days. */
+static double weight(struct shelf *shelf) {
+  return ((double)atomic_load(&shelf->age) + 1) * class_weight(shelf->class);
+}
+
+/* The shelf that gives: this one, unless another one's next item has a much greater weight. */
 static struct shelf *giver(struct shelf *shelf) {
-  struct shelf *other = atomic_load(&oldest);
+  struct shelf *other = atomic_load(&heaviest);
   if (other == NULL || other == shelf) return shelf;
-  return atomic_load(&shelf->age) < atomic_load(&other->age) * atomic_load(&settings.balance) ? other : shelf;
+  return weight(shelf) < weight(other) * atomic_load(&settings.balance) ? other : shelf;
 }
 
 static struct shelf *largest(void) {
@@ -216,13 +226,20 @@ uint32_t shelf_juggle(struct shelf *shelf, struct counters *counters, uint32_t n
   return moves;
 }
 
+/* Then it gives nothing to others: so what was stored last isn't evicted for being large. */
+static bool has_few(uint32_t class) {
+  uint64_t charged = shelf_class_charged(class);
+  return charged < (uint64_t)class_size(class) * FEW && charged < atomic_load(&settings.memory) / FEW_PART;
+}
+
 void shelves_compare(void) {
   struct shelf *found = NULL;
   for (uint32_t number = 0; number < shelf_count(); number++) {
     struct shelf *shelf = shelf_at(number);
-    if (shelf_is_open(shelf) && (found == NULL || atomic_load(&shelf->age) > atomic_load(&found->age))) found = shelf;
+    if (!shelf_is_open(shelf) || has_few(shelf->class)) continue;
+    if (found == NULL || weight(shelf) > weight(found)) found = shelf;
   }
-  atomic_store(&oldest, found);
+  atomic_store(&heaviest, found);
 }
 
 uint32_t shelf_drain(struct shelf *shelf, uint32_t now) {

@@ -122,6 +122,7 @@ struct body {
   const char *key;
   size_t key_bytes;
   const char *value;
+  struct item *item; /* whose value is told, in place of that: it is prepared to be sent */
   size_t value_bytes;
 };
 
@@ -130,8 +131,9 @@ static char *put_part(char *at, const char *part, size_t bytes) {
 }
 
 static void put_answer(struct connection *connection, enum status status, uint64_t unique, const struct body *body) {
-  size_t bytes = body->extras_bytes + body->key_bytes + body->value_bytes;
-  char *at = connection_room(connection, HEAD_BYTES + bytes);
+  size_t before = body->extras_bytes + body->key_bytes, bytes = before + body->value_bytes;
+  char *at = connection_room(connection, HEAD_BYTES + (body->item == NULL ? bytes : before));
+  if (at == NULL && body->item != NULL) sending_put(connection, body->item, body->value_bytes);
   if (at == NULL) return;
   *at++ = (char)BINARY_ANSWER;
   *at++ = (char)connection->binary.opcode;
@@ -143,8 +145,9 @@ static void put_answer(struct connection *connection, enum status status, uint64
   at = put_64(at, unique);
   at = put_part(at, body->extras, body->extras_bytes);
   at = put_part(at, body->key, body->key_bytes);
-  at = put_part(at, body->value, body->value_bytes);
+  if (body->item == NULL) at = put_part(at, body->value, body->value_bytes);
   connection_put_to(connection, at);
+  if (body->item != NULL) sending_put(connection, body->item, body->value_bytes);
 }
 
 /* All went well, and there is no more to tell than that. */
@@ -196,11 +199,16 @@ static void get(struct connection *connection, const struct request *request) {
     tell_missed(connection, request);
     return;
   }
+  if (request->opcode != TOUCH && !sending_prepare(connection, item, HEAD_BYTES + FLAGS_BYTES + KEY_MOST)) {
+    cache_release(connection->thread, item);
+    tell_fault(connection, STATUS_NO_MEMORY);
+    return;
+  }
   char flags[FLAGS_BYTES];
   put_32(flags, item->flags);
   struct body body = { .extras = flags, .extras_bytes = sizeof flags };
   if (tells_key(request->opcode)) body.key = item->key, body.key_bytes = item->key_bytes;
-  if (request->opcode != TOUCH) body.value = item->value, body.value_bytes = item->bytes;
+  if (request->opcode != TOUCH) body.item = item, body.value_bytes = item->bytes;
   put_answer(connection, STATUS_DONE, atomic_load_explicit(&item->unique, memory_order_relaxed), &body);
   connection->work -= (int32_t)body.value_bytes;
   cache_release(connection->thread, item);

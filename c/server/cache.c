@@ -1,6 +1,7 @@
 #define _GNU_SOURCE
 #include "cache.h"
 #include <ctype.h>
+#include <stdlib.h>
 #include <string.h>
 #include "aging.h"
 #include "clock.h"
@@ -9,6 +10,11 @@
 #include "words.h"
 
 enum { THE_HOLD = 0, LINK_TRIES = 50, NUMBER_MOST = 63 };
+
+/* The part of -m that may be kept: so the rest can be evicted. */
+enum { KEPT_PART = 2 };
+
+static _Atomic uint64_t kept_bytes;
 
 static struct shelf_reader *reader_of(const struct thread *thread, const struct item *item) {
   return &shelf_at(item->shelf)->reader[thread->number];
@@ -77,6 +83,51 @@ uint32_t cache_time(struct thread *thread, struct item *item) {
 
 void cache_release(struct thread *thread, struct item *item) {
   bump_release(&reader_of(thread, item)->worker, THE_HOLD);
+}
+
+uint64_t cache_kept(void) { return atomic_load_explicit(&kept_bytes, memory_order_relaxed); }
+
+/* The place of an item that the thread keeps, or else one that is free; NULL: none is. */
+static struct kept *place_to_keep(struct shelf_reader *reader, const struct item *item) {
+  struct kept *free_one = NULL;
+  if (reader->kept == NULL) reader->kept = calloc(KEPT_MOST, sizeof *reader->kept);
+  if (reader->kept == NULL) return NULL;
+  for (uint32_t number = 0; number < reader->kept_until; number++) {
+    struct kept *kept = &reader->kept[number];
+    if (kept->count > 0 && kept->item == item) return kept;
+    if (kept->count == 0 && free_one == NULL) free_one = kept;
+  }
+  if (free_one == NULL && reader->kept_until < KEPT_MOST) free_one = &reader->kept[reader->kept_until++];
+  return free_one;
+}
+
+/* By a hold of its own. */
+static bool begin_to_keep(struct shelf_reader *reader, struct item *item, uint32_t hold) {
+  uint64_t most = atomic_load_explicit(&settings.memory, memory_order_relaxed) / KEPT_PART;
+  if (atomic_fetch_add_explicit(&kept_bytes, item->charge, memory_order_relaxed) + item->charge <= most &&
+      bump_get(&reader->worker, hold, item->chunk, item->generation) == BUMP_GET_HELD)
+    return true;
+  atomic_fetch_sub_explicit(&kept_bytes, item->charge, memory_order_relaxed);
+  return false;
+}
+
+bool cache_keep(struct thread *thread, struct item *item, uint32_t *number) {
+  struct shelf_reader *reader = reader_of(thread, item);
+  struct kept *kept = place_to_keep(reader, item);
+  if (kept == NULL) return false;
+  *number = (uint32_t)(kept - reader->kept);
+  if (kept->count == 0 && !begin_to_keep(reader, item, THE_HOLD + 1 + *number)) return false;
+  kept->item = item;
+  kept->count++;
+  return true;
+}
+
+void cache_let_go(struct thread *thread, struct item *item, uint32_t number) {
+  struct shelf_reader *reader = reader_of(thread, item);
+  if (--reader->kept[number].count > 0) return;
+  while (reader->kept_until > 0 && reader->kept[reader->kept_until - 1].count == 0) reader->kept_until--;
+  atomic_fetch_sub_explicit(&kept_bytes, item->charge, memory_order_relaxed);
+  bump_release(&reader->worker, THE_HOLD + 1 + number);
 }
 
 static bool lacks_memory(struct shelf *shelf) {

@@ -24,6 +24,14 @@ bool cache_was_hit(struct thread *thread, struct item *item);
 uint32_t cache_time(struct thread *thread, struct item *item);
 void cache_release(struct thread *thread, struct item *item);
 
+/* Keeps the item that is held, beside the hold, so that its value can be sent from where it lies; by the number it is
+ * let go. false: it ended meanwhile, or as much is kept already as may be. */
+bool cache_keep(struct thread *thread, struct item *item, uint32_t *number);
+void cache_let_go(struct thread *thread, struct item *item, uint32_t number);
+
+/* The bytes of the items that are kept. */
+uint64_t cache_kept(void);
+
 enum store_how { STORE_SET, STORE_ADD, STORE_REPLACE, STORE_CAS, STORE_APPEND, STORE_PREPEND, STORE_SWAP };
 
 enum store_answer { STORE_DONE, STORE_NOT, STORE_EXISTS, STORE_NOT_FOUND, STORE_NO_MEMORY, STORE_AGAIN };

@@ -5,29 +5,12 @@
 #include <string.h>
 #include <sys/ioctl.h>
 
-enum { OUT_FIRST = 2048 };
-
 char *connection_room(struct connection *connection, size_t bytes) {
   struct buffer *out = &connection->out;
-  if (out->end + bytes <= out->room) return out->at + out->end;
-  if (out->begin > 0) {
-    memmove(out->at, out->at + out->begin, buffer_size(out));
-    out->end -= out->begin;
-    out->begin = 0;
-  }
-  size_t room = out->room != 0 ? out->room : OUT_FIRST;
-  while (room < out->end + bytes) room *= 2;
-  if (room != out->room) {
-    char *more = realloc(out->at, room);
-    if (more == NULL) {
-      count(connection_counters(connection), COUNT_malloc_fails, 1);
-      connection->ends = true;
-      return NULL;
-    }
-    out->at = more;
-    out->room = room;
-  }
-  return out->at + out->end;
+  if (buffer_make_room(connection->thread, out, bytes)) return out->at + out->end;
+  count(connection_counters(connection), COUNT_malloc_fails, 1);
+  connection->ends = true;
+  return NULL;
 }
 
 size_t connection_waiting(const struct connection *connection) {

@@ -5,15 +5,10 @@
 #include <stdbool.h>
 #include <stddef.h>
 #include <stdint.h>
+#include "buffer.h"
 #include "cache.h"
+#include "sending.h"
 #include "thread.h"
-
-struct buffer {
-  char *at;
-  size_t room;
-  size_t begin; /* what stands before is done with */
-  size_t end;
-};
 
 enum connection_state {
   READS_LINE,
@@ -99,6 +94,7 @@ struct connection {
   bool is_binary; /* it speaks the binary protocol */
   struct buffer in;
   struct buffer out;
+  struct sending sending;
   struct storing storing;
   struct asked_keys keys;
   struct asked_binary binary;
@@ -114,12 +110,7 @@ struct connection {
 /* Beside its state, which another thread may not look at. */
 enum { DOES_WAIT = 0, DOES_SEND = 16, DOES_STEPS = 32 };
 
-/* More to send than that isn't made before some was sent. */
-enum { SEND_MOST = 1 << 18 };
-
-static inline size_t buffer_size(const struct buffer *buffer) { return buffer->end - buffer->begin; }
-
-/* Room for so many bytes at the end; NULL: no memory, and the connection ends. */
+/* Room for so many bytes at the end of its text; NULL: no memory, and the connection ends. */
 char *connection_room(struct connection *connection, size_t bytes);
 
 static inline void connection_put_to(struct connection *connection, const char *end) {

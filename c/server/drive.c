@@ -9,47 +9,16 @@
 #include "values.h"
 #include "watchers.h"
 
-/* A line may be so long only if it is a get. A buffer that grew past KEPT_MOST is given back when it is empty. */
+/* A line may be so long only if it is a get. */
 enum {
-  RECEIVE_FIRST = 16384,
   RECEIVE_LEAST = 2048,
   SHORT_LINE_MOST = 2048,
   LINE_MOST = 1 << 24,
-  KEPT_MOST = 1 << 16,
   RECEIVED_AT_ONCE = 1 << 17,
-  SENT_AT_ONCE = 1 << 18, /* in a turn */
   BLANKS_MOST = 100
 };
 
-/* ------------------------------------------------------------------------------------------- sending, receiving */
-
-static void give_back_large(struct buffer *buffer) {
-  buffer->begin = buffer->end = 0;
-  if (buffer->room <= KEPT_MOST) return;
-  free(buffer->at);
-  *buffer = (struct buffer){ 0 };
-}
-
-enum sent drive_send(struct connection *connection) {
-  struct buffer *out = &connection->out;
-  for (size_t left = SENT_AT_ONCE; buffer_size(out) > 0;) {
-    if (left == 0) return SENT_SOME;
-    size_t bytes = buffer_size(out) < left ? buffer_size(out) : left;
-    ssize_t sent = send(connection->file, out->at + out->begin, bytes, MSG_NOSIGNAL);
-    if (sent >= 0) {
-      out->begin += (size_t)sent;
-      left -= (size_t)sent;
-      count(connection_counters(connection), COUNT_bytes_written, (uint64_t)sent);
-    } else if (errno == EAGAIN || errno == EWOULDBLOCK) {
-      return SENT_AS_MUCH_AS_GOES;
-    } else if (errno != EINTR) {
-      connection->ends = true; /* nobody is there to read it */
-      out->begin = out->end;
-    }
-  }
-  give_back_large(out);
-  return SENT_ALL;
-}
+/* --------------------------------------------------------------------------------------------------- receiving */
 
 enum received { RECEIVED_ALL, RECEIVED_SOME, RECEIVED_NOTHING, RECEIVED_END };
 
@@ -67,20 +36,12 @@ static enum received receive_to(struct connection *connection, char *at, size_t 
   return errno == EAGAIN || errno == EWOULDBLOCK || errno == EINTR ? RECEIVED_NOTHING : RECEIVED_END;
 }
 
-/* Room behind what was received, with a place for a 0. false: no memory, or too long a line. */
-static bool make_room(struct buffer *in) {
-  if (in->begin == in->end) give_back_large(in);
-  if (in->room - in->end >= RECEIVE_LEAST) return true;
-  if (in->begin > 0) memmove(in->at, in->at + in->begin, buffer_size(in));
-  in->end -= in->begin;
-  in->begin = 0;
-  if (in->room - in->end >= RECEIVE_LEAST) return true;
-  size_t room = in->room != 0 ? in->room * 2 : RECEIVE_FIRST;
-  char *more = room <= LINE_MOST ? realloc(in->at, room + 1) : NULL;
-  if (more == NULL) return false;
-  in->at = more;
-  in->room = room;
-  return true;
+/* Room behind what was received. false: no memory, or too long a line. */
+static bool make_room(struct connection *connection) {
+  struct buffer *in = &connection->in;
+  if (buffer_size(in) == 0 && in->room > BUFFER_SMALL_MOST) buffer_give_back(connection->thread, in);
+  if (buffer_size(in) == 0) in->begin = in->end = 0;
+  return buffer_size(in) <= LINE_MOST && buffer_make_room(connection->thread, in, RECEIVE_LEAST);
 }
 
 /* What comes of a value goes to its item at once. */
@@ -94,7 +55,7 @@ static enum received receive(struct connection *connection) {
     storing->received += bytes;
     return received;
   }
-  if (!make_room(in)) return RECEIVED_END;
+  if (!make_room(connection)) return RECEIVED_END;
   enum received received = receive_to(connection, in->at + in->end, in->room - in->end, &bytes);
   in->end += bytes;
   return received;
@@ -107,7 +68,7 @@ static bool step_value(struct connection *connection) {
   struct storing *storing = &connection->storing;
   size_t left = storing_most(storing) - storing->received;
   size_t bytes = buffer_size(in) < left ? buffer_size(in) : left;
-  memcpy(storing->item->value + storing->received, in->at + in->begin, bytes);
+  if (bytes > 0) memcpy(storing->item->value + storing->received, in->at + in->begin, bytes);
   storing->received += bytes;
   in->begin += bytes;
   if (bytes < left) return false;
@@ -199,7 +160,7 @@ static bool step(struct connection *connection) {
  * for, it may evict. */
 static bool step_on(struct connection *connection, int *requests) {
   const struct counters *counters = connection_counters(connection);
-  while (!connection->ends && buffer_size(&connection->out) < SEND_MOST && *requests > 0 && connection->work > 0) {
+  while (!connection->ends && !sending_is_full(connection) && *requests > 0 && connection->work > 0) {
     uint64_t evicted = counted(counters, COUNT_evictions);
     if (connection->state == READS_LINE) --*requests;
     if (!step(connection)) return false;
@@ -215,6 +176,14 @@ static bool has_more(const struct connection *connection) {
   return buffer_size(&connection->in) > 0 || connection->state >= CHECKS_KEYS;
 }
 
+/* It waits for its client: what it doesn't need meanwhile goes back. Keys that are to be answered stand in what was
+ * received, though it is done with. */
+static enum driven wait_by(struct connection *connection, enum driven driven) {
+  if (connection->state < CHECKS_KEYS && buffer_size(&connection->in) == 0)
+    buffer_give_back(connection->thread, &connection->in);
+  return driven;
+}
+
 /* Where less came than there was room for, nothing is left in the socket: the epoll tells when more comes. It tells at
  * once where the turn is over, and more is there. */
 enum driven drive(struct connection *connection) {
@@ -224,17 +193,17 @@ enum driven drive(struct connection *connection) {
   connection->thread->file = connection->file;
   for (;;) {
     bool could_go_on = step_on(connection, &requests);
-    enum sent sent = drive_send(connection);
-    if (sent != SENT_ALL) return sent == SENT_SOME ? DRIVE_YIELDS : DRIVE_SENDS;
+    enum sent sent = sending_go_on(connection);
+    if (sent != SENT_ALL) return sent == SENT_SOME ? DRIVE_YIELDS : wait_by(connection, DRIVE_SENDS);
     if (connection->ends) return DRIVE_ENDS;
     if (could_go_on && has_more(connection)) {
       if (requests <= 0 || connection->work <= 0) return DRIVE_YIELDS;
       continue;
     }
-    if (is_drained || connection->work <= 0) return DRIVE_RECEIVES;
+    if (is_drained || connection->work <= 0) return wait_by(connection, DRIVE_RECEIVES);
     enum received received = receive(connection);
     if (received == RECEIVED_END) return DRIVE_ENDS;
-    if (received == RECEIVED_NOTHING) return DRIVE_RECEIVES;
+    if (received == RECEIVED_NOTHING) return wait_by(connection, DRIVE_RECEIVES);
     is_drained = received == RECEIVED_ALL;
   }
 }

@@ -2,17 +2,18 @@
 #include <pthread.h>
 #include <stdlib.h>
 #include <string.h>
+#include "memory.h"
 #include "settings.h"
 #include "shelf.h"
 
-/* Of memcached's item: so that as many items go into so many megabytes. */
+/* Of memcached's item: so that each has the class, and the bytes, that are told there. */
 static const size_t RECKONED_HEADER = 48, RECKONED_UNIQUE = 8, RECKONED_FLAGS = 4;
 
 static uint32_t size_of[CLASSES_MOST];
+static double weight_of[CLASSES_MOST];
 static uint32_t classes;
 
-static _Atomic uint64_t charged;
-static _Atomic uint64_t under_way; /* of it, what those are charged whose values are still to come */
+static _Atomic uint64_t under_way; /* what those are charged whose values are still to come */
 static _Atomic uint64_t last_unique;
 
 /* What flush_all says. The one that is to come doesn't undo the one that came. */
@@ -20,6 +21,12 @@ static pthread_mutex_t flushing = PTHREAD_MUTEX_INITIALIZER; /* of whoever chang
 static _Atomic uint32_t flushed_until;                       /* 0: never */
 static _Atomic uint64_t flushed_unique;
 static _Atomic uint32_t flush_to_come; /* 0: none; once it came it counts as the other */
+
+static double cube_root(double number) {
+  double root = 1;
+  while (root * root * root < number) root *= 1.01;
+  return root;
+}
 
 void classes_make(void) {
   uint32_t size = (uint32_t)RECKONED_HEADER + settings.chunk_least;
@@ -31,11 +38,14 @@ void classes_make(void) {
   }
   size_of[class] = settings.chunk_most;
   classes = class;
+  for (class = 1; class <= classes; class++) weight_of[class] = cube_root(size_of[class]);
 }
 
 uint32_t class_count(void) { return classes; }
 
 uint32_t class_size(uint32_t class) { return size_of[class]; }
+
+double class_weight(uint32_t class) { return weight_of[class]; }
 
 size_t item_reckoned(size_t key_bytes, uint32_t flags, size_t bytes) {
   size_t fixed = RECKONED_HEADER + (settings.has_unique ? RECKONED_UNIQUE : 0) + (flags != 0 ? RECKONED_FLAGS : 0);
@@ -53,9 +63,16 @@ uint32_t class_for(size_t reckoned) {
   return least;
 }
 
+/* Sizes in steps of an eighth: so the place that a row leaves is right for others, and pieces between them are few. */
+static size_t row_bytes(size_t bytes) {
+  size_t step = 16;
+  while (step * 16 < bytes) step *= 2;
+  return (bytes + 8 + step - 1) / step * step - 8;
+}
+
 struct item *item_begin(const struct key *key, uint32_t flags, uint32_t expires, size_t bytes, size_t room) {
   bool in_row = bytes <= ROW_VALUE_MOST;
-  struct item *item = malloc(offsetof(struct item, key) + key->bytes + (in_row ? bytes + 2 : 0));
+  struct item *item = malloc(row_bytes(offsetof(struct item, key) + key->bytes + (in_row ? bytes + 2 : 0)));
   if (item == NULL) return NULL;
   char *value = in_row ? item->key + key->bytes : malloc(room);
   if (value == NULL) return free(item), NULL;
@@ -71,15 +88,13 @@ struct item *item_begin(const struct key *key, uint32_t flags, uint32_t expires,
 }
 
 static void charge(struct item *item, uint32_t bytes) {
-  atomic_fetch_add_explicit(&charged, bytes, memory_order_relaxed);
+  memory_take(MEMORY_items, bytes);
   item->charge += bytes;
 }
 
-/* What an item is charged whose value is all there: its class's size, or where it is larger than any, its own. */
-static uint32_t whole_charge(const struct item *item) {
-  size_t reckoned = item_reckoned(item->key_bytes, item->flags, item->bytes);
-  uint32_t size = size_of[shelf_at(item->shelf)->class];
-  return reckoned > size ? (uint32_t)reckoned : size;
+/* What an item is charged whose value is all there: what it takes. */
+static uint32_t whole_charge(struct item *item) {
+  return (uint32_t)(memory_of_block(item) + (item_is_apart(item) ? memory_of_block(item->value) : 0));
 }
 
 struct item *item_new(const struct key *key, uint32_t flags, uint32_t expires, size_t bytes) {
@@ -91,8 +106,8 @@ struct item *item_new(const struct key *key, uint32_t flags, uint32_t expires, s
 }
 
 void item_free(struct item *item) {
-  atomic_fetch_sub_explicit(&charged, item->charge, memory_order_relaxed);
-  if (item->value != item->key + item->key_bytes) free(item->value);
+  memory_give(MEMORY_items, item->charge);
+  if (item_is_apart(item)) free(item->value);
   free(item);
 }
 
@@ -100,7 +115,7 @@ void item_free(struct item *item) {
  * says. */
 bool item_may_have(struct item *item, size_t room) {
   uint64_t most = atomic_load_explicit(&settings.memory, memory_order_relaxed) / 4 + settings.item_most;
-  uint32_t more = (uint32_t)item_reckoned(item->key_bytes, item->flags, room - 2) - item->charge;
+  uint32_t more = (uint32_t)(memory_of_block(item) + (item_is_apart(item) ? room : 0)) - item->charge;
   if (atomic_fetch_add_explicit(&under_way, more, memory_order_relaxed) + more > most) {
     atomic_fetch_sub_explicit(&under_way, more, memory_order_relaxed);
     return false;
@@ -124,8 +139,6 @@ void item_drop(struct item *item) {
   atomic_fetch_sub_explicit(&under_way, item->charge, memory_order_relaxed);
   item_free(item);
 }
-
-uint64_t items_charged(void) { return atomic_load_explicit(&charged, memory_order_relaxed); }
 
 uint64_t items_under_way(void) { return atomic_load_explicit(&under_way, memory_order_relaxed); }
 

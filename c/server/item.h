@@ -23,7 +23,7 @@ struct item {
   uint32_t born; /* a tick */
   uint32_t flags;
   uint32_t bytes;  /* of the value */
-  uint32_t charge; /* of the memory that items may take */
+  uint32_t charge; /* what it takes of the memory, with its value */
   uint16_t shelf;
   uint8_t key_bytes;
   bool named;      /* it is in the table */
@@ -32,6 +32,9 @@ struct item {
   bool has_binary_key;
   char key[];
 };
+
+/* Whether its value lies out of line. */
+static inline bool item_is_apart(const struct item *item) { return item->value != item->key + item->key_bytes; }
 
 /* An item by what bump knows of it, which stays right where the row itself may be gone. Generation 0: none. */
 struct item_name {
@@ -55,6 +58,9 @@ struct key {
 void classes_make(void);
 uint32_t class_count(void);
 uint32_t class_size(uint32_t class);
+
+/* The cube root of its size. */
+double class_weight(uint32_t class);
 
 /* An item's bytes as memcached reckons them, and the class of so many; 0: that is too large for an item. */
 size_t item_reckoned(size_t key_bytes, uint32_t flags, size_t bytes);
@@ -84,8 +90,7 @@ void item_complete(struct item *item);
 /* Gives back one that isn't complete. */
 void item_drop(struct item *item);
 
-/* The bytes that all items are charged; and of them, those whose values are still to come. */
-uint64_t items_charged(void);
+/* The bytes that those are charged whose values are still to come. */
 uint64_t items_under_way(void);
 
 /* The next number for cas; 0 where items have none. */

@@ -7,6 +7,7 @@
 #include <unistd.h>
 #include "clock.h"
 #include "maintainer.h"
+#include "memory.h"
 #include "network.h"
 #include "process.h"
 #include "settings.h"
@@ -65,6 +66,7 @@ static void prepare(sigset_t *before) {
   process_allow_cores();
   process_look_at_pages();
   process_lock_memory();
+  memory_begin();
   classes_make();
   if (!shelves_make() || !table_make() || !network_make())
     process_fail("no memory, or more than the shelves can have: choose a smaller -m");
@@ -87,7 +89,7 @@ static int settle(uint64_t connections) {
     all.charged += rest.charged;
     open++;
   }
-  uint64_t charged = items_charged() - all.charged; /* of items that are in no shelf: nobody would find them */
+  uint64_t charged = memory_of(MEMORY_items) - all.charged; /* of items that are in no shelf: nobody would find them */
   bool right = all.unsettled == 0 && all.held == 0 && charged == 0;
   fprintf(stderr,
           "bump-server: ended with %" PRIu64 " connections and %" PRIu64 " items; %" PRIu64

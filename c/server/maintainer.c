@@ -5,6 +5,7 @@
 #include <time.h>
 #include "aging.h"
 #include "clock.h"
+#include "memory.h"
 #include "thread.h"
 
 /* It sleeps for a millisecond while there is something to do, and longer and longer while there isn't. */
@@ -45,6 +46,7 @@ static void rest(const struct thread *thread, long nanoseconds) {
 /* One round. Whether there was something to do. */
 static bool attend(struct thread *thread, uint32_t now, bool crawls_now) {
   bool did = false;
+  memory_look();
   shelves_open_ahead();
   for (int times = 0; times < PAYS_AT_ONCE && room_is_owed(); times++) {
     if (!room_make(&thread->counters, shelf_at(0), now)) break;

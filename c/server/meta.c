@@ -261,13 +261,19 @@ static void tell_found(struct connection *connection, const struct words *words,
   struct item *item = found->item;
   char text[ANSWER_MOST], *at = text;
   bool wins = false;
+  if (meta->tells_value && !sending_prepare(connection, item, ANSWER_MOST)) {
+    table_unlock(item->hash);
+    cache_release(thread, item);
+    connection_say_always(connection, NO_MEMORY_TO_SEND);
+    return;
+  }
   memcpy(at, meta->tells_value ? "VA " : "HD", 3);
   at = meta->tells_value ? put_u64(at + 3, item->bytes) : at + 2;
   at = put_found(at, words, meta, thread, found, &wins);
   at = put_state(at, item, wins);
   table_unlock(item->hash);
   put_line(connection, text, at);
-  if (meta->tells_value) connection_put(connection, item->value, (size_t)item->bytes + 2);
+  if (meta->tells_value) sending_put(connection, item, (size_t)item->bytes + 2);
   connection->work -= meta->tells_value ? (int32_t)item->bytes : 0;
   if (meta->has_expiry) shelf_count_event(item->shelf, thread->number, SHELF_touch_hits);
   else cache_count_hit(thread, item);

@@ -18,6 +18,7 @@
 #include "clock.h"
 #include "connection.h"
 #include "drive.h"
+#include "memory.h"
 #include "watchers.h"
 #include "words.h"
 
@@ -198,8 +199,9 @@ static void end_connection(struct connection *connection) {
   close(connection->file); /* and so it leaves the epoll */
   connection_drop_value(connection);
   watchers_leave(connection);
-  free(connection->in.at);
-  free(connection->out.at);
+  sending_drop(connection);
+  buffer_give_back(thread, &connection->in);
+  memory_give(MEMORY_connections, memory_of_block(connection));
   free(connection);
   atomic_fetch_sub(&current, 1);
 }
@@ -224,6 +226,7 @@ static void take_in(int file) {
     close(file);
     return;
   }
+  memory_take(MEMORY_connections, memory_of_block(connection));
   connection->file = file;
   connection->thread = &threads[turn++ % (uint32_t)settings.threads];
   connection->active = clock_now();
@@ -433,10 +436,11 @@ static void farewell(struct thread *thread) {
   while (thread->connections != NULL) {
     struct connection *connection = thread->connections;
     struct pollfd wait = { .fd = connection->file, .events = POLLOUT };
-    for (int64_t left; drive_send(connection) != SENT_ALL && (left = end - milliseconds()) > 0;)
+    for (int64_t left; sending_go_on(connection) != SENT_ALL && (left = end - milliseconds()) > 0;)
       poll(&wait, 1, (int)left);
     end_connection(connection);
   }
+  buffers_free(thread);
 }
 
 void *network_serve(void *given) {

@@ -8,6 +8,7 @@
 #define WRONG_FORMAT "CLIENT_ERROR bad command line format"
 #define TOO_LARGE "SERVER_ERROR object too large for cache"
 #define OUT_OF_MEMORY "SERVER_ERROR out of memory storing object"
+#define NO_MEMORY_TO_SEND "SERVER_ERROR out of memory writing get response"
 
 /* A line, without its end: 0 stands there. What comes behind it in the buffer may be read as its value. */
 void text_line(struct connection *connection, char *line);

@@ -2,6 +2,7 @@
 #include <stdlib.h>
 #include <string.h>
 #include "clock.h"
+#include "memory.h"
 #include "network.h"
 #include "table.h"
 
@@ -11,10 +12,10 @@ enum {
   CHUNKS_MOST = 1000000,
   SPARE_LEAST = 1024,
   RING = 1024,
+  FREE_PART = 8, /* the next shelf is opened where less of all chunks is free */
   REFS_MOST = 65535,
-  HOLDS = 1,
   CHUNK_BYTES = 48,
-  SHELVES_TRIED = 8
+  PLACE_BYTES = 16 /* of a ring */
 };
 
 struct shelf *shelves;
@@ -23,17 +24,17 @@ static uint32_t
     first_of[CLASSES_MOST + 1]; /* the number of a class's first shelf; the next class's comes behind its last */
 static _Atomic uint32_t open_of[CLASSES_MOST + 1]; /* so many of a class's shelves are open: the first ones */
 
-/* As many chunks as the memory has room for, and an eighth more: for ended items that are still held, and for a limit
- * that is raised. */
+/* As many chunks as the memory has room for, and a quarter more: since items may be smaller than their class says, for
+ * ended ones that are still held, and for a limit that is raised. */
 static uint64_t chunks_of(uint32_t class) {
   uint64_t chunks = atomic_load(&settings.memory) / class_size(class);
-  return chunks + chunks / 8 + SPARE_LEAST;
+  return chunks + chunks / 4 + SPARE_LEAST;
 }
 
-/* The chunks of a class's next shelf, behind those that have so many together: as many again. So what a class takes
- * grows with its items, and few shelves are enough. No small one comes last. */
+/* The chunks of a class's next shelf, behind those that have so many together: a third of them. So what a class takes
+ * grows with its items, and not much ahead of them, and some dozens of shelves are enough. No small one comes last. */
 static uint32_t chunks_of_next(uint64_t before, uint64_t all) {
-  uint64_t chunks = before < CHUNKS_FIRST ? CHUNKS_FIRST : before;
+  uint64_t chunks = before / 3 < CHUNKS_FIRST ? CHUNKS_FIRST : before / 3;
   if (before + chunks + chunks / 4 > all) chunks = all - before;
   return chunks < CHUNKS_MOST ? (uint32_t)chunks : CHUNKS_MOST;
 }
@@ -70,13 +71,6 @@ uint32_t shelf_count(void) { return shelves_count; }
 
 uint32_t shelf_first(uint32_t class) { return first_of[class]; }
 
-uint64_t shelves_bytes(void) {
-  uint64_t sum = 0;
-  for (uint32_t number = 0; number < shelves_count; number++)
-    if (shelf_is_open(&shelves[number])) sum += (uint64_t)shelves[number].chunks * CHUNK_BYTES;
-  return sum;
-}
-
 /* Each of the open ones has its share of the keys, by its chunks. */
 uint16_t shelf_number(uint32_t class, uint32_t hash) {
   uint32_t first = first_of[class], last = first + atomic_load(&open_of[class]);
@@ -88,6 +82,17 @@ uint16_t shelf_number(uint32_t class, uint32_t hash) {
     else last = middle - 1;
   }
   return (uint16_t)first;
+}
+
+/* Values that lie apart are sent from there, and so kept: by holds of their own. */
+static uint32_t holds_of(const struct shelf *shelf) {
+  return 1 + (class_size(shelf->class) > ROW_VALUE_MOST ? KEPT_MOST : 0);
+}
+
+/* About how much memory a shelf's store takes. */
+static uint64_t bytes_of(const struct shelf *shelf) {
+  uint64_t worker = sizeof *shelf->reader + sizeof *shelf->lane + RING * PLACE_BYTES + holds_of(shelf) * PLACE_BYTES;
+  return (uint64_t)shelf->chunks * CHUNK_BYTES + (uint64_t)settings.threads * worker;
 }
 
 /* Takes all parts out of the store that was opened. No number that isn't there can come: they are those configured. */
@@ -111,7 +116,7 @@ static bool make(struct shelf *shelf) {
                                .capacity = RING,
                                .refs_limit = REFS_MOST,
                                .first_generation = 1,
-                               .holds = HOLDS,
+                               .holds = holds_of(shelf),
                                .words = 0 };
   const bump_class_config class = { shelf->chunks, 0, 0 }; /* each pull brings a limit of its own */
   if (shelf->reader == NULL || shelf->lane == NULL || bump_open(&store, &config, &class, 1) != BUMP_OPEN_DONE) {
@@ -124,6 +129,7 @@ static bool make(struct shelf *shelf) {
   memset(shelf->reader, 0, workers * sizeof *shelf->reader);
   bool all = take_parts(shelf, &store);
   bump_close(store);
+  memory_take(MEMORY_shelves, bytes_of(shelf));
   return all;
 }
 
@@ -141,17 +147,43 @@ bool shelf_open(struct shelf *shelf) {
   return open;
 }
 
-/* The first of a class's shelves that isn't open; NULL: all are. */
+uint64_t shelf_class_charged(uint32_t class) {
+  uint64_t sum = 0;
+  for (uint32_t number = first_of[class]; number < first_of[class + 1]; number++)
+    sum += atomic_load_explicit(&shelves[number].charged, memory_order_relaxed);
+  return sum;
+}
+
+/* Whether a class gains by one more shelf: not where memory is full, and nearly all items are its own. Then it would
+ * lose more items by the shelf's memory than it could have more. */
+static bool gains_by(const struct shelf *next) {
+  if (memory_used() + bytes_of(next) <= atomic_load(&settings.memory)) return true;
+  return shelf_class_charged(next->class) < memory_of(MEMORY_items) / 8 * 7;
+}
+
+/* The first of a class's shelves that isn't open, where it may be; NULL: there is none. */
 static struct shelf *unopened(uint32_t class) {
   uint32_t number = first_of[class] + atomic_load(&open_of[class]);
-  return number < first_of[class + 1] ? &shelves[number] : NULL;
+  if (number == first_of[class + 1]) return NULL;
+  return number == first_of[class] || gains_by(&shelves[number]) ? &shelves[number] : NULL;
+}
+
+/* Whether few chunks are free in all of a class's shelves, of which the last one was nearly full. */
+static bool is_nearly_full(struct shelf *last) {
+  uint64_t unused = 0;
+  if (!atomic_load(&last->is_nearly_full)) return false;
+  for (uint32_t number = first_of[last->class]; number <= last->number; number++) {
+    pthread_mutex_lock(&shelves[number].lock);
+    unused += bump_size(&shelves[number].book, BUMP_PLACE_UNUSED);
+    pthread_mutex_unlock(&shelves[number].lock);
+  }
+  return unused < (last->before + last->chunks) / FREE_PART;
 }
 
 void shelves_open_ahead(void) {
   for (uint32_t class = 1; class <= class_count(); class++) {
     struct shelf *next = unopened(class);
-    if (next != NULL && next->number > first_of[class] && atomic_load(&shelves[next->number - 1].is_half_full))
-      shelf_open(next);
+    if (next != NULL && next->number > first_of[class] && is_nearly_full(next - 1)) shelf_open(next);
   }
 }
 
@@ -174,7 +206,7 @@ struct shelf *shelf_lock_for(struct item *item) {
   struct shelf *own = &shelves[item->shelf], *next;
   if (lock_with_chunk(own)) return own;
   uint32_t first = first_of[own->class], number = first + atomic_load(&open_of[own->class]);
-  for (int tries = 0; number > first && tries < SHELVES_TRIED; tries++)
+  while (number > first)
     if (lock_with_chunk(&shelves[--number])) return &shelves[item->shelf = (uint16_t)number];
   while ((next = unopened(own->class)) != NULL && shelf_open(next))
     if (lock_with_chunk(next)) return &shelves[item->shelf = (uint16_t)next->number];
@@ -199,10 +231,12 @@ void shelf_give_back(struct shelf *shelf, const uint32_t *chunks, uint32_t count
 }
 
 /* From then on the class needs its next shelf soon: the maintainer opens it, so that nobody waits for it. */
-static void note_half_full(struct shelf *shelf) {
-  if (bump_size(&shelf->book, BUMP_PLACE_UNUSED) > shelf->chunks / 2) return;
-  atomic_store(&shelf->is_half_full, true);
-  if (shelf->number + 1 < first_of[shelf->class + 1]) network_wake(MAINTAINER);
+static void note_nearly_full(struct shelf *shelf) {
+  uint32_t open = first_of[shelf->class] + atomic_load_explicit(&open_of[shelf->class], memory_order_relaxed);
+  if (shelf->number + 1 != open || open == first_of[shelf->class + 1]) return;
+  if (bump_size(&shelf->book, BUMP_PLACE_UNUSED) > shelf->chunks / FREE_PART) return;
+  atomic_store(&shelf->is_nearly_full, true);
+  network_wake(MAINTAINER);
 }
 
 bool shelf_link(struct shelf *shelf, struct item *item, bool temporary, uint32_t now) {
@@ -215,7 +249,7 @@ bool shelf_link(struct shelf *shelf, struct item *item, bool temporary, uint32_t
   if (shelf->used <= linked.chunk) shelf->used = linked.chunk + 1;
   shelf->requested += item_reckoned(item->key_bytes, item->flags, item->bytes);
   atomic_fetch_add_explicit(&shelf->charged, item->charge, memory_order_relaxed);
-  if (!atomic_load_explicit(&shelf->is_half_full, memory_order_relaxed)) note_half_full(shelf);
+  if (!atomic_load_explicit(&shelf->is_nearly_full, memory_order_relaxed)) note_nearly_full(shelf);
   return true;
 }
 
@@ -306,6 +340,7 @@ static uint64_t end_all(struct shelf *shelf) {
 static void free_store(struct shelf *shelf) {
   for (uint32_t thread = 0; thread < (uint32_t)settings.threads; thread++) bump_lane_free(shelf->lane[thread].lane);
   bump_book_free(shelf->book);
+  for (uint32_t thread = 0; thread < (uint32_t)settings.threads; thread++) free(shelf->reader[thread].kept);
   free(shelf->reader);
   free(shelf->lane);
 }

@@ -35,11 +35,22 @@ struct shelf_counts {
 #define SHELF_EVENT_AS_NAME(name) SHELF_##name,
 enum shelf_event { SHELF_EVENTS(SHELF_EVENT_AS_NAME) SHELF_EVENT_COUNT };
 
+/* An item that a thread keeps, so that connections may send its value from where it lies: as many as are counted. */
+struct kept {
+  struct item *item;
+  uint32_t count; /* 0: none; then the hold of this number is free */
+};
+
+/* So many items of a shelf a thread may keep. */
+enum { KEPT_MOST = 256 };
+
 /* A thread's part of a shelf. Its counts of bumps are bump's own, told again by the thread when they changed. */
 struct shelf_reader {
   alignas(64) bump_worker worker;
   _Atomic uint64_t of[SHELF_EVENT_COUNT];
   _Atomic uint64_t attempted, accepted, full, busy, refs;
+  struct kept *kept;   /* NULL: it never kept any */
+  uint32_t kept_until; /* from here on none was ever kept */
 };
 
 struct shelf_lane {
@@ -48,8 +59,8 @@ struct shelf_lane {
 };
 
 struct shelf {
-  _Atomic bool is_open;      /* set once, when all below is there */
-  _Atomic bool is_half_full; /* or was once */
+  _Atomic bool is_open;        /* set once, when all below is there */
+  _Atomic bool is_nearly_full; /* or was once */
   uint32_t number;
   uint32_t class;
   uint64_t before; /* the chunks of the class's shelves before it */
@@ -80,8 +91,8 @@ static inline struct shelf *shelf_at(uint32_t number) {
   return &shelves[number];
 }
 
-/* About how much memory the open ones' stores take, beside their items. */
-uint64_t shelves_bytes(void);
+/* What the items of a class are charged. */
+uint64_t shelf_class_charged(uint32_t class);
 
 /* Where a key's item of a class is to stand: one that is open, or the first one. */
 uint16_t shelf_number(uint32_t class, uint32_t hash);
@@ -89,7 +100,7 @@ uint16_t shelf_number(uint32_t class, uint32_t hash);
 /* Opens a shelf, unless it is open: the first of its class, or the one behind those that are open. false: no memory. */
 bool shelf_open(struct shelf *shelf);
 
-/* Opens the next shelf of each class whose last one is half full. The maintainer's. */
+/* Opens the next shelf of each class whose last one is nearly full. The maintainer's. */
 void shelves_open_ahead(void);
 
 /* Locks the shelf where an item is to be linked: its own where that has a free chunk, or else another one of its class

@@ -9,6 +9,7 @@
 #include <unistd.h>
 #include "clock.h"
 #include "maintainer.h"
+#include "memory.h"
 #include "network.h"
 #include "protocol.h"
 #include "shelf.h"
@@ -32,6 +33,9 @@ static const char *yes_or_no(bool yes) { return yes ? "yes" : "no"; }
 #define COUNTER_AS_TEXT(name) #name,
 static const char *const COUNTER_NAMES[] = { COUNTERS(COUNTER_AS_TEXT) };
 static const char *const EVENT_NAMES[] = { SHELF_EVENTS(COUNTER_AS_TEXT) };
+
+#define KIND_AS_TEXT(name) "bytes_of_" #name,
+static const char *const KIND_NAMES[] = { MEMORY_KINDS(KIND_AS_TEXT) };
 
 /* What was counted when `stats reset` was asked for last: so no thread's counters are written by another. */
 static _Atomic uint64_t forgotten[COUNTER_COUNT];
@@ -388,7 +392,7 @@ static bool step_slabs(struct connection *connection) {
   uint32_t class = next_class(connection);
   if (class == 0) {
     tell(connection, "active_slabs", connection->walk.count);
-    tell(connection, "total_malloced", settings.bytes_before + items_charged() + shelves_bytes());
+    tell(connection, "total_malloced", settings.bytes_before + memory_of(MEMORY_items) + memory_of(MEMORY_shelves));
     return true;
   }
   struct class_measure all = measure(class);
@@ -440,6 +444,15 @@ static void tell_bump_of_class(struct connection *connection, uint32_t class, co
     tell_of(connection, "bump:", class, PLACES[place], of->size[place]);
 }
 
+/* What the memory is for. */
+static void tell_memory(struct connection *connection) {
+  for (enum memory_kind kind = 0; kind < MEMORY_KIND_COUNT; kind++)
+    tell(connection, KIND_NAMES[kind], memory_of(kind));
+  tell(connection, "bytes_resident", memory_resident());
+  tell(connection, "bytes_kept", cache_kept());
+  tell(connection, "bytes_used", memory_used());
+}
+
 /* A class, and then a thread of this class. */
 static bool step_bump(struct connection *connection) {
   struct walk *walk = &connection->walk;
@@ -452,6 +465,7 @@ static bool step_bump(struct connection *connection) {
   if (class == 0) {
     tell_counters(connection, COUNT_get_busy, COUNT_get_stale);
     tell(connection, "bytes_under_way", items_under_way());
+    tell_memory(connection);
     return true;
   }
   struct class_measure all = measure(class);

@@ -6,9 +6,10 @@
 #include <string.h>
 #include <sys/random.h>
 #include <time.h>
+#include "memory.h"
 
 /* The lower bits of a hash choose the stripe, those above the bucket. */
-enum { STRIPE_BITS = 12, STRIPES = 1 << STRIPE_BITS, BUCKETS_FIRST = 16 };
+enum { STRIPE_BITS = 12, STRIPES = 1 << STRIPE_BITS, BUCKETS_FIRST = 4 };
 
 /* One line of a processor's cache: so who takes the lock has the rest of it too. */
 struct stripe {
@@ -37,6 +38,7 @@ bool table_make(void) {
     if (stripe[i].bucket == NULL) return false;
     stripe[i].mask = BUCKETS_FIRST - 1;
   }
+  memory_take(MEMORY_table, STRIPES * BUCKETS_FIRST * sizeof(struct item *));
   return true;
 }
 
@@ -112,6 +114,7 @@ static void grow(struct stripe *of) {
     }
   }
   free(of->bucket);
+  memory_take(MEMORY_table, (wider.mask - of->mask) * sizeof(struct item *));
   of->bucket = wider.bucket;
   of->mask = wider.mask;
 }

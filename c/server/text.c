@@ -19,10 +19,11 @@ bool text_wants_no_reply(struct connection *connection, const struct words *word
 
 /* ------------------------------------------------------------------------------------------------- retrieving */
 
-/* VALUE key flags bytes [number for cas], the value, of an item that is held. */
-static void put_item(struct connection *connection, const struct item *item, bool tells_unique) {
-  char *at = connection_room(connection, VALUE_LINE_MOST + item->bytes + 2);
-  if (at == NULL) return;
+/* VALUE key flags bytes [number for cas], the value, of an item that is held. false: no memory. */
+static bool put_item(struct connection *connection, struct item *item, bool tells_unique) {
+  if (!sending_prepare(connection, item, VALUE_LINE_MOST)) return false;
+  char *at = connection_room(connection, VALUE_LINE_MOST);
+  if (at == NULL) return sending_put(connection, item, (size_t)item->bytes + 2), false;
   connection->work -= (int32_t)item->bytes;
   memcpy(at, "VALUE ", 6);
   memcpy(at + 6, item->key, item->key_bytes);
@@ -36,16 +37,19 @@ static void put_item(struct connection *connection, const struct item *item, boo
     at = put_u64(at, atomic_load_explicit(&item->unique, memory_order_relaxed));
   }
   memcpy(at, "\r\n", 2);
-  memcpy(at + 2, item->value, item->bytes + 2);
-  connection_put_to(connection, at + 2 + item->bytes + 2);
+  connection_put_to(connection, at + 2);
+  sending_put(connection, item, (size_t)item->bytes + 2);
+  return true;
 }
 
-static void answer_key(struct connection *connection, const struct key *key, uint32_t now) {
+/* false: there is no memory to answer it. */
+static bool answer_key(struct connection *connection, const struct key *key, uint32_t now) {
   const struct asked_keys *keys = &connection->keys;
   struct item *item = key_fetch(connection->thread, key, now, keys->sets_expiry ? &keys->expires : NULL);
-  if (item == NULL) return;
-  put_item(connection, item, keys->tells_unique);
+  if (item == NULL) return true;
+  bool is_put = put_item(connection, item, keys->tells_unique);
   cache_release(connection->thread, item);
+  return is_put;
 }
 
 /* Cuts off the next keys, at most GROUP_MOST, and answers how many. Memory is asked for what all of them need. */
@@ -66,7 +70,7 @@ static int next_keys(char *at, struct key *group) {
 
 /* Whether its turn goes on, and more can be made for it to send. */
 static bool may_go_on(const struct connection *connection) {
-  return !connection->ends && connection->work > 0 && buffer_size(&connection->out) < SEND_MOST;
+  return !connection->ends && connection->work > 0 && !sending_is_full(connection);
 }
 
 void text_answer_keys(struct connection *connection) {
@@ -81,8 +85,11 @@ void text_answer_keys(struct connection *connection) {
     }
     for (int i = 0; i < count && may_go_on(connection); i++) {
       connection->keys.at = (char *)group[i].at + group[i].bytes;
-      answer_key(connection, &group[i], now);
       connection->work -= WORK_KEY;
+      if (answer_key(connection, &group[i], now)) continue;
+      connection->state = READS_LINE;
+      connection_say(connection, NO_MEMORY_TO_SEND);
+      return;
     }
   }
 }

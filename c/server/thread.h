@@ -12,6 +12,9 @@
 
 struct connection;
 
+/* Blocks of buffers that a thread has for its next ones. */
+enum { SPARE_BLOCKS_MOST = 4 };
+
 struct thread {
   alignas(64) uint32_t number; /* of its worker in each shelf */
   int events;                  /* an epoll of its connections */
@@ -21,6 +24,8 @@ struct thread {
   struct connection *connections; /* its own */
   struct connection *yielded;     /* those that have more to do, in a ring: the last one */
   int file;                       /* of the connection that it serves now */
+  char *spare_block[SPARE_BLOCKS_MOST]; /* of buffers: buffer.h */
+  int spare_blocks;
   struct counters counters;
 };
 

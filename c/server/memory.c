@@ -1,0 +1,120 @@
+#define _GNU_SOURCE
+#include "memory.h"
+#include <fcntl.h>
+#include <malloc.h>
+#include <stdatomic.h>
+#include <stdio.h>
+#include <stdlib.h>
+#include <time.h>
+#include <unistd.h>
+#include "settings.h"
+
+/* A block of MAPPED_LEAST bytes is a mapping of its own, which goes back to the system by itself: always, where malloc
+ * would choose by what was freed before. */
+enum { MAPPED_LEAST = 1 << 17, TRIMMED_LEAST = 1 << 20, BEFORE_BLOCK = sizeof(size_t) };
+
+/* Parts of -m: the most that counts of what isn't items, of what connections take, and of what is exceeded. That is
+ * what the process has beyond -m, a SPARE_PART-th of it, and what it had at its start: since some memory always lies
+ * free between pieces. It doesn't grow less by itself when items are evicted. But those that come take the places of
+ * those that went, and so it grows no more. */
+enum { NOT_ITEMS_PART = 2, CONNECTIONS_PART = 4, EXCEEDED_PART = 4, SPARE_PART = 50 };
+
+/* Free pages are given back where at least a FREE_PART-th of -m is free, and where -m is at most GIVEN_BACK_MOST: in
+ * a larger heap it would take too long. */
+enum { FREE_PART = 16, PAUSE_TIMES = 32, PAUSE_LEAST = 100000000, SECOND = 1000000000, GIVEN_BACK_MOST = 1 << 30 };
+
+static _Atomic uint64_t taken[MEMORY_KIND_COUNT];
+static _Atomic uint64_t now_resident, exceeded;
+static uint64_t at_start; /* what the process had before it had any of these */
+
+static uint64_t least_of(uint64_t one, uint64_t other) { return one < other ? one : other; }
+
+/* What the process has in memory; 0: the system doesn't tell. */
+static uint64_t resident(void) {
+  static int file = -1;
+  char text[128] = "";
+  if (file < 0) file = open("/proc/self/statm", O_RDONLY | O_CLOEXEC);
+  if (file < 0 || pread(file, text, sizeof text - 1, 0) <= 0) return 0;
+  char *second;
+  strtoull(text, &second, 10);
+  return strtoull(second, NULL, 10) * (uint64_t)sysconf(_SC_PAGESIZE);
+}
+
+/* All threads have one heap: with a heap for each, what one frees no other one could use, and the process would take
+ * several times -m. */
+void memory_begin(void) {
+#ifdef __GLIBC__
+  mallopt(M_ARENA_MAX, 1);
+  mallopt(M_MMAP_THRESHOLD, MAPPED_LEAST);
+  mallopt(M_TRIM_THRESHOLD, TRIMMED_LEAST);
+#endif
+  at_start = resident();
+}
+
+void memory_take(enum memory_kind kind, uint64_t bytes) {
+  atomic_fetch_add_explicit(&taken[kind], bytes, memory_order_relaxed);
+}
+
+void memory_give(enum memory_kind kind, uint64_t bytes) {
+  atomic_fetch_sub_explicit(&taken[kind], bytes, memory_order_relaxed);
+}
+
+uint64_t memory_of(enum memory_kind kind) { return atomic_load_explicit(&taken[kind], memory_order_relaxed); }
+
+size_t memory_of_block(void *block) { return malloc_usable_size(block) + BEFORE_BLOCK; }
+
+uint64_t memory_resident(void) { return atomic_load_explicit(&now_resident, memory_order_relaxed); }
+
+static int64_t nanoseconds(void) {
+  struct timespec time;
+  clock_gettime(CLOCK_MONOTONIC, &time);
+  return (int64_t)time.tv_sec * SECOND + time.tv_nsec;
+}
+
+/* Gives back pages of the heap in which nothing is any more, where many are: as where small values made room for large
+ * ones, or for what isn't in the heap. malloc waits meanwhile, so it isn't done often. false: it is to be done later.
+ */
+static bool give_back_pages(uint64_t all) {
+#ifdef __GLIBC__
+  static int64_t not_before;
+  uint64_t known = 0;
+  for (enum memory_kind kind = 0; kind < MEMORY_KIND_COUNT; kind++) known += memory_of(kind);
+  if (all > GIVEN_BACK_MOST || memory_resident() < known + all / FREE_PART) return true;
+  int64_t begins = nanoseconds();
+  if (begins < not_before) return false;
+  malloc_trim(0);
+  int64_t ends = nanoseconds();
+  not_before = ends + (ends - begins) * PAUSE_TIMES + PAUSE_LEAST;
+  atomic_store_explicit(&now_resident, resident(), memory_order_relaxed);
+#else
+  (void)all;
+#endif
+  return true;
+}
+
+/* How much is exceeded is known once free pages were given back. Until then a FREE_PART-th of -m is let pass, beside
+ * what was known before. */
+void memory_look(void) {
+  static uint64_t known;
+  uint64_t all = atomic_load_explicit(&settings.memory, memory_order_relaxed);
+  uint64_t may = all + all / SPARE_PART + at_start;
+  atomic_store_explicit(&now_resident, resident(), memory_order_relaxed);
+  bool is_known = memory_resident() <= may || give_back_pages(all);
+  uint64_t over = memory_resident() > may ? memory_resident() - may : 0;
+  known = is_known ? over : least_of(known, over);
+  uint64_t counts = over > known + all / FREE_PART ? over - all / FREE_PART : known;
+  atomic_store_explicit(&exceeded, least_of(counts, all / EXCEEDED_PART), memory_order_relaxed);
+}
+
+uint64_t memory_used(void) {
+  uint64_t all = atomic_load_explicit(&settings.memory, memory_order_relaxed);
+  uint64_t others = memory_of(MEMORY_shelves) + memory_of(MEMORY_table) +
+                    least_of(memory_of(MEMORY_connections), all / CONNECTIONS_PART);
+  return memory_of(MEMORY_items) + least_of(others, all / NOT_ITEMS_PART) +
+         atomic_load_explicit(&exceeded, memory_order_relaxed);
+}
+
+bool memory_may_take(uint64_t bytes) {
+  uint64_t all = atomic_load_explicit(&settings.memory, memory_order_relaxed);
+  return memory_of(MEMORY_connections) + bytes <= all / CONNECTIONS_PART;
+}

@@ -1,0 +1,195 @@
+"""-m is what the process takes: with values of each size, with clients that don't read, and with many that are idle."""
+import bisect
+import itertools
+import random
+import re
+import resource
+import socket
+from pathlib import Path
+
+from c_checks import tell
+from client import Client, value_for
+from started import Server
+
+MEGABYTE = 1 << 20
+# What the process may have: so much more than -m, and so much for each connection that is busy.
+FACTOR, BUSY = 1.15, 64 << 10
+IDLE = 10_000
+
+
+def resident(server):
+    return int(Path(f"/proc/{server.process.pid}/statm").read_text().split()[1]) * resource.getpagesize()
+
+
+def most_for(megabytes, busy=1):
+    return int(megabytes * MEGABYTE * FACTOR) + busy * BUSY
+
+
+def store(client, name, sizes, amount):
+    """Values of these sizes in turn, of so many bytes together with what an item has beside."""
+    begin = 0
+    while amount > 0:
+        lengths = [sizes[i % len(sizes)] for i in range(begin, begin + max(1, min(1000, 400_000 // max(sizes))))]
+        client.socket.sendall(b"".join(b"set %s%d 0 0 %d noreply\r\n%s\r\n" % (name, begin + i, n, bytes(n)) for i, n in enumerate(lengths)))
+        begin += len(lengths)
+        amount -= sum(lengths) + 100 * len(lengths)
+    client.ask(b"")
+
+
+class Memory:
+    def check_memory(self):
+        self.check_mixes()
+        self.check_three_sizes()
+        self.check_deaf()
+        self.check_deaf_and_many()
+        self.check_idle_connections()
+
+    def tell_resident(self, name, server, most, again=lambda: None):
+        """Judged when the memory that came free was used again: a slow machine may need more for that."""
+        for _ in range(20):
+            has = resident(server)
+            if has <= most:
+                break
+            again()
+        tell(f"{name}: the process has {has / MEGABYTE:.0f} megabytes", "" if has <= most else f"more than {most / MEGABYTE:.0f}")
+
+    def check_mixes(self):
+        draw = random.Random(3)
+        many = [draw.randrange(1, 2000) for _ in range(5000)]
+        with Server(self.program, "-m", 64) as server:
+            client = Client(server.port)
+            sizes = [int(24 * 1.22 ** i) for i in range(53)]
+            there = sum(client.set(b"size%d" % size, bytes(size)) for size in sizes)
+            few = resident(server)
+            tell(f"an item in each of {there} sizes: {few / MEGABYTE:.0f} megabytes", "" if there == len(sizes) and few < 32 * MEGABYTE else "more than 32")
+            for name, mix in (("values of 1 to 2,000 bytes", many), ("then of 20 bytes", [20]), ("then of 10,000 bytes", [10_000]), ("then of 100,000 bytes", [100_000])):
+                store(client, b"a", mix, 100 * MEGABYTE)
+                self.tell_resident(f"-m 64, {name}", server, most_for(64), lambda mix=mix: store(client, b"b", mix, 8 * MEGABYTE))
+            stats = client.stats()
+            tell("items were evicted for it", "" if int(stats["evictions"]) > 0 and int(stats["curr_items"]) > 0 else f"{stats['curr_items']} items")
+            tell("then it ends with nothing left", server.end())
+
+    def check_three_sizes(self):
+        """Keys of three sizes that are asked for as often: large values don't take the room of all small ones."""
+        sizes, keys, draw = [100, 10_000, 100, 10_000, 900_000], 4000, random.Random(5)
+        shares = list(itertools.accumulate((i + 1) ** -0.9 for i in range(keys)))
+        order, hits, gets = draw.sample(range(keys), keys), dict.fromkeys(sizes, 0), dict.fromkeys(sizes, 0)
+        with Server(self.program, "-m", 64) as server:
+            client = Client(server.port)
+            for round_of in range(160):
+                asked = [order[bisect.bisect(shares, draw.random() * shares[-1])] for _ in range(50)]
+                answers = client.ask(b"".join(b"mg k%d s\r\n" % key for key in asked)).split(b"\r\n")
+                for key, answer in zip(asked, answers):
+                    size = sizes[key % len(sizes)]
+                    if round_of >= 80:
+                        gets[size] += 1
+                        hits[size] += answer.startswith(b"HD")
+                    if not answer.startswith(b"HD"):
+                        client.socket.sendall(b"set k%d 0 0 %d noreply\r\n%s\r\n" % (key, size, bytes(size)))
+            rates = {size: 100 * hits[size] / gets[size] for size in hits}
+            told = ", ".join(f"{size} bytes {rate:.0f} %" for size, rate in rates.items())
+            right = rates[100] > 70 and rates[10_000] > 50 and rates[900_000] > 25
+            tell(f"three sizes in one load hit: {told}", "" if right else "too few")
+            self.tell_resident("-m 64, three sizes", server, most_for(64))
+            tell("then it ends with nothing left", server.end())
+
+    @staticmethod
+    def deaf(server, request):
+        """A client that asks and doesn't read."""
+        one = Client.__new__(Client)
+        one.port, one.count, one.held, one.socket = server.port, 0, b"", socket.socket()
+        one.socket.setsockopt(socket.SOL_SOCKET, socket.SO_RCVBUF, 4096)
+        one.socket.settimeout(60)
+        one.socket.connect(("127.0.0.1", server.port))
+        one.socket.sendall(request)
+        return one
+
+    def wait_deaf(self, client, number):
+        """Until so many connections wait to send."""
+        return self.wait_for(lambda: sum(state == "conn_mwrite" for name, state in client.stats("conns").items() if name.endswith(":state")) == number)
+
+    @staticmethod
+    def all_of(one, end):
+        """What comes up to the answer that is the last one."""
+        parts = [b""]
+        while not b"".join(parts[-2:]).endswith(end):
+            parts.append(one.socket.recv(1 << 20))
+            if not parts[-1]:
+                raise ConnectionError("the server closed the connection")
+        return b"".join(parts)
+
+    def check_deaf(self):
+        """They ask for the same large value, and for small ones, again and again."""
+        with Server(self.program, "-m", 64, "-c", 2000) as server:
+            client, number = Client(server.port), 300
+            client.set(b"big", bytes(900_000))
+            client.set(b"small", bytes(3000))
+            for name, request in (("20 times 900,000 bytes", b"get big\r\n" * 20), ("1,500 times 3,000 bytes", b"get " + b"small " * 1500 + b"\r\n")):
+                clients = [self.deaf(server, request) for _ in range(number)]
+                waits = self.wait_deaf(client, number)
+                self.tell_resident(f"{number} clients ask for {name} and don't read", server, most_for(20, number))
+                bump, there = client.stats("bump"), client.get(b"big") == bytes(900_000)
+                tell("others are served meanwhile", "" if waits and there else f"{waits} {there}")
+                least = int(bump["bytes_kept"]) + int(bump["bytes_of_connections"])
+                for one in clients:
+                    one.close()
+                gone = self.wait_for(lambda: int(client.stats("bump")["bytes_kept"]) == 0 and int(client.stats()["curr_connections"]) == 1)
+                left = int(client.stats("bump")["bytes_of_connections"])
+                tell("what was counted for them is given back", "" if gone and left < MEGABYTE < least else f"{gone}, {least} and then {left} bytes")
+            tell("then it ends with nothing left", server.end())
+
+    def check_deaf_and_many(self):
+        """Each asks for a large value of its own, so often that no socket takes it all: these are more than may be kept. Values change and end
+        meanwhile, and who reads at last gets the whole of what the value was each time, or a refusal."""
+        with Server(self.program, "-m", 64, "-c", 2000) as server:
+            client, number, times, wrong = Client(server.port), 150, 12, []
+            values = [value_for(b"v%d" % i, i, 400_000) for i in range(number)]
+            clients = []
+            for i, value in enumerate(values):
+                client.set(b"v%d" % i, value)
+                clients.append(self.deaf(server, b"get v%d\r\n" % i * times + b"mn\r\n"))
+            waits = self.wait_for(lambda: int(client.stats("bump")["bytes_kept"]) > 24 * MEGABYTE)
+            store(client, b"other", [20_000], 100 * MEGABYTE)
+            kept = int(client.stats("bump")["bytes_kept"])
+            if not waits or kept > 32 * MEGABYTE:
+                wrong.append(f"{kept} bytes are kept")
+            self.tell_resident(f"{number} clients ask for other values of 400,000 bytes and don't read", server, most_for(64, number))
+            client.ask(b"".join(b"delete v%d\r\nset v%d 0 0 3\r\nnew\r\n" % (i, i + 1) for i in range(0, number, 2)))
+            kinds = {b"END\r\n": 0, b"SERVER_ERROR out of memory writing get response\r\n": 0, b"value": 0}
+            for i, one in enumerate(clients):
+                rest, at = self.all_of(one, b"MN\r\n"), 0
+                whole = (b"VALUE v%d 0 %d\r\n%s\r\nEND\r\n" % (i, len(values[i]), values[i]), b"VALUE v%d 0 3\r\nnew\r\nEND\r\n" % i)
+                for _ in range(times):
+                    answer = next((answer for answer in (*whole, *kinds) if rest.startswith(answer, at)), b"")
+                    at += len(answer)
+                    kinds[answer if answer in kinds else b"value"] += 1
+                    wrong += [] if answer else [f"v{i} is answered by {rest[at:at + 60]}"]
+            tell(f"who reads at last gets whole values ({', '.join(f'{count} {kind.decode().strip()}' for kind, count in kinds.items())})",
+                 "; ".join(wrong[:3]) or ("" if min(kinds.values()) > 0 and kinds[b"value"] > 80 * times / 2 else "too few of one kind"))
+            gone = self.wait_for(lambda: int(client.stats("bump")["bytes_kept"]) == 0)
+            tell("then nothing is kept", "" if gone else client.stats("bump")["bytes_kept"])
+            tell("then it ends with nothing left", server.end())
+
+    def check_idle_connections(self):
+        soft, hard = resource.getrlimit(resource.RLIMIT_NOFILE)
+        resource.setrlimit(resource.RLIMIT_NOFILE, (hard, hard))
+        number = min(IDLE, hard - 500)
+        if number < IDLE:
+            print(f"missing: files: {number} connections are tried, not {IDLE}", flush=True)
+        with Server(self.program, "-m", 64, "-c", IDLE + 100) as server:
+            client, value, wrong = Client(server.port), bytes(20_000), 0
+            clients = [socket.create_connection(("127.0.0.1", server.port), timeout=60) for _ in range(number)]
+            for i, one in enumerate(clients):
+                one.sendall(b"set i%d 0 0 20000\r\n%s\r\nget i%d\r\n" % (i % 50, value, i % 50))
+                got = b""
+                while not got.endswith(b"END\r\n"):
+                    got += one.recv(1 << 16) or b"END\r\n"
+                wrong += not re.fullmatch(rb"STORED\r\nVALUE i\d+ 0 20000\r\n\0{20000}\r\nEND\r\n", got)
+            self.tell_resident(f"{number} connections that stored and read 20,000 bytes each are idle", server, 32 * MEGABYTE)
+            each = int(client.stats("bump")["bytes_of_connections"]) / number
+            tell(f"an idle connection takes {each:.0f} bytes", f"{wrong} wrong answers" if wrong else "" if each < 2500 else "more than 2,500")
+            for one in clients:
+                one.close()
+            gone = self.wait_for(lambda: client.stats()["curr_connections"] == "1")
+            tell("then it ends with nothing left", server.end() if gone else "they are still there")
+        resource.setrlimit(resource.RLIMIT_NOFILE, (soft, hard))
