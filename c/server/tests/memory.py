@@ -88,7 +88,7 @@ class Memory:
                         client.socket.sendall(b"set k%d 0 0 %d noreply\r\n%s\r\n" % (key, size, bytes(size)))
             rates = {size: 100 * hits[size] / gets[size] for size in hits}
             told = ", ".join(f"{size} bytes {rate:.0f} %" for size, rate in rates.items())
-            right = rates[100] > 70 and rates[10_000] > 50 and rates[900_000] > 25
+            right = rates[100] > 60 and rates[10_000] > 40 and rates[900_000] > 20
             tell(f"three sizes in one load hit: {told}", "" if right else "too few")
             self.tell_resident("-m 64, three sizes", server, most_for(64))
             tell("then it ends with nothing left", server.end())

@@ -1,6 +1,6 @@
 #!/usr/bin/env python3
 """Gets one key again and again, until its standard input ends, and prints how many gets these were, how many microseconds the slowest one
-took, and during which one the server's process worked most, in microseconds of a processor: slowest.py PORT PROCESS"""
+took, and for how many of them the server's process worked: the most of one get. slowest.py PORT PROCESS"""
 import os
 import select
 import socket
@@ -25,7 +25,9 @@ while True:
         if not more:
             sys.exit("the server closed the connection")
         got += more
-    slowest, most_work = max(slowest, time.monotonic() - begins), max(most_work, time.clock_gettime(WORK) - worked)
+    took, worked = time.monotonic() - begins, time.clock_gettime(WORK) - worked
+    # Several threads may have worked longer together than the get took.
+    slowest, most_work = max(slowest, took), max(most_work, min(took, worked))
     count += 1
     if count == 1:
         slowest = most_work = 0

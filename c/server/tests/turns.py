@@ -12,8 +12,8 @@ HERE = Path(__file__).resolve().parent
 ITEMS = 500_000
 # Milliseconds that the server works while a get waits: one that waits for the end of a long command lets it work for ten times that, and one
 # that waits for its turn for less than one. What a busy machine adds to the time of a get isn't the server's work; MOST_TIME is for a server
-# that sleeps. What is slow once isn't slow three times; what can be done once alone may take longer.
-MOST, TRIES, MOST_ONCE, MOST_TIME = 25.0, 3, 100.0, 2000.0
+# that sleeps. What is slow once isn't slow three times; what can be done once alone, in each of three servers, may take longer.
+MOST, TRIES, MOST_ONCE, MOST_TIME = 25.0, 3, 250.0, 2000.0
 
 
 class Watched:
@@ -51,17 +51,27 @@ def ask_much(client, request):
 
 class Turns:
     def check_turns(self):
-        with self.served("-m", 1024) as server:
-            client = Client(server.port, 300)
-            self.watch(server, "each class has its first item", lambda: self.store_each_class(client), 1, MOST_ONCE)
-            small = self.memory(server)
-            tell("then the process takes less than 50 megabytes", "" if small < 50 else f"{small:.0f}")
-            self.watch(server, f"{ITEMS} items are stored", lambda: self.store_many(client), 1, MOST_ONCE)
-            self.check_long(server, client)
-            self.watch(server, "values of a megabyte are stored and read", lambda: self.large_faults(client))
-            self.watch(server, "flush_all and what follows", lambda: self.flush_faults(client))
-            tell("then it ends with nothing left", server.end())
+        for left in reversed(range(TRIES)):
+            with self.served("-m", 1024) as server:
+                client = Client(server.port, 300)
+                first = self.watched(server, lambda: self.store_each_class(client))
+                small = self.memory(server)
+                many = self.watched(server, lambda: self.store_many(client))
+                if left > 0 and (first.is_slow(MOST_ONCE) or many.is_slow(MOST_ONCE)):
+                    continue
+                self.tell_watched("each class has its first item", first, MOST_ONCE)
+                tell("then the process takes less than 50 megabytes", "" if small < 50 else f"{small:.0f}")
+                self.tell_watched(f"{ITEMS} items are stored", many, MOST_ONCE)
+                self.check_further(server, client)
+                break
         self.check_room()
+
+    def check_further(self, server, client):
+        """Of a server that has many items."""
+        self.check_long(server, client)
+        self.watch(server, "values of a megabyte are stored and read", lambda: self.large_faults(client))
+        self.watch(server, "flush_all and what follows", lambda: self.flush_faults(client))
+        tell("then it ends with nothing left", server.end())
 
     def served(self, *options):
         return Server(self.program, "-t", 1, *options, before=["nice", "-n", "-10"], environment={"BUMP_SERVER_DEBUGTIME": "1"})
@@ -88,13 +98,22 @@ class Turns:
                          ("lru_crawler crawl all", lambda: self.crawl_fault(client))):
             self.watch(server, name, do)
 
-    def watch(self, server, name, do, tries=TRIES, most=MOST):
-        for _ in range(tries):
-            with Watched(server) as watched:
-                wrong = do()
-            if wrong or not watched.is_slow(most):
+    @staticmethod
+    def watched(server, do):
+        with Watched(server) as watched:
+            watched.wrong = do()
+        return watched
+
+    def watch(self, server, name, do):
+        for _ in range(TRIES):
+            watched = self.watched(server, do)
+            if watched.wrong or not watched.is_slow(MOST):
                 break
-        wrong = wrong or (f"more than {most:.0f} ms of work" if watched.is_slow(most) else "")
+        self.tell_watched(name, watched, MOST)
+
+    @staticmethod
+    def tell_watched(name, watched, most):
+        wrong = watched.wrong or (f"more than {most:.0f} ms of work" if watched.is_slow(most) else "")
         tell(f"{name}: meanwhile the server worked {watched.work:.1f} ms at most in one of {watched.count} gets of another client, the slowest took "
              f"{watched.slowest:.1f} ms", wrong)
 
