@@ -63,7 +63,7 @@ fn expect(
     wanted: Tally,
 ) -> Result<(), PolicyFault> {
     let tally = replay(alloc, policy, items, accesses)?;
-    assert_eq!(rt; tally, wanted);
+    assert!(rt; tally == wanted);
     Ok(())
 }
 
@@ -89,28 +89,6 @@ fn expect_hits(
         let hit = access(run, *key)?;
         assert!(rt; hit == *wanted, "key {key}");
     }
-    Ok(())
-}
-
-#[test]
-fn lru_keeps_what_was_asked_for(rt: HostRuntime) -> Result<(), Fail> {
-    let mut run = Replay::new(rt.alloc(), Policy::Lru, 3)?;
-    assert_eq!(rt; told(&run), tally(0, 0));
-    let first = [(1, false), (2, false), (3, false), (1, true)];
-    expect_hits(&rt, &mut run, &first)?;
-    expect_hits(&rt, &mut run, &[(4, false), (1, true), (2, false)])?;
-    assert_eq!(rt; told(&run), tally(2, 5));
-    assert_eq!(rt; run.key_count(), 3);
-    Ok(())
-}
-
-#[test]
-fn fifo_keeps_what_came_last(rt: HostRuntime) -> Result<(), Fail> {
-    let mut run = Replay::new(rt.alloc(), Policy::Fifo, 3)?;
-    let first = [(1, false), (2, false), (3, false), (1, true)];
-    expect_hits(&rt, &mut run, &first)?;
-    expect_hits(&rt, &mut run, &[(4, false), (1, false), (2, false)])?;
-    assert_eq!(rt; told(&run), tally(1, 6));
     Ok(())
 }
 
@@ -167,7 +145,23 @@ fn scans_that_do_not_fit_never_hit(rt: HostRuntime) -> Result<(), Fail> {
     Ok(())
 }
 
-// Such a run comes to so many hits, and leaves so many keys.
+// These accesses come to so many hits in a cache that has no keys yet, and fill it.
+fn fill(
+    rt: &impl Abort,
+    run: &mut Replay,
+    items: u32,
+    accesses: &[(u32, bool)],
+    hits: u64,
+) -> Result<(), Fail> {
+    assert!(rt; told(run) == tally(0, 0));
+    expect_hits(rt, run, accesses)?;
+    let misses = (accesses.len() as u64).wrapping_sub(hits);
+    assert!(rt; told(run) == tally(hits, misses));
+    assert!(rt; run.key_count() == items as usize);
+    Ok(())
+}
+
+// So they do in a new cache of so many items.
 fn expect_run(
     rt: &impl Abort,
     alloc: Global,
@@ -176,12 +170,42 @@ fn expect_run(
     accesses: &[(u32, bool)],
     hits: u64,
 ) -> Result<(), Fail> {
-    let mut run = Replay::new(alloc, policy, items)?;
-    expect_hits(rt, &mut run, accesses)?;
-    let misses = (accesses.len() as u64).wrapping_sub(hits);
-    assert_eq!(rt; told(&run), tally(hits, misses));
-    assert_eq!(rt; run.key_count(), items as usize);
-    Ok(())
+    match Replay::new(alloc, policy, items) {
+        Ok(mut run) => fill(rt, &mut run, items, accesses, hits),
+        Err(fault) => Err(Fail::from(fault)),
+    }
+}
+
+const LRU: [(u32, bool); 7] = [
+    (1, false),
+    (2, false),
+    (3, false),
+    (1, true),
+    // 2 goes for it, and 3 for 2.
+    (4, false),
+    (1, true),
+    (2, false),
+];
+
+#[test]
+fn lru_keeps_what_was_asked_for(rt: HostRuntime) -> Result<(), Fail> {
+    expect_run(&rt, rt.alloc(), Policy::Lru, 3, &LRU, 2)
+}
+
+const FIFO: [(u32, bool); 7] = [
+    (1, false),
+    (2, false),
+    (3, false),
+    (1, true),
+    // 1 goes for it, 2 for 1, and 3 for 2.
+    (4, false),
+    (1, false),
+    (2, false),
+];
+
+#[test]
+fn fifo_keeps_what_came_last(rt: HostRuntime) -> Result<(), Fail> {
+    expect_run(&rt, rt.alloc(), Policy::Fifo, 3, &FIFO, 1)
 }
 
 const CLOCK: [(u32, bool); 11] = [
@@ -296,7 +320,18 @@ enum Step {
     Remove(u32, bool),
 }
 
-// These steps come to this, in a cache of so many items.
+// These steps come to this.
+fn take_steps(rt: &impl Abort, run: &mut Replay, steps: &[Step]) -> Result<(), Fail> {
+    for step in steps {
+        match *step {
+            Step::Access(key, wanted) => assert!(rt; access(run, key)? == wanted, "key {key}"),
+            Step::Remove(key, wanted) => assert!(rt; run.remove(key) == wanted, "key {key}"),
+        }
+    }
+    Ok(())
+}
+
+// So they do in a new cache of so many items.
 fn expect_steps(
     rt: &impl Abort,
     alloc: Global,
@@ -304,14 +339,10 @@ fn expect_steps(
     items: u32,
     steps: &[Step],
 ) -> Result<(), Fail> {
-    let mut run = Replay::new(alloc, policy, items)?;
-    for step in steps {
-        match *step {
-            Step::Access(key, wanted) => assert!(rt; access(&mut run, key)? == wanted, "key {key}"),
-            Step::Remove(key, wanted) => assert!(rt; run.remove(key) == wanted, "key {key}"),
-        }
+    match Replay::new(alloc, policy, items) {
+        Ok(mut run) => take_steps(rt, &mut run, steps),
+        Err(fault) => Err(Fail::from(fault)),
     }
-    Ok(())
 }
 
 // 2 leaves no place behind that it would have to fill again: 1 is still there.
@@ -402,17 +433,29 @@ fn s3_fifo_remembers_no_removed_key(rt: HostRuntime) -> Result<(), Fail> {
     expect_steps(&rt, rt.alloc(), Policy::S3Fifo, 3, &S3_FIFO_REMOVES)
 }
 
-// How many accesses of the same log hit, where in place of each fifth one its key is removed.
-fn hits_with_removals(alloc: Global, policy: Policy, items: u32, log: &[u32]) -> Result<u64, Fail> {
-    let mut run = Replay::new(alloc, policy, items)?;
+// How many accesses of a log hit, where in place of each fifth one its key is removed.
+fn run_with_removals(run: &mut Replay, log: &[u32]) -> Result<u64, AllocError> {
     for (place, key) in log.iter().enumerate() {
         if place % 5 == 4 {
             run.remove(*key);
         } else {
-            access(&mut run, *key)?;
+            access(run, *key)?;
         }
     }
-    Ok(told(&run).hits)
+    Ok(told(run).hits)
+}
+
+// So many do in a new cache of so many items.
+fn hits_with_removals(
+    alloc: Global,
+    policy: Policy,
+    items: u32,
+    log: &[u32],
+) -> Result<u64, PolicyFault> {
+    match Replay::new(alloc, policy, items) {
+        Ok(mut run) => Ok(run_with_removals(&mut run, log)?),
+        Err(fault) => Err(fault),
+    }
 }
 
 // They come to so many: what checks/lib/policies.py comes to.
