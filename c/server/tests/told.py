@@ -133,11 +133,11 @@ class Told:
 
     def check_dropped(self):
         """Full memory, where whoever stores evicts; and more hits in COLD than a ring has room for."""
-        with Server(self.program, "-m", 8, "-t", 1) as server:
+        with Server(self.program, "-m", 32, "-t", 1) as server:
             client = Client(server.port)
-            client.ask(b"".join(b"set i%d 0 0 400 noreply\r\n%s\r\n" % (i, b"x" * 400) for i in range(60_000)))
-            for _ in range(20):
-                client.ask(b"get " + b" ".join(b"i%d" % i for i in range(48_000, 60_000)) + b"\r\n")
+            client.ask(b"".join(b"set i%d 0 0 400 noreply\r\n%s\r\n" % (i, b"x" * 400) for i in range(200_000)))
+            for _ in range(10):
+                client.ask(b"get " + b" ".join(b"i%d" % i for i in range(160_000, 200_000)) + b"\r\n")
             items, stats, bump = client.stats("items"), client.stats(), client.stats("bump")
             dropped = sum(int(number) for name, number in bump.items() if ":dropped_" in name)
             reclaimed = sum(int(number) for name, number in items.items() if name.endswith(":direct_reclaims"))
