@@ -20,8 +20,10 @@ extern "C" {
 /* The most parts that a cache has. */
 #define BUMP_CACHE_MOST_PARTS 16
 
-/* How often a mutex that is taken is tried, with pauses of some ten nanoseconds, before a thread sleeps for it. */
-#define BUMP_CACHE_LOCKS_TRIES 64
+/* How often a mutex that is taken is tried, with a pause behind each try, before a thread sleeps for it. */
+#ifndef BUMP_CACHE_LOCKS_TRIES
+#define BUMP_CACHE_LOCKS_TRIES 256
+#endif
 
 /* A part and its mutex. The room behind them keeps the next ones out of their line of memory. */
 typedef struct bump_cache_locked {
@@ -66,7 +68,7 @@ static inline bool bump_cache_locks_init(bump_cache_locks *locks, bump_cache *ca
 static inline void bump_cache_locks_free(bump_cache_locks *locks) { bump_cache_locks_end(locks, locks->config.parts); }
 
 /* Takes the mutex of a part. Who has it gives it back within a microsecond, as a rule, and to sleep and to be woken
- * takes longer: so a thread looks for about as long before it sleeps. */
+ * takes longer: so a thread looks for some microseconds before it sleeps. */
 static inline void bump_cache_locks_wait(bump_cache_locked *part) {
   for (int i = 0; i < BUMP_CACHE_LOCKS_TRIES; i++) {
     if (pthread_mutex_trylock(&part->mutex) == 0) return;
