@@ -103,8 +103,8 @@ enum bump_cache_open_answer {
  * of their 4,294,967,295 items. With fewer it comes where readers hold as many ended items of a part. */
 bump_cache_config bump_cache_defaults(uint32_t items, uint32_t readers, uint32_t key_bytes, uint32_t value_bytes);
 
-/* The bytes that a cache of this configuration asks for when it is opened, and keeps; some hundred for each numbered hold
- * and each part come to them, and what malloc takes. 0: no cache is made from this. Any thread. Cost: grows with parts. */
+/* The bytes that a cache of this configuration asks for when it is opened, and keeps; what its handles and numbered holds
+ * take comes to them, and what malloc takes. 0: no cache is made from this. Any thread. Cost: grows with parts. */
 uint64_t bump_cache_bytes_taken(const bump_cache_config *config);
 
 /* The defaults with the most items with which a cache takes at most `limit` bytes, by bump_cache_bytes_taken. Its items

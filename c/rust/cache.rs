@@ -196,8 +196,8 @@ impl Config {
         }
     }
 
-    /// How many bytes a cache of this asks for when it is opened, and keeps; some ten thousand for each reader, for its
-    /// holds, come to them. None: no cache is made from this.
+    /// How many bytes a cache of this asks for when it is opened, and keeps; what its readers' holds take comes to them.
+    /// None: no cache is made from this.
     pub fn bytes_taken(&self) -> Option<u64> {
         // SAFETY: it is there for the call.
         let bytes = unsafe { raw::bump_cache_bytes_taken(&self.raw()) };

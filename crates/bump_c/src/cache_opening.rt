@@ -157,8 +157,8 @@ pub extern "C" fn bump_cache_defaults(
     numbers_of(&config)
 }
 
-/// How many bytes a cache of these numbers asks for when it is opened and keeps, beside some hundred for each numbered
-/// hold and each part; 0: no cache is made from them.
+/// How many bytes a cache of these numbers asks for when it is opened and keeps, beside those of its handles and numbered
+/// holds; 0: no cache is made from them.
 #[unsafe(no_mangle)]
 pub extern "C" fn bump_cache_bytes_taken(numbers: &CacheNumbers) -> u64
     ensures { result ≡ unwrap_or (bytes_taken_by (cache_config_of numbers.now)) 0 }

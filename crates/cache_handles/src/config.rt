@@ -100,8 +100,7 @@ impl ByteConfig {
     }
 
     /// How many bytes a cache of this asks for when it is opened and keeps, as `CacheConfig::bytes_taken` tells; or None
-    /// exactly where none is made from this. A cache for C takes some more beside them: for each numbered hold and each
-    /// part some hundred.
+    /// exactly where none is made from this. What a cache for C takes for its handles and numbered holds comes to them.
     pub fn bytes_taken(&self) -> Option<u64>
         ensures { result ≡ bytes_taken_by self.now }
     {
