@@ -12,7 +12,7 @@ enum { VERBOSITY_MOST = 2, MEGABYTES_LEAST = 8, MEGABYTES_MOST = 1000000000 };
 
 void administer_flush_at(int64_t given) {
   uint32_t now = clock_now();
-  items_flush(given > 0 ? clock_expiry(given) : now, now);
+  items_flush(given > 0 ? clock_expiry(given, now) : now, now);
 }
 
 void administer_flush(struct connection *connection, struct words *words) {
@@ -177,6 +177,8 @@ static uint32_t kind_named(const struct word *word) {
   if (word_is(word, "evictions")) return WATCHED_EVICTIONS;
   if (word_is(word, "fetchers")) return WATCHED_FETCHERS;
   if (word_is(word, "mutations")) return WATCHED_MUTATIONS;
+  if (word_is(word, "connevents")) return WATCHED_CONNECTIONS;
+  if (word_is(word, "rawcmds")) return WATCHED_RAW_COMMANDS;
   return word_is(word, "deletions") ? WATCHED_DELETIONS : 0;
 }
 
@@ -211,6 +213,7 @@ void administer_shutdown(struct connection *connection, struct words *words) {
     connection_say(connection, "ERROR: shutdown not enabled");
   } else if (words->count == 1 || (words->count == 2 && word_is(&words->word[1], "graceful"))) {
     connection->ends = true;
+    connection->closing = CLOSED_BY_SHUTDOWN;
     kill(getpid(), words->count == 1 ? SIGINT : SIGUSR1); /* the first thread is told, and ends all */
   } else {
     connection_say(connection, "CLIENT_ERROR invalid shutdown mode");
@@ -220,6 +223,7 @@ void administer_shutdown(struct connection *connection, struct words *words) {
 void administer_quit(struct connection *connection, struct words *words) {
   (void)words;
   connection->ends = true;
+  connection->closing = CLOSED_BY_CLIENT;
 }
 
 void administer_time(struct connection *connection, struct words *words) {
@@ -229,5 +233,6 @@ void administer_time(struct connection *connection, struct words *words) {
     return;
   }
   if (number_i32(words->word[1].at, &seconds) && seconds > 0) clock_move(seconds);
+  connection->thread->now = clock_now();
   connection_say(connection, "OK");
 }

@@ -1,4 +1,5 @@
 #include "aging.h"
+#include "clock.h"
 #include "memory.h"
 #include "network.h"
 #include "table.h"
@@ -62,12 +63,20 @@ struct measure {
   double age;
 };
 
+/* Begins to bring the row of the item before into the processor's cache, which is looked at when the list is looked at
+ * next: most of what a move takes is waiting for rows. */
+static void fetch_before(struct shelf *shelf, uint32_t tail, const bump_seen *last) {
+  bump_seen before = bump_look(&shelf->book, tail, last->chunk);
+  if (before.answer == BUMP_SEE_SEEN) __builtin_prefetch(item_of(&before));
+}
+
 /* A look at the end of a list, and a pull where that would move or end its last item. Whether something changed. */
 static bool shorten(struct shelf *shelf, struct counters *counters, uint32_t tail, struct measure most, uint32_t now) {
   bump_seen last = bump_look(&shelf->book, tail, BUMP_NONE);
   if (last.answer != BUMP_SEE_SEEN) return false;
+  bool is_past = bump_size(&shelf->book, tail) > most.items || (double)clock_since((uint32_t)last.time, now) > most.age;
+  if (is_past || last.active) fetch_before(shelf, tail, &last);
   if (reclaim(shelf, counters, item_of(&last), now)) return true;
-  bool is_past = bump_size(&shelf->book, tail) > most.items || (double)(now - last.time) > most.age;
   return (is_past || last.active) && pull(shelf, counters, tail, 0, now);
 }
 
@@ -80,7 +89,7 @@ static bool shorten_temp(struct shelf *shelf, struct counters *counters, uint32_
 /* What HOT and WARM may have now: a share of the class, and a part of COLD's age. */
 static struct measure measure(struct shelf *shelf, int percent, double factor, uint32_t now) {
   bump_seen last = bump_look(&shelf->book, BUMP_PLACE_COLD, BUMP_NONE);
-  double age = last.answer == BUMP_SEE_SEEN ? (double)(now - last.time) : 0;
+  double age = last.answer == BUMP_SEE_SEEN ? (double)clock_since((uint32_t)last.time, now) : 0;
   uint64_t all = (uint64_t)bump_size(&shelf->book, BUMP_PLACE_HOT) + bump_size(&shelf->book, BUMP_PLACE_WARM) +
                  bump_size(&shelf->book, BUMP_PLACE_COLD);
   return (struct measure){ all * (uint64_t)percent / 100, age * factor };
@@ -143,7 +152,7 @@ bool shelf_evict(struct shelf *shelf, struct counters *counters, uint32_t now) {
   struct item *item = item_of(&seen);
   shelf->counts.evicted++;
   shelf->counts.direct_reclaims++;
-  shelf->counts.evicted_time = now - seen.time;
+  shelf->counts.evicted_time = clock_since((uint32_t)seen.time, now);
   shelf->counts.evicted_nonzero += atomic_load(&item->expires) != 0;
   shelf->counts.evicted_unfetched += !seen.fetched;
   shelf->counts.evicted_active += seen.active;
@@ -151,7 +160,7 @@ bool shelf_evict(struct shelf *shelf, struct counters *counters, uint32_t now) {
   count(counters, COUNT_evicted_unfetched, !seen.fetched);
   count(counters, COUNT_evicted_active, seen.active);
   if (seen.refs > 1) count(counters, COUNT_lrutail_reflocked, 1);
-  watchers_tell_eviction(item, seen.fetched, now - (uint32_t)seen.time, now);
+  watchers_tell_eviction(item, seen.fetched, clock_since((uint32_t)seen.time, now), now);
   table_forget(item);
   shelf_end(shelf, item_name(item));
   return true;
@@ -192,8 +201,9 @@ static struct shelf *giver(struct shelf *shelf) {
 
 static struct shelf *largest(void) {
   struct shelf *found = shelf_at(0);
-  for (uint32_t number = 1; number < shelf_count(); number++)
-    if (atomic_load(&shelf_at(number)->charged) > atomic_load(&found->charged)) found = shelf_at(number);
+  for (uint32_t class = 1; class <= class_count(); class++)
+    for (uint32_t number = shelf_first(class); number < shelf_behind_open(class); number++)
+      if (atomic_load(&shelf_at(number)->charged) > atomic_load(&found->charged)) found = shelf_at(number);
   return found;
 }
 
@@ -210,7 +220,7 @@ bool room_make(struct counters *counters, struct shelf *shelf, uint32_t now) {
 static void note_age(struct shelf *shelf, uint32_t now) {
   bump_seen last = bump_look(&shelf->book, BUMP_PLACE_COLD, BUMP_NONE);
   if (last.answer != BUMP_SEE_SEEN) last = bump_look(&shelf->book, BUMP_PLACE_HOT, BUMP_NONE);
-  atomic_store(&shelf->age, last.answer == BUMP_SEE_SEEN ? now - (uint32_t)last.time : 0);
+  atomic_store(&shelf->age, last.answer == BUMP_SEE_SEEN ? clock_since((uint32_t)last.time, now) : 0);
 }
 
 uint32_t shelf_juggle(struct shelf *shelf, struct counters *counters, uint32_t now) {
@@ -234,10 +244,10 @@ static bool has_few(uint32_t class) {
 
 void shelves_compare(void) {
   struct shelf *found = NULL;
-  for (uint32_t number = 0; number < shelf_count(); number++) {
-    struct shelf *shelf = shelf_at(number);
-    if (!shelf_is_open(shelf) || has_few(shelf->class)) continue;
-    if (found == NULL || weight(shelf) > weight(found)) found = shelf;
+  for (uint32_t class = 1; class <= class_count(); class++) {
+    if (shelf_behind_open(class) == shelf_first(class) || has_few(class)) continue;
+    for (uint32_t number = shelf_first(class); number < shelf_behind_open(class); number++)
+      if (found == NULL || weight(shelf_at(number)) > weight(found)) found = shelf_at(number);
   }
   atomic_store(&heaviest, found);
 }

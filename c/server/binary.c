@@ -98,7 +98,9 @@ static char *put_32(char *at, uint32_t number) { return (char *)memcpy(at, &(uin
 static char *put_64(char *at, uint64_t number) { return (char *)memcpy(at, &(uint64_t){ htobe64(number) }, 8) + 8; }
 
 /* It has no sign: what text's -1 is, is a time of Unix far away. */
-static uint32_t read_expiry(const char *at) { return clock_expiry(read_32(at)); }
+static uint32_t read_expiry(const struct connection *connection, const char *at) {
+  return clock_expiry(read_32(at), connection->thread->now);
+}
 
 static uint64_t value_bytes(const struct request *request) {
   return request->body_bytes - request->extras_bytes - request->key_bytes;
@@ -133,7 +135,6 @@ static char *put_part(char *at, const char *part, size_t bytes) {
 static void put_answer(struct connection *connection, enum status status, uint64_t unique, const struct body *body) {
   size_t before = body->extras_bytes + body->key_bytes, bytes = before + body->value_bytes;
   char *at = connection_room(connection, HEAD_BYTES + (body->item == NULL ? bytes : before));
-  if (at == NULL && body->item != NULL) sending_put(connection, body->item, body->value_bytes);
   if (at == NULL) return;
   *at++ = (char)BINARY_ANSWER;
   *at++ = (char)connection->binary.opcode;
@@ -191,15 +192,15 @@ static void tell_missed(struct connection *connection, const struct request *req
 /* A hit is told of quiet gets, too. */
 static void get(struct connection *connection, const struct request *request) {
   bool has_expiry = request->extras_bytes > 0;
-  uint32_t expires = has_expiry ? read_expiry(request->extras) : TICK_NEVER;
+  uint32_t expires = has_expiry ? read_expiry(connection, request->extras) : TICK_NEVER;
   struct key key = key_of(request);
-  struct item *item = key_fetch(connection->thread, &key, clock_now(), has_expiry ? &expires : NULL);
+  struct item *item = key_fetch(connection->thread, &key, connection->thread->now, has_expiry ? &expires : NULL);
   connection->work -= WORK_KEY;
   if (item == NULL) {
     tell_missed(connection, request);
     return;
   }
-  if (request->opcode != TOUCH && !sending_prepare(connection, item, HEAD_BYTES + FLAGS_BYTES + KEY_MOST)) {
+  if (request->opcode != TOUCH && sending_prepare(connection, item, HEAD_BYTES + FLAGS_BYTES + KEY_MOST) == NULL) {
     cache_release(connection->thread, item);
     tell_fault(connection, STATUS_NO_MEMORY);
     return;
@@ -237,7 +238,7 @@ static void arithmetic(struct connection *connection, const struct request *requ
                                .unique = request->unique };
   const struct beginning beginning = { .begins = read_32(request->extras + 16) != UINT32_MAX,
                                        .number = read_64(request->extras + 8),
-                                       .expires = read_expiry(request->extras + 16),
+                                       .expires = read_expiry(connection, request->extras + 16),
                                        .has_binary_key = has_binary_key(request) };
   struct key key = key_of(request);
   struct reckoned reckoned = key_reckon(connection->thread, &key, &delta, &beginning);
@@ -295,7 +296,7 @@ static void store(struct connection *connection, const struct request *request) 
   struct storing *storing = &connection->storing;
   bool has_extras = request->extras_bytes > 0;
   uint32_t flags = has_extras ? read_32(request->extras) : 0;
-  uint32_t expires = has_extras ? read_expiry(request->extras + 4) : TICK_NEVER;
+  uint32_t expires = has_extras ? read_expiry(connection, request->extras + 4) : TICK_NEVER;
   storing->terms = (struct store_terms){ .how = how_of(request), .unique = request->unique };
   storing->speaker = &SPEAKER;
   storing->outdates = request->opcode == SET || request->opcode == SETQ;
@@ -320,6 +321,7 @@ static void quit(struct connection *connection, const struct request *request) {
   (void)request;
   tell_done(connection, 0);
   connection->ends = true;
+  connection->closing = CLOSED_BY_CLIENT;
 }
 
 static void flush(struct connection *connection, const struct request *request) {

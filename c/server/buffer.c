@@ -6,8 +6,7 @@
 /* With the 0 behind it. */
 static size_t block_bytes(size_t room) { return room + 1; }
 
-static char *first_block(struct thread *thread) {
-  if (thread->spare_blocks > 0) return thread->spare_block[--thread->spare_blocks];
+static char *first_block(void) {
   char *block = malloc(block_bytes(BUFFER_FIRST));
   if (block != NULL) memory_take(MEMORY_connections, block_bytes(BUFFER_FIRST));
   return block;
@@ -30,10 +29,9 @@ static bool widen(struct buffer *buffer, size_t needed) {
   return true;
 }
 
-bool buffer_make_room(struct thread *thread, struct buffer *buffer, size_t bytes) {
-  if (buffer->end + bytes <= buffer->room) return true;
+bool buffer_make_more_room(struct buffer *buffer, size_t bytes) {
   if (buffer->at == NULL && bytes <= BUFFER_FIRST) {
-    buffer->at = first_block(thread);
+    buffer->at = first_block();
     if (buffer->at != NULL) buffer->room = BUFFER_FIRST;
     return buffer->at != NULL;
   }
@@ -43,12 +41,7 @@ bool buffer_make_room(struct thread *thread, struct buffer *buffer, size_t bytes
   return buffer->end + bytes <= buffer->room || widen(buffer, buffer->end + bytes);
 }
 
-void buffer_give_back(struct thread *thread, struct buffer *buffer) {
-  if (buffer->at != NULL && buffer->room == BUFFER_FIRST && thread->spare_blocks < SPARE_BLOCKS_MOST)
-    thread->spare_block[thread->spare_blocks++] = buffer->at;
-  else if (buffer->at != NULL) free_block(buffer->at, buffer->room);
-  *buffer = (struct buffer){ 0 };
-}
+void buffer_free(struct buffer *buffer) { free_block(buffer->at, buffer->room); }
 
 void buffers_free(struct thread *thread) {
   while (thread->spare_blocks > 0) free_block(thread->spare_block[--thread->spare_blocks], BUFFER_FIRST);

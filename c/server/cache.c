@@ -61,16 +61,13 @@ struct held cache_hold(struct thread *thread, const struct key *key, uint32_t no
   return held;
 }
 
-void cache_hit(struct thread *thread, struct item *item, uint32_t now) {
+void cache_hit(struct thread *thread, struct item *item, uint32_t now, enum hit hit) {
   struct shelf_reader *reader = reader_of(thread, item);
-  if (bump_marked(&reader->worker, THE_HOLD)) return; /* most hits: this load saves a locked step */
+  bump_marks_of marks = bump_marks(&reader->worker, THE_HOLD);
+  if (hit != HIT_UNCOUNTED) reader_count_event(reader, (enum shelf_event)(SHELF_hits_to_hot + marks.segment));
+  if (hit == HIT_UNMARKED || (marks.fetched && marks.active)) return; /* most hits: no locked step is needed */
   enum bump_touch_answer touched = bump_touch(&reader->worker, THE_HOLD, now).answer;
   if (touched >= BUMP_TOUCH_QUEUED && touched <= BUMP_TOUCH_DROPPED_REFS_FULL) shelf_tell_counts(reader);
-}
-
-void cache_count_hit(struct thread *thread, struct item *item) {
-  uint32_t list = bump_marks(&reader_of(thread, item)->worker, THE_HOLD).segment;
-  shelf_count_event(item->shelf, thread->number, (enum shelf_event)(SHELF_hits_to_hot + list));
 }
 
 bool cache_was_hit(struct thread *thread, struct item *item) {
@@ -140,7 +137,7 @@ static bool lacks_memory(struct shelf *shelf) {
 /* Room in memory for what an item is charged. */
 static bool has_room(struct thread *thread, const struct item *item) {
   struct shelf *shelf = shelf_at(item->shelf);
-  return room_make(&thread->counters, shelf, clock_now()) || lacks_memory(shelf);
+  return room_make(&thread->counters, shelf, thread->now) || lacks_memory(shelf);
 }
 
 /* An open shelf, for an item that may be linked next. */
@@ -174,7 +171,7 @@ struct item *cache_begin_item(struct thread *thread, const struct key *key, uint
 }
 
 bool cache_waits_for_room(struct thread *thread, const struct item *item) {
-  return room_is_owed() && room_make(&thread->counters, shelf_at(item->shelf), clock_now()) && room_is_owed();
+  return room_is_owed() && room_make(&thread->counters, shelf_at(item->shelf), thread->now) && room_is_owed();
 }
 
 bool cache_grow_item(struct thread *thread, struct item *item, size_t room) {
@@ -270,7 +267,7 @@ static struct named name_item(struct thread *thread, struct item *item, const st
 
 enum store_answer cache_store(struct thread *thread, struct item *item, const struct store_terms *terms,
                               uint64_t *unique) {
-  uint32_t now = clock_now();
+  uint32_t now = clock_now(); /* so that it isn't born before a flush that came before it */
   struct shelf *shelf = shelf_lock_for(item);
   if (!link_item(&thread->counters, shelf, item, now)) {
     shelf->counts.outofmemory++;
@@ -300,7 +297,7 @@ static enum end_answer judge_end(struct item *item, const struct end_terms *term
 }
 
 enum end_answer cache_end(struct thread *thread, const struct key *key, const struct end_terms *terms) {
-  uint32_t now = clock_now();
+  uint32_t now = thread->now;
   struct item_name old = { 0 };
   enum end_answer answer = END_NOT_FOUND;
   table_lock(key->hash);
@@ -352,7 +349,7 @@ static struct item *changed(struct thread *thread, const struct key *key, const 
 /* One try: STORE_AGAIN where another thread stored the key meanwhile. */
 static enum store_answer try_add(struct thread *thread, const struct key *key, const struct delta *delta,
                                  struct delta_done *done, enum delta_answer *answer) {
-  struct held held = cache_hold(thread, key, clock_now());
+  struct held held = cache_hold(thread, key, thread->now);
   *answer = DELTA_NOT_FOUND;
   if (held.item == NULL) return STORE_DONE;
   struct item *old = held.item, *item = NULL;

@@ -17,9 +17,10 @@ struct held cache_hold(struct thread *thread, const struct key *key, uint32_t no
 /* The same, and keeps the stripe's lock, whatever is answered: table_unlock(key->hash) lets it go. */
 struct held cache_hold_locked(struct thread *thread, const struct key *key, uint32_t now);
 
-/* Of the item that is held. */
-void cache_hit(struct thread *thread, struct item *item, uint32_t now);
-void cache_count_hit(struct thread *thread, struct item *item); /* by its list: so before the hit itself */
+/* Of the item that is held: a hit, which is counted by its list; one that leaves no marks is counted alone, and one
+ * that isn't counted is so by whoever hits it. */
+enum hit { HIT_WHOLE, HIT_UNMARKED, HIT_UNCOUNTED };
+void cache_hit(struct thread *thread, struct item *item, uint32_t now, enum hit hit);
 bool cache_was_hit(struct thread *thread, struct item *item);
 uint32_t cache_time(struct thread *thread, struct item *item);
 void cache_release(struct thread *thread, struct item *item);

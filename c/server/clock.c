@@ -29,10 +29,10 @@ uint32_t clock_now(void) {
   return (uint32_t)(seconds_of_unix() - began_at_unix + atomic_load_explicit(&moved, memory_order_relaxed));
 }
 
-uint32_t clock_expiry(int64_t given) {
+uint32_t clock_expiry(int64_t given, uint32_t now) {
   if (given == 0) return TICK_NEVER;
   if (given < 0) return TICK_LONG_AGO;
-  if (given <= THIRTY_DAYS) return (uint32_t)given + clock_now();
+  if (given <= THIRTY_DAYS) return (uint32_t)given + now;
   return given <= began_at_unix ? TICK_LONG_AGO : (uint32_t)(given - began_at_unix);
 }
 

@@ -12,9 +12,12 @@ void clock_begin(void);
 /* The tick now. */
 uint32_t clock_now(void);
 
+/* Seconds since a tick. Threads look at the clock at different times: so it may be one that is still to come. */
+static inline uint32_t clock_since(uint32_t then, uint32_t now) { return now > then ? now - then : 0; }
+
 /* What a client gave as the time when its item expires: 0 is never, a negative number long ago; up to thirty days are
  * seconds from now on, and what is more is a time of Unix. */
-uint32_t clock_expiry(int64_t given);
+uint32_t clock_expiry(int64_t given, uint32_t now);
 
 /* A tick as a time of Unix. */
 int64_t clock_unix(uint32_t tick);

@@ -5,7 +5,7 @@
 #include <string.h>
 #include <sys/ioctl.h>
 
-char *connection_room(struct connection *connection, size_t bytes) {
+char *connection_make_room(struct connection *connection, size_t bytes) {
   struct buffer *out = &connection->out;
   if (buffer_make_room(connection->thread, out, bytes)) return out->at + out->end;
   count(connection_counters(connection), COUNT_malloc_fails, 1);
@@ -24,13 +24,6 @@ void connection_drop_value(struct connection *connection) {
   if (storing->is_under_way) item_drop(storing->item);
   else item_free(storing->item);
   storing->item = NULL;
-}
-
-void connection_put(struct connection *connection, const char *text, size_t bytes) {
-  char *at = connection_room(connection, bytes);
-  if (at == NULL) return;
-  memcpy(at, text, bytes);
-  connection->out.end += bytes;
 }
 
 void connection_print(struct connection *connection, const char *format, ...) {

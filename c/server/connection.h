@@ -5,6 +5,7 @@
 #include <stdbool.h>
 #include <stddef.h>
 #include <stdint.h>
+#include <string.h>
 #include "buffer.h"
 #include "cache.h"
 #include "sending.h"
@@ -24,6 +25,9 @@ enum connection_state {
  * tenths of a millisecond, whatever is asked. A byte is a step; the others are for a key that is looked up, a chunk
  * that is looked at, an item that is ended, a line that tells of one, and what tells of a class. */
 enum { TURN_WORK = 150000, WORK_KEY = 500, WORK_LOOKED = 100, WORK_ENDED = 2500, WORK_TOLD = 1500, WORK_CLASS = 15000 };
+
+/* Why a connection is closed. */
+enum closing { CLOSED_BY_FAULT, CLOSED_BY_CLIENT, CLOSED_BY_IDLING, CLOSED_BY_SHUTDOWN };
 
 /* Why a value isn't stored. */
 enum refusal { REFUSED_TOO_LARGE, REFUSED_NO_MEMORY, REFUSED_BAD_END };
@@ -86,6 +90,7 @@ struct connection {
   struct connection *next, **previous; /* in the thread's list */
   struct connection *next_yielded;
   enum connection_state state;
+  enum closing closing; /* once it ends */
   bool ends;     /* once what is to be sent was sent */
   bool is_quiet; /* the command wants no reply */
   bool waits_to_send;
@@ -110,8 +115,13 @@ struct connection {
 /* Beside its state, which another thread may not look at. */
 enum { DOES_WAIT = 0, DOES_SEND = 16, DOES_STEPS = 32 };
 
-/* Room for so many bytes at the end of its text; NULL: no memory, and the connection ends. */
-char *connection_room(struct connection *connection, size_t bytes);
+/* Room for so many bytes at the end of its text; NULL: no memory, and the connection ends. The first one is called
+ * where the room isn't there yet. */
+char *connection_make_room(struct connection *connection, size_t bytes);
+static inline char *connection_room(struct connection *connection, size_t bytes) {
+  const struct buffer *out = &connection->out;
+  return out->end + bytes <= out->room ? out->at + out->end : connection_make_room(connection, bytes);
+}
 
 static inline void connection_put_to(struct connection *connection, const char *end) {
   connection->out.end = (size_t)(end - connection->out.at);
@@ -129,7 +139,13 @@ size_t connection_waiting(const struct connection *connection);
 /* Gives back the item of a value that isn't stored; or does nothing where there is none. */
 void connection_drop_value(struct connection *connection);
 
-void connection_put(struct connection *connection, const char *text, size_t bytes);
+static inline void connection_put(struct connection *connection, const char *text, size_t bytes) {
+  char *at = connection_room(connection, bytes);
+  if (at == NULL) return;
+  memcpy(at, text, bytes);
+  connection->out.end += bytes;
+}
+
 void connection_print(struct connection *connection, const char *format, ...) __attribute__((format(printf, 2, 3)));
 
 /* A line of an answer, unless no reply is wanted; and one that is told all the same. */
@@ -138,6 +154,16 @@ void connection_say_always(struct connection *connection, const char *line);
 
 /* Begins a walk, behind whose last step this line is told. */
 void connection_walk(struct connection *connection, bool (*step)(struct connection *connection), const char *end);
+
+static inline bool sending_is_full(const struct connection *connection) {
+  bool may_be = buffer_size(&connection->out) >= TEXT_LEAST || connection->sending.count > 0;
+  return may_be && sending_is_full_by(connection);
+}
+
+/* Whether nothing is to be sent. */
+static inline bool sending_is_empty(const struct connection *connection) {
+  return buffer_size(&connection->out) == 0 && connection->sending.count == 0;
+}
 
 static inline struct counters *connection_counters(struct connection *connection) {
   return &connection->thread->counters;

@@ -3,8 +3,8 @@
 #include <errno.h>
 #include <stdlib.h>
 #include <string.h>
-#include <sys/socket.h>
 #include "binary.h"
+#include "calls.h"
 #include "protocol.h"
 #include "values.h"
 #include "watchers.h"
@@ -24,7 +24,7 @@ enum received { RECEIVED_ALL, RECEIVED_SOME, RECEIVED_NOTHING, RECEIVED_END };
 
 static enum received receive_to(struct connection *connection, char *at, size_t room, size_t *bytes) {
   if (room > RECEIVED_AT_ONCE) room = RECEIVED_AT_ONCE;
-  ssize_t received = recv(connection->file, at, room, 0);
+  ssize_t received = call_receive(connection->file, at, room);
   if (received > 0) {
     *bytes = (size_t)received;
     connection->work -= (int32_t)*bytes;
@@ -32,6 +32,7 @@ static enum received receive_to(struct connection *connection, char *at, size_t 
     return *bytes < room ? RECEIVED_ALL : RECEIVED_SOME;
   }
   *bytes = 0;
+  if (received == 0) connection->closing = CLOSED_BY_CLIENT;
   if (received == 0) return RECEIVED_END;
   return errno == EAGAIN || errno == EWOULDBLOCK || errno == EINTR ? RECEIVED_NOTHING : RECEIVED_END;
 }
@@ -111,7 +112,7 @@ static bool step_line(struct connection *connection) {
   in->begin = (size_t)(end + 1 - in->at);
   if (end - line > 1 && end[-1] == '\r') end--;
   *end = 0;
-  text_line(connection, line);
+  text_line(connection, line, end);
   return true;
 }
 
@@ -156,11 +157,19 @@ static bool step(struct connection *connection) {
   }
 }
 
+/* Whether there is something to step through, or may be. */
+static bool has_more(const struct connection *connection) {
+  const struct storing *storing = &connection->storing;
+  if (connection->state == READS_VALUE && storing->received == storing_most(storing)) return true;
+  return buffer_size(&connection->in) > 0 || connection->state >= CHECKS_KEYS;
+}
+
 /* Steps on, until more has to be received, or much is to be sent, or others should have their turn. Whatever a step is
  * for, it may evict. */
 static bool step_on(struct connection *connection, int *requests) {
   const struct counters *counters = connection_counters(connection);
   while (!connection->ends && !sending_is_full(connection) && *requests > 0 && connection->work > 0) {
+    if (!has_more(connection)) return false;
     uint64_t evicted = counted(counters, COUNT_evictions);
     if (connection->state == READS_LINE) --*requests;
     if (!step(connection)) return false;
@@ -169,41 +178,40 @@ static bool step_on(struct connection *connection, int *requests) {
   return true;
 }
 
-/* Whether there is something to step through, or may be. */
-static bool has_more(const struct connection *connection) {
-  const struct storing *storing = &connection->storing;
-  if (connection->state == READS_VALUE && storing->received == storing_most(storing)) return true;
-  return buffer_size(&connection->in) > 0 || connection->state >= CHECKS_KEYS;
-}
-
 /* It waits for its client: what it doesn't need meanwhile goes back. Keys that are to be answered stand in what was
  * received, though it is done with. */
-static enum driven wait_by(struct connection *connection, enum driven driven) {
+static void give_back(struct connection *connection) {
   if (connection->state < CHECKS_KEYS && buffer_size(&connection->in) == 0)
     buffer_give_back(connection->thread, &connection->in);
-  return driven;
+}
+
+/* Goes on with what was received, and with what is to be sent: until more has to be received, which is DRIVE_RECEIVES,
+ * or its turn is over. */
+static enum driven go_on(struct connection *connection, int *requests) {
+  for (;;) {
+    bool could_go_on = step_on(connection, requests);
+    enum sent sent = sending_go_on(connection);
+    if (sent != SENT_ALL) return sent == SENT_SOME ? DRIVE_YIELDS : DRIVE_SENDS;
+    if (connection->ends) return DRIVE_ENDS;
+    if (!could_go_on || !has_more(connection)) return DRIVE_RECEIVES;
+    if (*requests <= 0 || connection->work <= 0) return DRIVE_YIELDS;
+  }
 }
 
 /* Where less came than there was room for, nothing is left in the socket: the epoll tells when more comes. It tells at
  * once where the turn is over, and more is there. */
 enum driven drive(struct connection *connection) {
   int requests = settings.requests_at_once;
-  bool is_drained = false;
+  enum driven driven = DRIVE_RECEIVES;
+  enum received received = RECEIVED_SOME;
   connection->work = TURN_WORK;
   connection->thread->file = connection->file;
-  for (;;) {
-    bool could_go_on = step_on(connection, &requests);
-    enum sent sent = sending_go_on(connection);
-    if (sent != SENT_ALL) return sent == SENT_SOME ? DRIVE_YIELDS : wait_by(connection, DRIVE_SENDS);
-    if (connection->ends) return DRIVE_ENDS;
-    if (could_go_on && has_more(connection)) {
-      if (requests <= 0 || connection->work <= 0) return DRIVE_YIELDS;
-      continue;
-    }
-    if (is_drained || connection->work <= 0) return wait_by(connection, DRIVE_RECEIVES);
-    enum received received = receive(connection);
+  if (has_more(connection) || !sending_is_empty(connection)) driven = go_on(connection, &requests);
+  while (driven == DRIVE_RECEIVES && received == RECEIVED_SOME && connection->work > 0) {
+    received = receive(connection);
     if (received == RECEIVED_END) return DRIVE_ENDS;
-    if (received == RECEIVED_NOTHING) return wait_by(connection, DRIVE_RECEIVES);
-    is_drained = received == RECEIVED_ALL;
+    if (received != RECEIVED_NOTHING) driven = go_on(connection, &requests);
   }
+  if (driven == DRIVE_RECEIVES || driven == DRIVE_SENDS) give_back(connection);
+  return driven;
 }

@@ -1,5 +1,6 @@
 #include "item.h"
 #include <pthread.h>
+#include <stdalign.h>
 #include <stdlib.h>
 #include <string.h>
 #include "memory.h"
@@ -13,10 +14,15 @@ static uint32_t size_of[CLASSES_MOST];
 static double weight_of[CLASSES_MOST];
 static uint32_t classes;
 
-static _Atomic uint64_t under_way; /* what those are charged whose values are still to come */
-static _Atomic uint64_t last_unique;
+/* What those are charged whose values are still to come; and the last number for cas. In a line of the processor's
+ * cache of their own, as each store changes it, and each get reads what stands below. */
+static struct {
+  alignas(64) _Atomic uint64_t bytes;
+  _Atomic uint64_t unique;
+} stored;
 
 /* What flush_all says. The one that is to come doesn't undo the one that came. */
+_Atomic bool items_were_flushed;
 static pthread_mutex_t flushing = PTHREAD_MUTEX_INITIALIZER; /* of whoever changes these */
 static _Atomic uint32_t flushed_until;                       /* 0: never */
 static _Atomic uint64_t flushed_unique;
@@ -116,8 +122,8 @@ void item_free(struct item *item) {
 bool item_may_have(struct item *item, size_t room) {
   uint64_t most = atomic_load_explicit(&settings.memory, memory_order_relaxed) / 4 + settings.item_most;
   uint32_t more = (uint32_t)(memory_of_block(item) + (item_is_apart(item) ? room : 0)) - item->charge;
-  if (atomic_fetch_add_explicit(&under_way, more, memory_order_relaxed) + more > most) {
-    atomic_fetch_sub_explicit(&under_way, more, memory_order_relaxed);
+  if (atomic_fetch_add_explicit(&stored.bytes, more, memory_order_relaxed) + more > most) {
+    atomic_fetch_sub_explicit(&stored.bytes, more, memory_order_relaxed);
     return false;
   }
   charge(item, more);
@@ -131,25 +137,20 @@ bool item_grow(struct item *item, size_t room) {
 }
 
 void item_complete(struct item *item) {
-  atomic_fetch_sub_explicit(&under_way, item->charge, memory_order_relaxed);
+  atomic_fetch_sub_explicit(&stored.bytes, item->charge, memory_order_relaxed);
   charge(item, whole_charge(item) - item->charge);
 }
 
 void item_drop(struct item *item) {
-  atomic_fetch_sub_explicit(&under_way, item->charge, memory_order_relaxed);
+  atomic_fetch_sub_explicit(&stored.bytes, item->charge, memory_order_relaxed);
   item_free(item);
 }
 
-uint64_t items_under_way(void) { return atomic_load_explicit(&under_way, memory_order_relaxed); }
+uint64_t items_under_way(void) { return atomic_load_explicit(&stored.bytes, memory_order_relaxed); }
 
-uint64_t unique_next(void) { return settings.has_unique ? atomic_fetch_add(&last_unique, 1) + 1 : 0; }
+uint64_t unique_next(void) { return settings.has_unique ? atomic_fetch_add(&stored.unique, 1) + 1 : 0; }
 
-bool item_is_expired(const struct item *item, uint32_t now) {
-  uint32_t expires = atomic_load_explicit(&item->expires, memory_order_relaxed);
-  return expires != 0 && expires <= now;
-}
-
-bool item_is_flushed(const struct item *item, uint32_t now) {
+bool item_is_flushed_by(const struct item *item, uint32_t now) {
   uint32_t coming = atomic_load_explicit(&flush_to_come, memory_order_relaxed);
   if (coming != 0 && coming <= now && item->born <= coming) return true;
   uint32_t until = atomic_load_explicit(&flushed_until, memory_order_relaxed);
@@ -171,6 +172,7 @@ void items_flush(uint32_t tick, uint32_t now) {
     until = 0;
   }
   atomic_store(&flush_to_come, until);
+  atomic_store(&items_were_flushed, true);
   pthread_mutex_unlock(&flushing);
 }
 

@@ -97,8 +97,17 @@ uint64_t items_under_way(void);
 uint64_t unique_next(void);
 
 /* Whether the item is there for clients no more. */
-bool item_is_expired(const struct item *item, uint32_t now);
-bool item_is_flushed(const struct item *item, uint32_t now);
+static inline bool item_is_expired(const struct item *item, uint32_t now) {
+  uint32_t expires = atomic_load_explicit(&item->expires, memory_order_relaxed);
+  return expires != 0 && expires <= now;
+}
+
+/* Set once anything was ever flushed, or is to be. */
+extern _Atomic bool items_were_flushed;
+bool item_is_flushed_by(const struct item *item, uint32_t now);
+static inline bool item_is_flushed(const struct item *item, uint32_t now) {
+  return atomic_load_explicit(&items_were_flushed, memory_order_relaxed) && item_is_flushed_by(item, now);
+}
 
 /* Flushes all items that are stored before this tick, and those that were stored before this call where it is now. One
  * that is to come takes the place of another one that is to come. */

@@ -17,16 +17,14 @@ struct item *key_fetch(struct thread *thread, const struct key *key, uint32_t no
   if (expires != NULL) {
     atomic_store(&item->expires, *expires);
     shelf_count_event(item->shelf, thread->number, SHELF_touch_hits);
-  } else {
-    cache_count_hit(thread, item);
   }
-  cache_hit(thread, item, now);
+  cache_hit(thread, item, now, expires != NULL ? HIT_UNCOUNTED : HIT_WHOLE);
   count(&thread->counters, expires != NULL ? COUNT_touch_hits : COUNT_get_hits, 1);
   return item;
 }
 
 bool key_touch(struct thread *thread, const struct key *key, uint32_t expires) {
-  struct item *item = key_fetch(thread, key, clock_now(), &expires);
+  struct item *item = key_fetch(thread, key, thread->now, &expires);
   if (item != NULL) cache_release(thread, item);
   return item != NULL;
 }

@@ -8,8 +8,9 @@
 #include "memory.h"
 #include "thread.h"
 
-/* It sleeps for a millisecond while there is something to do, and longer and longer while there isn't. */
-enum { PAUSE_LEAST = 1000000, PAUSE_MOST = 100000000 };
+/* It sleeps for a millisecond while there is MUCH to do: bumps, moves of items. While there is less it sleeps longer
+ * and longer, up to PAUSE_FEW, and while there is nothing up to PAUSE_MOST. */
+enum { PAUSE_LEAST = 1000000, PAUSE_FEW = 8000000, PAUSE_MOST = 100000000, MUCH = 64 };
 
 /* Chunks of a shelf that are looked at in one go, and in one round of a second. */
 enum { CRAWLED_WITH_LOCK = 200, CRAWLED_AT_ONCE = 5000 };
@@ -43,22 +44,25 @@ static void rest(const struct thread *thread, long nanoseconds) {
   if (ppoll(&wait, 1, &time, NULL) > 0) eventfd_read(thread->wake, &times);
 }
 
-/* One round. Whether there was something to do. */
-static bool attend(struct thread *thread, uint32_t now, bool crawls_now) {
-  bool did = false;
-  memory_look();
+/* What comes again and again of a shelf. How much there was to do. */
+static uint32_t attend_shelf(struct thread *thread, struct shelf *shelf, uint32_t now, bool crawls_now) {
+  uint32_t did = shelf_drain(shelf, now);
+  if (settings.maintains) did += shelf_juggle(shelf, &thread->counters, now);
+  if (crawls_now) crawl(shelf, &thread->counters, now);
+  return did;
+}
+
+/* One round. How much there was to do. */
+static uint32_t attend(struct thread *thread, uint32_t now, bool crawls_now) {
+  uint32_t did = memory_look() ? MUCH : 0;
   shelves_open_ahead();
   for (int times = 0; times < PAYS_AT_ONCE && room_is_owed(); times++) {
     if (!room_make(&thread->counters, shelf_at(0), now)) break;
-    did = true;
+    did += MUCH;
   }
-  for (uint32_t number = 0; number < shelf_count(); number++) {
-    struct shelf *shelf = shelf_at(number);
-    if (!shelf_is_open(shelf)) continue;
-    did |= shelf_drain(shelf, now) > 0;
-    if (settings.maintains) did |= shelf_juggle(shelf, &thread->counters, now) > 0;
-    if (crawls_now) crawl(shelf, &thread->counters, now);
-  }
+  for (uint32_t class = 1; class <= class_count(); class++)
+    for (uint32_t number = shelf_first(class); number < shelf_behind_open(class); number++)
+      did += attend_shelf(thread, shelf_at(number), now, crawls_now);
   shelves_compare();
   return did;
 }
@@ -70,11 +74,12 @@ void *maintainer_run(void *given) {
   while (!atomic_load(&is_ending)) {
     rest(thread, pause);
     uint32_t now = clock_now();
-    bool did = attend(thread, now, atomic_load(&settings.crawls) && now != crawled);
+    uint32_t did = attend(thread, now, atomic_load(&settings.crawls) && now != crawled);
     crawled = now;
     atomic_fetch_add(&juggles, 1);
-    if (did) pause = PAUSE_LEAST;
-    else if (pause < PAUSE_MOST) pause += pause / 8;
+    if (did >= MUCH) pause = PAUSE_LEAST;
+    else if (did > 0 && pause > PAUSE_FEW) pause = PAUSE_FEW;
+    else if (pause < (did > 0 ? PAUSE_FEW : PAUSE_MOST)) pause += pause / 8;
   }
   return NULL;
 }

@@ -2,11 +2,13 @@
 #include "memory.h"
 #include <fcntl.h>
 #include <malloc.h>
+#include <stdalign.h>
 #include <stdatomic.h>
 #include <stdio.h>
 #include <stdlib.h>
 #include <time.h>
 #include <unistd.h>
+#include "pages.h"
 #include "settings.h"
 
 /* A block of MAPPED_LEAST bytes is a mapping of its own, which goes back to the system by itself: always, where malloc
@@ -19,11 +21,17 @@ enum { MAPPED_LEAST = 1 << 17, TRIMMED_LEAST = 1 << 20, BEFORE_BLOCK = sizeof(si
  * those that went, and so it grows no more. */
 enum { NOT_ITEMS_PART = 2, CONNECTIONS_PART = 4, EXCEEDED_PART = 4, SPARE_PART = 50 };
 
-/* Free pages are given back where at least a FREE_PART-th of -m is free, and where -m is at most GIVEN_BACK_MOST: in
- * a larger heap it would take too long. */
-enum { FREE_PART = 16, PAUSE_TIMES = 32, PAUSE_LEAST = 100000000, SECOND = 1000000000, GIVEN_BACK_MOST = 1 << 30 };
+/* Free pages are given back where at least a FREE_PART-th of -m is free. That takes at most one of PAUSE_TIMES parts of
+ * the time. */
+enum { FREE_PART = 16, PAUSE_TIMES = 32, PAUSE_LEAST = 100000000, SECOND = 1000000000 };
 
-static _Atomic uint64_t taken[MEMORY_KIND_COUNT];
+/* Nanoseconds from one look to the next, which takes as long as some requests. */
+enum { LOOK_PAUSE = 5000000 };
+
+/* In a line of the processor's cache each: so who reads another one doesn't wait for whoever changes this one. */
+static struct {
+  alignas(64) _Atomic uint64_t bytes;
+} taken[MEMORY_KIND_COUNT];
 static _Atomic uint64_t now_resident, exceeded;
 static uint64_t at_start; /* what the process had before it had any of these */
 
@@ -47,19 +55,22 @@ void memory_begin(void) {
   mallopt(M_ARENA_MAX, 1);
   mallopt(M_MMAP_THRESHOLD, MAPPED_LEAST);
   mallopt(M_TRIM_THRESHOLD, TRIMMED_LEAST);
+  mallopt(M_MXFAST, 0); /* else small pieces are joined when a large one is asked for: all at once */
 #endif
   at_start = resident();
 }
 
 void memory_take(enum memory_kind kind, uint64_t bytes) {
-  atomic_fetch_add_explicit(&taken[kind], bytes, memory_order_relaxed);
+  atomic_fetch_add_explicit(&taken[kind].bytes, bytes, memory_order_relaxed);
 }
 
 void memory_give(enum memory_kind kind, uint64_t bytes) {
-  atomic_fetch_sub_explicit(&taken[kind], bytes, memory_order_relaxed);
+  atomic_fetch_sub_explicit(&taken[kind].bytes, bytes, memory_order_relaxed);
 }
 
-uint64_t memory_of(enum memory_kind kind) { return atomic_load_explicit(&taken[kind], memory_order_relaxed); }
+uint64_t memory_of(enum memory_kind kind) {
+  return atomic_load_explicit(&taken[kind].bytes, memory_order_relaxed);
+}
 
 size_t memory_of_block(void *block) { return malloc_usable_size(block) + BEFORE_BLOCK; }
 
@@ -71,39 +82,53 @@ static int64_t nanoseconds(void) {
   return (int64_t)time.tv_sec * SECOND + time.tv_nsec;
 }
 
-/* Gives back pages of the heap in which nothing is any more, where many are: as where small values made room for large
- * ones, or for what isn't in the heap. malloc waits meanwhile, so it isn't done often. false: it is to be done later.
- */
-static bool give_back_pages(uint64_t all) {
-#ifdef __GLIBC__
-  static int64_t not_before;
+/* Whether many pages of the heap have nothing in them any more: as where small values made room for large ones, or for
+ * what isn't in the heap. */
+static bool has_free_pages(uint64_t all) {
   uint64_t known = 0;
   for (enum memory_kind kind = 0; kind < MEMORY_KIND_COUNT; kind++) known += memory_of(kind);
-  if (all > GIVEN_BACK_MOST || memory_resident() < known + all / FREE_PART) return true;
+  return memory_resident() >= known + all / FREE_PART;
+}
+
+/* Gives some of them back, where that is to be done, or goes on with it. How far it is. */
+enum giving { GIVING_DONE, GIVING_LATER, GIVING_NOW };
+static enum giving give_back_pages(uint64_t all, bool is_enough) {
+  static bool is_giving;
+  static int64_t not_before, took;
   int64_t begins = nanoseconds();
-  if (begins < not_before) return false;
-  malloc_trim(0);
+  if (!is_giving) {
+    if (is_enough || !has_free_pages(all)) return GIVING_DONE;
+    if (begins < not_before) return GIVING_LATER;
+    is_giving = true;
+    took = 0;
+  }
+  bool is_over = pages_give_back(is_enough);
   int64_t ends = nanoseconds();
-  not_before = ends + (ends - begins) * PAUSE_TIMES + PAUSE_LEAST;
+  took += ends - begins;
+  if (!is_over) return GIVING_NOW;
+  is_giving = false;
+  not_before = ends + took * PAUSE_TIMES + PAUSE_LEAST;
   atomic_store_explicit(&now_resident, resident(), memory_order_relaxed);
-#else
-  (void)all;
-#endif
-  return true;
+  return GIVING_DONE;
 }
 
 /* How much is exceeded is known once free pages were given back. Until then a FREE_PART-th of -m is let pass, beside
  * what was known before. */
-void memory_look(void) {
+bool memory_look(void) {
   static uint64_t known;
+  static int64_t looked;
+  static enum giving giving;
+  if (giving != GIVING_NOW && nanoseconds() < looked + LOOK_PAUSE) return false;
+  looked = nanoseconds();
   uint64_t all = atomic_load_explicit(&settings.memory, memory_order_relaxed);
   uint64_t may = all + all / SPARE_PART + at_start;
   atomic_store_explicit(&now_resident, resident(), memory_order_relaxed);
-  bool is_known = memory_resident() <= may || give_back_pages(all);
+  giving = give_back_pages(all, memory_resident() <= may);
   uint64_t over = memory_resident() > may ? memory_resident() - may : 0;
-  known = is_known ? over : least_of(known, over);
+  known = giving == GIVING_DONE ? over : least_of(known, over);
   uint64_t counts = over > known + all / FREE_PART ? over - all / FREE_PART : known;
   atomic_store_explicit(&exceeded, least_of(counts, all / EXCEEDED_PART), memory_order_relaxed);
+  return giving == GIVING_NOW;
 }
 
 uint64_t memory_used(void) {

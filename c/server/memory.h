@@ -23,8 +23,8 @@ uint64_t memory_of(enum memory_kind kind);
 size_t memory_of_block(void *block);
 
 /* What the process has in memory, with all that isn't counted, and what lies free between pieces: as it was looked at
- * last, by the maintainer. */
-void memory_look(void);
+ * last, by the maintainer. Whether it is to look again soon, since free pages are being given back. */
+bool memory_look(void);
 uint64_t memory_resident(void);
 
 /* All that counts against -m: items; what else is taken, up to half of -m, and of that what connections take up to a

@@ -29,6 +29,7 @@ struct meta {
   bool has_binary_key; /* b */
   bool ends_by_vivify; /* of N and T, N comes last: it tells when a new item expires */
   char mode;           /* M */
+  uint32_t now;
   uint32_t vivify_expires;
   uint32_t expires;
   uint32_t recache_before;
@@ -42,7 +43,7 @@ struct meta {
 /* A time, which follows its flag. */
 static uint32_t read_time(struct meta *meta, const char *text) {
   int32_t given;
-  if (number_i32(text, &given)) return clock_expiry(given);
+  if (number_i32(text, &given)) return clock_expiry(given, meta->now);
   meta->error = BAD_TOKEN;
   return TICK_NEVER;
 }
@@ -104,9 +105,9 @@ static bool read_flag(struct meta *meta, const struct word *word, struct word *k
 }
 
 /* Reads the flags from this word on. The key is decoded, where a flag says so. */
-static struct meta read_flags(struct words *words, size_t from) {
+static struct meta read_flags(const struct connection *connection, struct words *words, size_t from) {
   bool seen[127] = { false };
-  struct meta meta = { .by = 1 };
+  struct meta meta = { .by = 1, .now = connection->thread->now };
   for (size_t i = from; i < words->count; i++) {
     unsigned char flag = (unsigned char)words->word[i].at[0];
     if (flag >= sizeof seen || seen[flag]) {
@@ -197,7 +198,7 @@ static bool vivify(struct thread *thread, const struct key *key, const struct me
 
 /* The key's item, held; or one that is made, where the flags want that. The stripe's lock is kept. */
 static struct found find(struct thread *thread, const struct key *key, const struct meta *meta) {
-  struct found found = { .now = clock_now() };
+  struct found found = { .now = thread->now };
   for (int tries = 0;; tries++) {
     struct held held = cache_hold_locked(thread, key, found.now);
     found.item = held.item;
@@ -225,7 +226,7 @@ static char *put_found(char *at, const struct words *words, const struct meta *m
       case 't': at = put_left(at, expires, found->now); break;
       case 'c': at = put_number(at, 'c', atomic_load(&item->unique)); break;
       case 'f': at = put_number(at, 'f', item->flags); break;
-      case 'l': at = put_number(at, 'l', (uint32_t)(found->now - cache_time(thread, item))); break;
+      case 'l': at = put_number(at, 'l', clock_since(cache_time(thread, item), found->now)); break;
       case 'h': at = put_number(at, 'h', cache_was_hit(thread, item)); break;
       case 'O': at = put_word(at, &words->word[i]); break;
       case 'k': at = put_key(at, item->key, item->key_bytes, item->has_binary_key); break;
@@ -261,7 +262,7 @@ static void tell_found(struct connection *connection, const struct words *words,
   struct item *item = found->item;
   char text[ANSWER_MOST], *at = text;
   bool wins = false;
-  if (meta->tells_value && !sending_prepare(connection, item, ANSWER_MOST)) {
+  if (meta->tells_value && sending_prepare(connection, item, ANSWER_MOST) == NULL) {
     table_unlock(item->hash);
     cache_release(thread, item);
     connection_say_always(connection, NO_MEMORY_TO_SEND);
@@ -276,8 +277,9 @@ static void tell_found(struct connection *connection, const struct words *words,
   if (meta->tells_value) sending_put(connection, item, (size_t)item->bytes + 2);
   connection->work -= meta->tells_value ? (int32_t)item->bytes : 0;
   if (meta->has_expiry) shelf_count_event(item->shelf, thread->number, SHELF_touch_hits);
-  else cache_count_hit(thread, item);
-  if (!meta->leaves_marks) cache_hit(thread, item, found->now);
+  if (!meta->has_expiry || !meta->leaves_marks)
+    cache_hit(thread, item, found->now,
+              meta->has_expiry ? HIT_UNCOUNTED : meta->leaves_marks ? HIT_UNMARKED : HIT_WHOLE);
   cache_release(thread, item);
   count(&thread->counters, meta->has_expiry ? COUNT_cmd_touch : COUNT_cmd_get, 1);
   count(&thread->counters, meta->has_expiry ? COUNT_touch_hits : COUNT_get_hits, 1);
@@ -285,7 +287,7 @@ static void tell_found(struct connection *connection, const struct words *words,
 
 void meta_get(struct connection *connection, struct words *words) {
   const char *fault = fault_of(words, "CLIENT_ERROR options flags are too long");
-  struct meta meta = fault == NULL ? read_flags(words, 2) : (struct meta){ .error = fault };
+  struct meta meta = fault == NULL ? read_flags(connection, words, 2) : (struct meta){ .error = fault };
   if (meta.error == NULL && has_long_opaque(words, 2)) meta.error = "CLIENT_ERROR opaque token too long";
   if (meta.error != NULL) {
     connection_say_always(connection, meta.error);
@@ -366,7 +368,7 @@ void meta_set(struct connection *connection, struct words *words) {
     connection_say_always(connection, fault);
     return;
   }
-  struct meta meta = read_flags(words, 3);
+  struct meta meta = read_flags(connection, words, 3);
   int how = how_of(&meta);
   if (meta.error == NULL && how < 0) meta.error = "CLIENT_ERROR invalid mode for ms M token";
   if (meta.error == NULL && has_long_opaque(words, 3)) meta.error = "CLIENT_ERROR opaque token too long";
@@ -392,7 +394,7 @@ void meta_set(struct connection *connection, struct words *words) {
 
 void meta_delete(struct connection *connection, struct words *words) {
   const char *fault = fault_of(words, "CLIENT_ERROR options flags too long");
-  struct meta meta = fault == NULL ? read_flags(words, 2) : (struct meta){ .error = fault };
+  struct meta meta = fault == NULL ? read_flags(connection, words, 2) : (struct meta){ .error = fault };
   if (fault == NULL && meta.error != NULL) meta.error = "CLIENT_ERROR invalid or duplicate flag";
   if (meta.error == NULL && has_long_opaque(words, 2)) meta.error = "CLIENT_ERROR opaque token too long";
   if (meta.error != NULL) {
@@ -416,12 +418,12 @@ void meta_delete(struct connection *connection, struct words *words) {
 /* In the order of the flags: so t behind T or N tells the new time. */
 static char *put_reckoned(char *at, const struct words *words, const struct meta *meta,
                           const struct reckoned *reckoned) {
-  uint32_t expires = reckoned->done.expired_before, now = clock_now();
+  uint32_t expires = reckoned->done.expired_before;
   const struct word *key = &words->word[1];
   for (size_t i = 2; i < words->count; i++) {
     switch (words->word[i].at[0]) {
       case 'c': at = put_number(at, 'c', reckoned->done.unique); break;
-      case 't': at = put_left(at, expires, now); break;
+      case 't': at = put_left(at, expires, meta->now); break;
       case 'T': expires = meta->expires; break;
       case 'N':
         if (reckoned->is_new) expires = meta->vivify_expires;
@@ -459,7 +461,7 @@ static void tell_reckoned(struct connection *connection, const struct words *wor
 
 void meta_arithmetic(struct connection *connection, struct words *words) {
   const char *fault = fault_of(words, "CLIENT_ERROR options flags too long");
-  struct meta meta = fault == NULL ? read_flags(words, 2) : (struct meta){ .error = fault };
+  struct meta meta = fault == NULL ? read_flags(connection, words, 2) : (struct meta){ .error = fault };
   if (fault == NULL && meta.error != NULL) meta.error = "CLIENT_ERROR invalid or duplicate flag";
   bool goes_down = meta.mode == 'D' || meta.mode == '-';
   if (meta.error == NULL && !goes_down && meta.mode != 0 && meta.mode != 'I' && meta.mode != '+')
@@ -496,7 +498,7 @@ void meta_debug(struct connection *connection, struct words *words) {
   count(connection_counters(connection), COUNT_cmd_meta, 1);
   struct thread *thread = connection->thread;
   struct key key = table_key(word[1].at, word[1].bytes);
-  uint32_t now = clock_now();
+  uint32_t now = thread->now;
   struct held held = cache_hold(thread, &key, now);
   struct item *item = held.item;
   if (item == NULL) {
@@ -510,8 +512,8 @@ void meta_debug(struct connection *connection, struct words *words) {
   connection_put(connection, text, (size_t)(at - text));
   uint32_t expires = atomic_load(&item->expires);
   connection_print(connection, " exp=%d la=%" PRIu32 " cas=%" PRIu64 " fetch=%s cls=%" PRIu32 " size=%zu\r\n",
-                   expires != 0 ? (int)(now - expires) : -1, now - cache_time(thread, item), atomic_load(&item->unique),
-                   cache_was_hit(thread, item) ? "yes" : "no", shelf_at(item->shelf)->class,
+                   expires != 0 ? (int)(now - expires) : -1, clock_since(cache_time(thread, item), now),
+                   atomic_load(&item->unique), cache_was_hit(thread, item) ? "yes" : "no", shelf_at(item->shelf)->class,
                    item_reckoned(item->key_bytes, item->flags, item->bytes));
   cache_release(thread, item);
 }

@@ -15,6 +15,7 @@
 #include <sys/un.h>
 #include <time.h>
 #include <unistd.h>
+#include "calls.h"
 #include "clock.h"
 #include "connection.h"
 #include "drive.h"
@@ -175,6 +176,48 @@ static void sit(int file, struct connection *connection) {
   pthread_mutex_unlock(&seating);
 }
 
+/* An address of a socket: what it is called where it has a name, and its port. */
+struct address {
+  bool is_known;
+  int family;
+  char host[sizeof((struct sockaddr_un *)0)->sun_path + 1];
+  unsigned port;
+};
+
+static struct address address_of(int file, int (*ask)(int, struct sockaddr *, socklen_t *)) {
+  struct sockaddr_storage found = { 0 };
+  struct address address = { 0 };
+  socklen_t bytes = sizeof found;
+  const struct sockaddr_in *four = (const struct sockaddr_in *)&found;
+  const struct sockaddr_in6 *six = (const struct sockaddr_in6 *)&found;
+  address.is_known = ask(file, (struct sockaddr *)&found, &bytes) == 0;
+  address.family = found.ss_family;
+  if (address.family == AF_INET) {
+    inet_ntop(AF_INET, &four->sin_addr, address.host, sizeof address.host);
+    address.port = ntohs(four->sin_port);
+  } else if (address.family == AF_INET6) {
+    inet_ntop(AF_INET6, &six->sin6_addr, address.host, sizeof address.host);
+    address.port = ntohs(six->sin6_port);
+  } else if (address.family == AF_UNIX) {
+    memcpy(address.host, ((const struct sockaddr_un *)&found)->sun_path, sizeof address.host - 1);
+  }
+  return address;
+}
+
+/* Tells who watches of a connection that comes, or goes: then with why. */
+static void tell_watchers(const struct connection *connection, const char *reason) {
+  if (!is_watched(WATCHED_CONNECTIONS)) return;
+  struct address address = address_of(connection->file, getpeername);
+  bool is_local = address.family == AF_UNIX;
+  watchers_tell_connection(&(struct watched_connection){ .file = connection->file,
+                                                         .host = is_local            ? "unix"
+                                                                 : address.is_known ? address.host
+                                                                                    : "?",
+                                                         .port = address.port,
+                                                         .transport = is_local ? "local" : "tcp",
+                                                         .reason = reason });
+}
+
 /* Both under the lock: so the thread can't end a connection that it isn't told of yet. */
 static bool add_connection(struct connection *connection) {
   struct thread *thread = connection->thread;
@@ -190,15 +233,17 @@ static bool add_connection(struct connection *connection) {
 }
 
 static void end_connection(struct connection *connection) {
+  static const char *const REASONS[] = { "error", "normal", "idle_timeout", "shutdown" };
   struct thread *thread = connection->thread;
   pthread_mutex_lock(&thread->lock);
   if (connection->next != NULL) connection->next->previous = connection->previous;
   *connection->previous = connection->next;
   pthread_mutex_unlock(&thread->lock);
   sit(connection->file, NULL);
+  watchers_leave(connection);
+  tell_watchers(connection, REASONS[connection->closing]);
   close(connection->file); /* and so it leaves the epoll */
   connection_drop_value(connection);
-  watchers_leave(connection);
   sending_drop(connection);
   buffer_give_back(thread, &connection->in);
   memory_give(MEMORY_connections, memory_of_block(connection));
@@ -233,6 +278,7 @@ static void take_in(int file) {
   atomic_fetch_add(&current, 1);
   atomic_fetch_add(&ever, 1);
   sit(file, connection);
+  tell_watchers(connection, NULL);
   if (!add_connection(connection)) end_connection(connection);
 }
 
@@ -285,6 +331,7 @@ static void wait_for(struct connection *connection, bool to_send) {
 static void yield_to_others(struct connection *connection) {
   struct thread *thread = connection->thread;
   count(&thread->counters, COUNT_conn_yields, 1);
+  thread->now = clock_now(); /* turns take time */
   connection->is_yielded = true;
   if (thread->yielded == NULL) {
     connection->next_yielded = connection;
@@ -300,7 +347,7 @@ static void note(struct connection *connection, int does) {
 }
 
 static void attend(struct connection *connection) {
-  atomic_store_explicit(&connection->active, clock_now(), memory_order_relaxed);
+  atomic_store_explicit(&connection->active, connection->thread->now, memory_order_relaxed);
   switch (drive(connection)) {
     case DRIVE_RECEIVES: note(connection, DOES_WAIT), wait_for(connection, false); break;
     case DRIVE_SENDS: note(connection, DOES_SEND), wait_for(connection, true); break;
@@ -339,25 +386,14 @@ static void tell(struct connection *to, int file, const char *name, const char *
   connection_print(to, "STAT %d:%s %s\r\n", file, name, text);
 }
 
-/* An address of a socket, as memcached writes it. */
 static void tell_address(struct connection *to, int file, const char *name,
                          int (*ask)(int, struct sockaddr *, socklen_t *)) {
-  struct sockaddr_storage address = { 0 };
-  socklen_t bytes = sizeof address;
-  char host[INET6_ADDRSTRLEN] = "", text[sizeof(struct sockaddr_un) + 64] = "?";
-  const struct sockaddr_in *four = (const struct sockaddr_in *)&address;
-  const struct sockaddr_in6 *six = (const struct sockaddr_in6 *)&address;
-  if (ask(file, (struct sockaddr *)&address, &bytes) != 0) return;
-  if (address.ss_family == AF_INET) {
-    inet_ntop(AF_INET, &four->sin_addr, host, sizeof host);
-    snprintf(text, sizeof text, "tcp:%s:%u", host, (unsigned)ntohs(four->sin_port));
-  } else if (address.ss_family == AF_INET6) {
-    inet_ntop(AF_INET6, &six->sin6_addr, host, sizeof host);
-    snprintf(text, sizeof text, "tcp6:[%s]:%u", host, (unsigned)ntohs(six->sin6_port));
-  } else if (address.ss_family == AF_UNIX) {
-    snprintf(text, sizeof text, "unix:%s", ((const struct sockaddr_un *)&address)->sun_path);
-  }
-  tell(to, file, name, text);
+  struct address address = address_of(file, ask);
+  char text[sizeof address.host + 32] = "?";
+  if (address.family == AF_INET) snprintf(text, sizeof text, "tcp:%s:%u", address.host, address.port);
+  if (address.family == AF_INET6) snprintf(text, sizeof text, "tcp6:[%s]:%u", address.host, address.port);
+  if (address.family == AF_UNIX) snprintf(text, sizeof text, "unix:%s", address.host);
+  if (address.is_known) tell(to, file, name, text);
 }
 
 /* memcached's names of what a connection does. */
@@ -370,7 +406,7 @@ static const char *name_of(int told) {
 
 static void tell_seconds(struct connection *to, int file, uint32_t since) {
   uint32_t now = clock_now();
-  connection_print(to, "STAT %d:secs_since_last_cmd %u\r\n", file, now > since ? now - since : 0);
+  connection_print(to, "STAT %d:secs_since_last_cmd %u\r\n", file, clock_since(since, now));
   to->work -= WORK_TOLD * 4;
 }
 
@@ -409,7 +445,7 @@ static struct connection *find_idle(struct thread *thread, uint32_t now) {
   pthread_mutex_lock(&thread->lock);
   struct connection *connection = thread->connections;
   while (connection != NULL && (connection->is_yielded || connection->state == WATCHES ||
-                                now - connection->active <= (uint32_t)settings.idle_most))
+                                clock_since(connection->active, now) <= (uint32_t)settings.idle_most))
     connection = connection->next;
   pthread_mutex_unlock(&thread->lock);
   return connection;
@@ -418,6 +454,7 @@ static struct connection *find_idle(struct thread *thread, uint32_t now) {
 static void end_idle(struct thread *thread, uint32_t now) {
   for (struct connection *connection; (connection = find_idle(thread, now)) != NULL;) {
     count(&thread->counters, COUNT_idle_kicks, 1);
+    connection->closing = CLOSED_BY_IDLING;
     end_connection(connection);
   }
 }
@@ -447,10 +484,11 @@ void *network_serve(void *given) {
   struct thread *thread = given;
   struct epoll_event event[EVENTS_MOST];
   const int patience = settings.idle_most > 0 ? 1000 : -1;
-  uint32_t looked = clock_now();
+  uint32_t looked = thread->now = clock_now();
   while (!atomic_load(&is_ending)) {
     bool is_woken = false;
-    int events = epoll_wait(thread->events, event, EVENTS_MOST, thread->yielded != NULL ? 0 : patience);
+    int events = call_wait(thread->events, event, EVENTS_MOST, thread->yielded != NULL ? 0 : patience);
+    thread->now = clock_now();
     for (int i = 0; i < events; i++) {
       struct connection *connection = event[i].data.ptr;
       if (connection == NULL) is_woken = true;
@@ -458,7 +496,7 @@ void *network_serve(void *given) {
     }
     if (is_woken) attend_watchers(thread);
     attend_yielded(thread);
-    if (settings.idle_most > 0 && clock_now() != looked) end_idle(thread, looked = clock_now());
+    if (settings.idle_most > 0 && thread->now != looked) end_idle(thread, looked = thread->now);
   }
   farewell(thread);
   return NULL;

@@ -10,8 +10,8 @@
 #define OUT_OF_MEMORY "SERVER_ERROR out of memory storing object"
 #define NO_MEMORY_TO_SEND "SERVER_ERROR out of memory writing get response"
 
-/* A line, without its end: 0 stands there. What comes behind it in the buffer may be read as its value. */
-void text_line(struct connection *connection, char *line);
+/* A line, up to its end, where a 0 stands. What comes behind it in the buffer may be read as its value. */
+void text_line(struct connection *connection, char *line, const char *end);
 
 /* Go on with a get's keys: looking whether they are keys, and answering them, as many as one turn has work for. */
 void text_check_keys(struct connection *connection);

@@ -4,32 +4,32 @@
 #include <string.h>
 #include <sys/socket.h>
 #include <sys/uio.h>
+#include "calls.h"
 #include "connection.h"
 #include "memory.h"
 
 /* TEXT_MOST: more text isn't made before some was sent; where all connections together have as much as they may, it is
  * TEXT_LEAST. VALUES_BYTES_MOST: the same of values. */
-enum { TEXT_MOST = 1 << 15, TEXT_LEAST = 1 << 12, VALUES_BYTES_MOST = 1 << 18, SENT_AT_ONCE = 1 << 18 };
+enum { TEXT_MOST = 1 << 15, VALUES_BYTES_MOST = 1 << 18, SENT_AT_ONCE = 1 << 18 };
 
-bool sending_is_full(const struct connection *connection) {
+bool sending_is_full_by(const struct connection *connection) {
   size_t text = buffer_size(&connection->out);
   if (connection->sending.count == VALUES_MOST || connection->sending.bytes >= VALUES_BYTES_MOST) return true;
   return text >= TEXT_LEAST && (text >= TEXT_MOST || !memory_may_take(TEXT_MOST));
 }
 
-bool sending_is_empty(const struct connection *connection) {
-  return buffer_size(&connection->out) == 0 && connection->sending.count == 0;
-}
-
 /* ------------------------------------------------------------------------------------------------------ values */
 
-bool sending_prepare(struct connection *connection, struct item *item, size_t line) {
+char *sending_prepare(struct connection *connection, struct item *item, size_t line) {
   struct sent_value *next = &connection->sending.next;
+  struct buffer *out = &connection->out;
   size_t bytes = (size_t)item->bytes + 2;
   bool is_kept = item_is_apart(item) && connection->sending.count < VALUES_MOST &&
                  cache_keep(connection->thread, item, &next->number);
   next->item = is_kept ? item : NULL;
-  return buffer_make_room(connection->thread, &connection->out, is_kept ? line : line + bytes) || is_kept;
+  if (buffer_make_room(connection->thread, out, is_kept ? line : line + bytes)) return out->at + out->end;
+  if (is_kept) cache_let_go(connection->thread, item, next->number);
+  return NULL;
 }
 
 void sending_put(struct connection *connection, struct item *item, size_t bytes) {
@@ -111,15 +111,18 @@ static void note_sent(struct connection *connection, size_t bytes) {
   }
 }
 
-static ssize_t send_some(struct connection *connection, size_t most) {
-  struct buffer *out = &connection->out;
-  size_t text = buffer_size(out);
-  if (connection->sending.count == 0)
-    return send(connection->file, out->at + out->begin, text < most ? text : most, MSG_NOSIGNAL);
+static ssize_t send_parts(const struct connection *connection, size_t most) {
   struct parts parts = { .left = most };
   gather(connection, &parts);
   const struct msghdr message = { .msg_iov = parts.part, .msg_iovlen = parts.count };
   return sendmsg(connection->file, &message, MSG_NOSIGNAL);
+}
+
+static ssize_t send_some(const struct connection *connection, size_t most) {
+  const struct buffer *out = &connection->out;
+  size_t text = buffer_size(out);
+  if (connection->sending.count > 0) return send_parts(connection, most);
+  return call_send(connection->file, out->at + out->begin, text < most ? text : most);
 }
 
 enum sent sending_go_on(struct connection *connection) {

@@ -30,16 +30,15 @@ struct sending {
   struct sent_value next; /* the one that is prepared; without an item it is copied */
 };
 
-/* Whether nothing more is to be made for it to send, before some was sent. */
-bool sending_is_full(const struct connection *connection);
+/* Whether nothing more is to be made for it to send, before some was sent: of one that has a value to send, or
+ * TEXT_LEAST of text. Any other isn't full. */
+enum { TEXT_LEAST = 1 << 12 };
+bool sending_is_full_by(const struct connection *connection);
 
-/* Whether nothing is to be sent. */
-bool sending_is_empty(const struct connection *connection);
-
-/* Whether the value of an item that this thread holds can be sent, with room for a line of so many bytes before it.
- * false: others wait to be sent, and take as much memory as they may together. Behind true comes sending_put, after the
- * line, of so many bytes of the value and the line's end behind it. */
-bool sending_prepare(struct connection *connection, struct item *item, size_t line);
+/* Room for a line of so many bytes, before the value of an item that this thread holds. NULL: it can't be sent, since
+ * others wait to be sent, and take as much memory as they may together; or there is none. Else sending_put comes next,
+ * after the line, of so many bytes of the value and the line's end behind it. */
+char *sending_prepare(struct connection *connection, struct item *item, size_t line);
 void sending_put(struct connection *connection, struct item *item, size_t bytes);
 
 /* Sends what is to be sent, and so much of it as goes in a turn. */

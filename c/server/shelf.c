@@ -61,8 +61,9 @@ bool shelves_make(void) {
     first_of[class + 1] = number_shelves(NULL, class, first_of[class]);
   shelves_count = first_of[class_count() + 1];
   if (shelves_count > UINT16_MAX) return false;
-  shelves = calloc(shelves_count, sizeof *shelves);
+  shelves = aligned_alloc(alignof(struct shelf), shelves_count * sizeof *shelves);
   if (shelves == NULL) return false;
+  memset(shelves, 0, shelves_count * sizeof *shelves);
   for (uint32_t class = 1; class <= class_count(); class++) number_shelves(shelves, class, first_of[class]);
   return true;
 }
@@ -70,6 +71,8 @@ bool shelves_make(void) {
 uint32_t shelf_count(void) { return shelves_count; }
 
 uint32_t shelf_first(uint32_t class) { return first_of[class]; }
+
+uint32_t shelf_behind_open(uint32_t class) { return first_of[class] + atomic_load(&open_of[class]); }
 
 /* Each of the open ones has its share of the keys, by its chunks. */
 uint16_t shelf_number(uint32_t class, uint32_t hash) {
@@ -149,7 +152,7 @@ bool shelf_open(struct shelf *shelf) {
 
 uint64_t shelf_class_charged(uint32_t class) {
   uint64_t sum = 0;
-  for (uint32_t number = first_of[class]; number < first_of[class + 1]; number++)
+  for (uint32_t number = first_of[class]; number < shelf_behind_open(class); number++)
     sum += atomic_load_explicit(&shelves[number].charged, memory_order_relaxed);
   return sum;
 }
@@ -171,7 +174,6 @@ static struct shelf *unopened(uint32_t class) {
 /* Whether few chunks are free in all of a class's shelves, of which the last one was nearly full. */
 static bool is_nearly_full(struct shelf *last) {
   uint64_t unused = 0;
-  if (!atomic_load(&last->is_nearly_full)) return false;
   for (uint32_t number = first_of[last->class]; number <= last->number; number++) {
     pthread_mutex_lock(&shelves[number].lock);
     unused += bump_size(&shelves[number].book, BUMP_PLACE_UNUSED);
@@ -182,8 +184,10 @@ static bool is_nearly_full(struct shelf *last) {
 
 void shelves_open_ahead(void) {
   for (uint32_t class = 1; class <= class_count(); class++) {
+    uint32_t behind = shelf_behind_open(class);
+    if (behind == first_of[class] || !atomic_load(&shelves[behind - 1].is_nearly_full)) continue;
     struct shelf *next = unopened(class);
-    if (next != NULL && next->number > first_of[class] && is_nearly_full(next - 1)) shelf_open(next);
+    if (next != NULL && is_nearly_full(&shelves[behind - 1])) shelf_open(next);
   }
 }
 

@@ -59,14 +59,16 @@ struct shelf_lane {
 };
 
 struct shelf {
-  _Atomic bool is_open;        /* set once, when all below is there */
-  _Atomic bool is_nearly_full; /* or was once */
+  alignas(64) _Atomic bool is_open; /* set once, when all below is there */
+  _Atomic bool is_nearly_full;      /* or was once */
   uint32_t number;
   uint32_t class;
-  uint64_t before; /* the chunks of the class's shelves before it */
-  pthread_mutex_t lock; /* of the book, and of what stands below it */
-  bump_book book;
   uint32_t chunks;
+  uint64_t before; /* the chunks of the class's shelves before it */
+  struct shelf_reader *reader;
+  struct shelf_lane *lane;
+  alignas(64) pthread_mutex_t lock; /* of the book, and of what stands below it: a get needs none of it */
+  bump_book book;
   uint32_t used;      /* chunks from this one on were never linked */
   uint32_t crawled;   /* up to here, in this round */
   uint64_t requested; /* bytes of items that aren't given back, as memcached reckons them */
@@ -75,16 +77,16 @@ struct shelf {
   uint64_t forgotten_moves;              /* and of what bump counts, how many items bumps brought to WARM */
   _Atomic uint64_t charged; /* the same as they are charged */
   _Atomic uint32_t age;     /* of the item that would be evicted next, when the maintainer looked last */
-  struct shelf_reader *reader;
-  struct shelf_lane *lane;
 };
 
 /* All shelves, by the settings and the classes; none is open. false: no memory. */
 bool shelves_make(void);
 uint32_t shelf_count(void);
 
-/* The number of a class's first shelf. Behind its last one comes the next class's first. */
+/* The number of a class's first shelf. Behind its last one comes the next class's first. And the number behind those of
+ * its shelves that are open, which are the first ones: most never are, so who looks at all looks at these. */
 uint32_t shelf_first(uint32_t class);
+uint32_t shelf_behind_open(uint32_t class);
 
 extern struct shelf *shelves;
 static inline struct shelf *shelf_at(uint32_t number) {
@@ -110,9 +112,13 @@ struct shelf *shelf_lock_for(struct item *item);
 static inline bool shelf_is_open(const struct shelf *shelf) { return atomic_load(&shelf->is_open); }
 
 /* Counts an event for a thread. By this thread. */
-static inline void shelf_count_event(uint32_t number, uint32_t thread, enum shelf_event event) {
-  _Atomic uint64_t *of = &shelf_at(number)->reader[thread].of[event];
+static inline void reader_count_event(struct shelf_reader *reader, enum shelf_event event) {
+  _Atomic uint64_t *of = &reader->of[event];
   atomic_store_explicit(of, atomic_load_explicit(of, memory_order_relaxed) + 1, memory_order_relaxed);
+}
+
+static inline void shelf_count_event(uint32_t number, uint32_t thread, enum shelf_event event) {
+  reader_count_event(&shelf_at(number)->reader[thread], event);
 }
 
 /* How often it was counted, by all threads; and how many items bumps brought to WARM, with the shelf's lock. */

@@ -21,9 +21,8 @@ bool text_wants_no_reply(struct connection *connection, const struct words *word
 
 /* VALUE key flags bytes [number for cas], the value, of an item that is held. false: no memory. */
 static bool put_item(struct connection *connection, struct item *item, bool tells_unique) {
-  if (!sending_prepare(connection, item, VALUE_LINE_MOST)) return false;
-  char *at = connection_room(connection, VALUE_LINE_MOST);
-  if (at == NULL) return sending_put(connection, item, (size_t)item->bytes + 2), false;
+  char *at = sending_prepare(connection, item, VALUE_LINE_MOST);
+  if (at == NULL) return false;
   connection->work -= (int32_t)item->bytes;
   memcpy(at, "VALUE ", 6);
   memcpy(at + 6, item->key, item->key_bytes);
@@ -75,7 +74,7 @@ static bool may_go_on(const struct connection *connection) {
 
 void text_answer_keys(struct connection *connection) {
   struct key group[GROUP_MOST];
-  uint32_t now = clock_now();
+  uint32_t now = connection->thread->now;
   while (may_go_on(connection)) {
     int count = next_keys(connection->keys.at, group);
     if (count == 0) {
@@ -95,7 +94,7 @@ void text_answer_keys(struct connection *connection) {
 }
 
 /* No key is answered where one of them is too long. They are looked at before, as many in a turn as go: a line may have
- * millions. */
+ * millions. In a short line none can be too long. */
 void text_check_keys(struct connection *connection) {
   for (char *at = connection->keys.at, *end; connection->work > 0; at = end) {
     end = at = word_begin(at);
@@ -117,7 +116,7 @@ void text_check_keys(struct connection *connection) {
 }
 
 /* The line isn't cut into words, since it may have any number of keys. `at` is behind the command's name. */
-static void get(struct connection *connection, char *at, bool tells_unique, bool sets_expiry) {
+static void get(struct connection *connection, char *at, const char *line_end, bool tells_unique, bool sets_expiry) {
   connection->keys = (struct asked_keys){ .tells_unique = tells_unique, .sets_expiry = sets_expiry };
   at = word_begin(at);
   if (*at == 0) {
@@ -133,24 +132,25 @@ static void get(struct connection *connection, char *at, bool tells_unique, bool
       connection_say(connection, "CLIENT_ERROR invalid exptime argument");
       return;
     }
-    connection->keys.expires = clock_expiry(given);
+    connection->keys.expires = clock_expiry(given, connection->thread->now);
     at = keys;
   }
   connection->keys.begin = connection->keys.at = at;
-  connection->state = CHECKS_KEYS;
-  text_check_keys(connection);
+  bool may_be_long = line_end - at > KEY_MOST;
+  connection->state = may_be_long ? CHECKS_KEYS : ANSWERS_KEYS;
+  if (may_be_long) text_check_keys(connection);
+  else text_answer_keys(connection);
 }
 
 /* Whether a line is one of the gets, which is answered then. */
-static bool is_get(struct connection *connection, char *line) {
+static bool is_get(struct connection *connection, char *line, const char *end) {
   char *rest = word_end(line);
   size_t bytes = (size_t)(rest - line);
-  if (bytes == 3 && memcmp(line, "get", 3) == 0) get(connection, rest, false, false);
-  else if (bytes == 4 && memcmp(line, "gets", 4) == 0) get(connection, rest, true, false);
-  else if (bytes == 3 && memcmp(line, "gat", 3) == 0) get(connection, rest, false, true);
-  else if (bytes == 4 && memcmp(line, "gats", 4) == 0) get(connection, rest, true, true);
-  else if (bytes == 4 && memcmp(line, "bget", 4) == 0) get(connection, rest, false, false);
-  else return false;
+  bool has_s = bytes == 4 && line[3] == 's';
+  bool is_gat = (bytes == 3 || has_s) && memcmp(line, "gat", 3) == 0;
+  bool is_plain = (bytes == 3 || has_s) && memcmp(line, "get", 3) == 0;
+  if (!is_plain && !is_gat && !(bytes == 4 && memcmp(line, "bget", 4) == 0)) return false;
+  get(connection, rest, end, has_s, is_gat);
   return true;
 }
 
@@ -192,7 +192,7 @@ static void update(struct connection *connection, struct words *words, enum stor
   connection->storing.speaker = &SPEAKER;
   connection->storing.outdates = how == STORE_SET;
   struct key key = table_key(word[1].at, word[1].bytes);
-  value_begin(connection, &key, flags, clock_expiry(expires), bytes);
+  value_begin(connection, &key, flags, clock_expiry(expires, connection->thread->now), bytes);
 }
 
 static void set(struct connection *connection, struct words *words) { update(connection, words, STORE_SET); }
@@ -267,7 +267,7 @@ static void touch(struct connection *connection, struct words *words) {
     return;
   }
   struct key key = table_key(word[1].at, word[1].bytes);
-  bool there = key_touch(connection->thread, &key, clock_expiry(given));
+  bool there = key_touch(connection->thread, &key, clock_expiry(given, connection->thread->now));
   connection_say(connection, there ? "TOUCHED" : "NOT_FOUND");
 }
 
@@ -316,13 +316,13 @@ static void unknown(struct connection *connection, const struct words *words) {
   else connection_say(connection, "ERROR");
 }
 
-void text_line(struct connection *connection, char *line) {
+void text_line(struct connection *connection, char *line, const char *end) {
   struct words words;
   if (atomic_load_explicit(&settings.verbosity, memory_order_relaxed) > 1)
     fprintf(stderr, "<%d %s\n", connection->file, line);
   connection->is_quiet = false;
   line = word_begin(line);
-  if (is_get(connection, line)) return;
+  if (is_get(connection, line, end)) return;
   words_cut(&words, line);
   if (words.count == 0 || words.word[0].bytes < 2) {
     connection_say(connection, "ERROR");
@@ -330,7 +330,7 @@ void text_line(struct connection *connection, char *line) {
   }
   for (size_t i = 0; i < sizeof COMMANDS / sizeof *COMMANDS; i++) {
     const struct command *command = &COMMANDS[i];
-    if (!word_is(&words.word[0], command->name)) continue;
+    if (command->name[0] != words.word[0].at[0] || !word_is(&words.word[0], command->name)) continue;
     if (words.count >= command->least && words.count <= command->most) command->run(connection, &words);
     else connection_say(connection, "ERROR");
     return;

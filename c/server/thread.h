@@ -13,7 +13,7 @@
 struct connection;
 
 /* Blocks of buffers that a thread has for its next ones. */
-enum { SPARE_BLOCKS_MOST = 4 };
+enum { SPARE_BLOCKS_MOST = 8 };
 
 struct thread {
   alignas(64) uint32_t number; /* of its worker in each shelf */
@@ -24,6 +24,7 @@ struct thread {
   struct connection *connections; /* its own */
   struct connection *yielded;     /* those that have more to do, in a ring: the last one */
   int file;                       /* of the connection that it serves now */
+  uint32_t now;                   /* the tick at which it began to serve those that have something to do */
   char *spare_block[SPARE_BLOCKS_MOST]; /* of buffers: buffer.h */
   int spare_blocks;
   struct counters counters;

@@ -30,7 +30,7 @@ static enum store_answer try_join(struct connection *connection, const struct it
                                   const struct store_terms *terms, uint64_t *unique) {
   struct thread *thread = connection->thread;
   const struct key key = { more->key, more->key_bytes, more->hash };
-  struct held held = cache_hold(thread, &key, clock_now());
+  struct held held = cache_hold(thread, &key, thread->now);
   if (held.item == NULL) return STORE_NOT;
   if (terms->unique != 0 && atomic_load(&held.item->unique) != terms->unique) {
     cache_release(thread, held.item);

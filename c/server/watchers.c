@@ -195,8 +195,14 @@ void watchers_tell_store(const struct thread *thread, const struct watched_store
   static const char *const COMMANDS[] = { "set", "add", "replace", "cas", "append", "prepend" };
   if (!is_watched(WATCHED_MUTATIONS)) return;
   struct encoded name = encode(store->key.at, store->key.bytes);
-  uint32_t now = clock_now(), ttl = store->expires > now ? store->expires - now : 0;
+  uint32_t ttl = clock_since(thread->now, store->expires);
   write_line(WATCHED_MUTATIONS,
              "item_store key=%s status=%s cmd=%s ttl=%" PRIu32 " clsid=%" PRIu32 " cfd=%d size=%" PRIu32 "\n",
              name.text, status, COMMANDS[store->how], ttl, store->class, thread->file, store->bytes);
+}
+
+void watchers_tell_connection(const struct watched_connection *told) {
+  write_line(WATCHED_CONNECTIONS, "conn_%s rip=%s rport=%u transport=%s%s%s cfd=%d\n",
+             told->reason == NULL ? "new" : "close", told->host, told->port, told->transport,
+             told->reason == NULL ? "" : " reason=", told->reason == NULL ? "" : told->reason, told->file);
 }

@@ -1,14 +1,21 @@
-/* Who watches: connections that asked by `watch` to be told of evictions, look-ups, stores or deletions, as memcached
- * tells of them. Whoever does one of these writes a line for each that watches it, and waits for nobody: who reads
- * slowly loses lines, and is told how many. */
+/* Who watches: connections that asked by `watch` to be told of evictions, look-ups, stores, deletions, or of other
+ * connections that come and go, as memcached tells of them. Whoever does one of these writes a line for each that
+ * watches it, and waits for nobody: who reads slowly loses lines, and is told how many. */
 #ifndef WATCHERS_H
 #define WATCHERS_H
 
 #include "cache.h"
 #include "connection.h"
 
-/* What can be watched. */
-enum watched { WATCHED_EVICTIONS = 1, WATCHED_FETCHERS = 2, WATCHED_MUTATIONS = 4, WATCHED_DELETIONS = 8 };
+/* What can be watched. Of raw commands nothing is told: in memcached neither. */
+enum watched {
+  WATCHED_EVICTIONS = 1,
+  WATCHED_FETCHERS = 2,
+  WATCHED_MUTATIONS = 4,
+  WATCHED_DELETIONS = 8,
+  WATCHED_CONNECTIONS = 16,
+  WATCHED_RAW_COMMANDS = 32
+};
 
 /* All that somebody watches now. */
 extern _Atomic uint32_t all_watched;
@@ -58,5 +65,15 @@ struct watched_store {
   uint32_t bytes;
 };
 void watchers_tell_store(const struct thread *thread, const struct watched_store *store, const char *status);
+
+/* A connection that comes, or goes: then with why. */
+struct watched_connection {
+  int file;
+  const char *host;
+  unsigned port;
+  const char *transport;
+  const char *reason; /* NULL: it comes */
+};
+void watchers_tell_connection(const struct watched_connection *told);
 
 #endif

@@ -6,6 +6,14 @@
 #include <stdlib.h>
 #include <string.h>
 
+/* Of a number of 64 bits, and of a short one. */
+enum { DIGITS_MOST = 20, SHORT_MOST = 9 };
+
+/* The digits of all numbers below 100. */
+static const char PAIRS[] = "00010203040506070809101112131415161718192021222324252627282930313233343536373839"
+                            "40414243444546474849505152535455565758596061626364656667686970717273747576777879"
+                            "8081828384858687888990919293949596979899";
+
 void words_cut(struct words *words, char *line) {
   words->count = 0;
   for (char *at = line; words->count < WORDS_MOST;) {
@@ -28,8 +36,19 @@ static bool is_read(const char *text, const char *end) {
   return errno != ERANGE && end != text && (*end == 0 || isspace((unsigned char)*end));
 }
 
+/* Whether a number is a few digits and no more, as most are: then it needn't be converted by C's own conversion. */
+static bool is_short(const char *text, uint32_t *number) {
+  const char *at = text;
+  uint32_t sum = 0;
+  for (; *at >= '0' && *at <= '9' && at < text + SHORT_MOST; at++) sum = sum * 10 + (uint32_t)(*at - '0');
+  *number = sum;
+  return at != text && (*at == 0 || *at == ' ');
+}
+
 bool number_u64(const char *text, uint64_t *number) {
   char *end;
+  uint32_t few;
+  if (is_short(text, &few)) return *number = few, true;
   errno = 0;
   *number = strtoull(text, &end, 10);
   return is_read(text, end) && ((int64_t)*number >= 0 || strchr(text, '-') == NULL);
@@ -44,6 +63,8 @@ bool number_u32(const char *text, uint32_t *number) {
 
 bool number_i32(const char *text, int32_t *number) {
   char *end;
+  uint32_t few;
+  if (is_short(text, &few)) return *number = (int32_t)few, true;
   errno = 0;
   long wide = strtol(text, &end, 10);
   *number = (int32_t)wide;
@@ -52,6 +73,8 @@ bool number_i32(const char *text, int32_t *number) {
 
 bool number_length(const char *text, size_t *length) {
   char *end;
+  uint32_t few;
+  if (is_short(text, &few)) return *length = few, true;
   errno = 0;
   long wide = strtol(text, &end, 10);
   *length = (size_t)wide;
@@ -85,10 +108,10 @@ char *put_u64(char *at, uint64_t number) {
     *at = (char)('0' + number);
     return at + 1;
   }
-  char digits[20];
-  size_t count = 0;
-  do digits[count++] = (char)('0' + number % 10);
-  while ((number /= 10) != 0);
-  while (count > 0) *at++ = digits[--count];
-  return at;
+  char *end = at + 2;
+  for (uint64_t least = 100; number >= least && end < at + DIGITS_MOST; least *= 10) end++;
+  for (at = end; number >= 100; number /= 100) memcpy(at -= 2, PAIRS + number % 100 * 2, 2);
+  if (number >= 10) memcpy(at - 2, PAIRS + number * 2, 2);
+  else at[-1] = (char)('0' + number);
+  return end;
 }

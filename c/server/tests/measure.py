@@ -1,17 +1,19 @@
 #!/usr/bin/env python3
-"""Measures the server beside memcached: requests a second and times, instructions of a get, hit rates. For docs/SERVER.md.
+"""Measures the server beside memcached: requests a second and times, instructions of a get and a set, hit rates. For docs/SERVER.md.
 
-    measure.py SERVER MEMCACHED LOAD [--rounds 7] [--seconds 5] [--threads 4] [--clients 2] [--only WORD]
+    measure.py SERVER MEMCACHED LOAD [--rounds 9] [--seconds 1] [--threads 1,2,4] [--clients 2] [--only WORD]
 
-LOAD is load.c, built. Both servers run in turn, in each round anew, and the medians are told as rows of the page's tables. It wants a
-machine that does nothing else, with a processor for each thread of server and client: else requests a second and times say more about the
-machine than about the servers, and the time that the server's own threads ran for a request, which is told beside them, says more.
-Instructions are counted by valgrind's callgrind: those of two runs of different lengths, and what they differ by is the gets' alone.
---only runs the parts whose names have the word: rates, instructions, speeds."""
+LOAD is load.c, built. Both servers are there and run in turn, a second each, each one first in every other round. What is told of a pair of
+runs is how much the one had of the other's: so what else the machine does falls on both. The medians are told as rows of the page's tables;
+behind requests a second and the 99th of a hundred times stands the time that the server's own threads ran for a request, which says least about
+the machine. Where memcslap of libmemcached-tools is there, that asks, too: a client that isn't ours. Instructions are counted by valgrind's
+callgrind: those of two runs of different lengths, and what they differ by is the requests' alone. --only runs the parts whose names have the
+word: rates, instructions, speeds."""
 import argparse
 import os
 import re
 import resource
+import shutil
 import socket
 import statistics
 import subprocess
@@ -21,11 +23,18 @@ import time
 from pathlib import Path
 
 LOGS = Path(__file__).resolve().parents[3] / "examples" / "logs"
-WAYS = [("95 gets, 5 sets, 100,000 keys alike", []), ("the same, one key", ["-o"]), ("gets of 24 keys at once", ["-g", "24"])]
+# What is asked for: a name, the keys and the bytes of their values, and the client's other options.
+WAYS = [("95 gets, 5 sets", 100_000, 100, ["-s", 50]), ("50 gets, 50 sets", 100_000, 100, ["-s", 500]), ("one key", 100_000, 100, ["-s", 50, "-o"]),
+        ("24 keys at once", 100_000, 100, ["-s", 50, "-g", 24]), ("values of 10 kB", 5000, 10_000, ["-s", 50]),
+        ("values of 100 kB", 500, 100_000, ["-s", 50])]
+# Requests of each of memcslap's 16 threads.
+SLAPS = 4000
 RATES = [("`zipf.log`, values of 20,000 bytes, 8 megabytes", ["-l", LOGS / "zipf.log", "-v", 20000, "-T", 1, "-C", 1], 8),
          ("`shift.log`, values of 40,000 bytes, 8 megabytes", ["-l", LOGS / "shift.log", "-v", 40000, "-T", 1, "-C", 1], 8),
          ("Zipf of 400,000 keys, values of 400 bytes, 32 megabytes",
           ["-z", "-a", "-s", 0, "-k", 400000, "-v", 400, "-T", 2, "-C", 8, "-N", 500000, "-n", 600], 32)]
+# Whose instructions are counted, by so many requests: a name, the client's options, and the keys of a request.
+COUNTED = [("a get of one key", ["-s", 0], 1), ("a key of a get of 24", ["-s", 0, "-g", 24], 24), ("a set of 100 bytes", ["-s", 1000], 1)]
 FEWER, MORE = 4000, 12000
 
 
@@ -71,39 +80,64 @@ class Pair:
         return {name: float(number) for name, number in re.findall(r"([\w/.]+) ([\d.]+)(?:  |$)", written.strip())}
 
     def speeds(self):
-        told = {}
-        for _ in range(self.words.rounds):
-            for name in self.servers:
-                process, port = self.start(name, "-m", "512", "-t", str(self.words.threads))
-                self.load(port, "-k", 100000, "-f", "-n", 1)
-                for way, options in WAYS:
-                    before = time_run(process)
-                    one = self.load(port, "-T", self.words.clients, "-C", 16, "-k", 100000, "-s", 50, "-n", self.words.seconds, *options)
-                    ran = (time_run(process) - before) / (one["requests/s"] * one["seconds"])
-                    told.setdefault((way, name), []).append((one["requests/s"], one["p99"], ran))
+        for threads in self.words.threads.split(","):
+            servers = {name: self.start(name, "-m", "1024", "-t", threads) for name in self.servers}
+            filled = None
+            for way, keys, length, options in WAYS:
+                same = ["-k", keys, "-v", length]
+                if filled != same:
+                    for _, port in servers.values():
+                        self.load(port, *same, "-f", "-n", 1)
+                filled = same
+                options = [*same, "-T", self.words.clients, "-C", 16, "-n", self.words.seconds, *options]
+                self.tell_pairs(f"{way}, {threads} threads", servers, lambda port, options=options: self.load(port, *options))
+            for way in ("get", "set") if shutil.which("memcslap") else ():
+                self.tell_pairs(f"memcslap's {way}, {threads} threads", servers, lambda port, way=way: self.slap(port, way))
+            for process, _ in servers.values():
                 self.stop(process)
-        for way, _ in WAYS:
-            row = []
-            for name in self.servers:
-                rate, slowest, ran = [statistics.median(part) for part in zip(*told[way, name])]
-                row += [f"{rate:,.0f}", f"{slowest:,.0f} us", f"{ran:,.1f} us"]
-            print(f"| {' | '.join([way, *row])} |", flush=True)
         print(f"load of the machine: {os.getloadavg()}")
 
+    @staticmethod
+    def slap(port, way):
+        words = ["memcslap", f"--servers=127.0.0.1:{port}", "--concurrency=16", f"--execute-number={SLAPS}", f"--test={way}", "--tcp-nodelay"]
+        written = subprocess.run(words, capture_output=True, text=True, check=True).stdout
+        count, seconds = re.search(rf"Time to {way}\s+(\d+) keys by\s+16 threads:\s+([\d.]+)", written).groups()
+        return {"requests/s": float(count) / float(seconds), "seconds": float(seconds), "extra": SLAPS}
+
+    def tell_pairs(self, way, servers, ask):
+        """The medians of both servers, and of what the one has of the other's in the same round."""
+        told = {name: [] for name in servers}
+        for number in range(self.words.rounds):
+            for name in sorted(servers, reverse=number % 2 == 1):
+                process, port = servers[name]
+                before = time_run(process)
+                one = ask(port)
+                ran = (time_run(process) - before) / (one["requests/s"] * one["seconds"] + one.get("extra", 0))
+                told[name].append((one["requests/s"], one.get("p99"), ran))
+        row = [way]
+        for place, form in ((0, "{:,.0f}"), (1, "{:,.0f} µs"), (2, "{:.1f} µs")):
+            ours, others = ([one[place] for one in told[name]] for name in self.servers)
+            if None in ours:
+                row += ["–"] * 3
+                continue
+            row += [form.format(statistics.median(ours)), form.format(statistics.median(others))]
+            row.append(f"{statistics.median(one / other for one, other in zip(ours, others)):.2f}")
+        print(f"| {' | '.join(row)} |", flush=True)
+
     def instructions(self):
-        for keys, name in [(keys, name) for keys in (1, 24) for name in self.servers]:
+        for (what, options, keys), name in [(way, name) for way in COUNTED for name in self.servers]:
             counts = []
-            for gets in (FEWER, MORE):
+            for requests in (FEWER, MORE):
                 with tempfile.NamedTemporaryFile() as file:
                     tool = ["valgrind", "-q", "--tool=callgrind", f"--callgrind-out-file={file.name}"]
                     process, port = self.start(name, "-t", "1", "-o", "no_lru_crawler,no_lru_maintainer", before=tool, counted=True)
-                    same = ["-T", 1, "-C", 1, "-k", 1000, "-s", 0, "-n", 600]
-                    self.load(port, *same, "-f", "-N", 3000)
-                    self.load(port, *same, "-g", keys, "-N", gets)
+                    same = ["-T", 1, "-C", 1, "-k", 1000, "-n", 600]
+                    self.load(port, *same, "-s", 0, "-f", "-N", 3000)
+                    self.load(port, *same, *options, "-N", requests)
                     process.send_signal(2)
                     process.wait()
                     counts.append(int(re.search(r"^(?:summary|totals): (\d+)", Path(file.name).read_text(errors="replace"), re.M).group(1)))
-            print(f"| {name}, gets of {keys}, a key | {(counts[1] - counts[0]) / (MORE - FEWER) / keys:,.0f} |", flush=True)
+            print(f"| {what}, {name} | {(counts[1] - counts[0]) / (MORE - FEWER) / keys:,.0f} |", flush=True)
 
     def rates(self):
         for what, options, memory in RATES:
@@ -119,8 +153,9 @@ def main():
     words = argparse.ArgumentParser(description=__doc__, formatter_class=argparse.RawDescriptionHelpFormatter)
     for name in ("server", "memcached", "load"):
         words.add_argument(name)
-    for name, number in (("--rounds", 7), ("--seconds", 5), ("--threads", 4), ("--clients", 2)):
+    for name, number in (("--rounds", 9), ("--seconds", 1), ("--clients", 2)):
         words.add_argument(name, type=int, default=number)
+    words.add_argument("--threads", default="1,2,4")
     words.add_argument("--only", default="")
     words = words.parse_args()
     pair = Pair(words)

@@ -1,6 +1,7 @@
 #!/usr/bin/env python3
 """Gets one key again and again, until its standard input ends, and prints how many gets these were, how many microseconds the slowest one
-took, and for how many of them the server's process worked: the most of one get. slowest.py PORT PROCESS"""
+took, and for how many of them the server's process worked: the most of one get. With a length it stores a value of so many bytes in place of
+each get. slowest.py PORT PROCESS [LENGTH]"""
 import os
 import select
 import socket
@@ -15,12 +16,15 @@ link = socket.create_connection(("127.0.0.1", int(sys.argv[1])), timeout=120)
 link.setsockopt(socket.IPPROTO_TCP, socket.TCP_NODELAY, 1)
 # Linux's clock of the time that all threads of another process ran (clock_getcpuclockid).
 WORK = (~int(sys.argv[2]) << 3) | 2
+REQUEST, END = b"get watched\r\n", b"END\r\n"
+if len(sys.argv) > 3:
+    REQUEST, END = b"set watched 0 0 %d\r\n%s\r\n" % (int(sys.argv[3]), bytes(int(sys.argv[3]))), b"STORED\r\n"
 slowest = most_work = count = 0
 while True:
     begins, worked = time.monotonic(), time.clock_gettime(WORK)
-    link.sendall(b"get watched\r\n")
+    link.sendall(REQUEST)
     got = b""
-    while not got.endswith(b"END\r\n"):
+    while not got.endswith(END):
         more = link.recv(4096)
         if not more:
             sys.exit("the server closed the connection")

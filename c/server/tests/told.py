@@ -159,8 +159,8 @@ class Told:
             skips.socket.sendall(b"set a 0 0 2000000\r\nabc")
             sends.set(b"big", b"x" * 1_000_000)
             sends.socket.sendall(b"get" + b" big" * 40 + b"\r\n")
-            reads.ask(b"debugtime 7\r\n")
             time.sleep(0.5)
+            reads.ask(b"debugtime 7\r\n")
             many = [Client(server.port) for _ in range(300)]
             for one in many:
                 one.ask(b"")

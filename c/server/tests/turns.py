@@ -9,22 +9,23 @@ from client import Client
 from started import Server
 
 HERE = Path(__file__).resolve().parent
-ITEMS = 500_000
+ITEMS, HOLES = 500_000, 35_000
 # Milliseconds that the server works while a get waits: one that waits for the end of a long command lets it work for ten times that, and one
 # that waits for its turn for less than one. What a busy machine adds to the time of a get isn't the server's work; MOST_TIME is for a server
-# that sleeps. What is slow once isn't slow three times; what can be done once alone, in each of three servers, may take longer.
-MOST, TRIES, MOST_ONCE, MOST_TIME = 25.0, 3, 250.0, 2000.0
+# that sleeps. What is slow once isn't slow three times; what can be done once alone, in each of three servers, may take longer. MOST_STEP is for
+# what would take 24 of them at once.
+MOST, MOST_STEP, TRIES, MOST_ONCE, MOST_TIME = 25.0, 20.0, 3, 250.0, 2000.0
 
 
 class Watched:
-    """Another client's gets, while what stands in a with is done: the slowest one took so many milliseconds, and the server worked for so many
-    at most while one waited."""
+    """Another client's gets, or its stores of a length, while what stands in a with is done: the slowest one took so many milliseconds, and the
+    server worked for so many at most while one waited."""
 
-    def __init__(self, server):
-        self.server = server
+    def __init__(self, server, *length):
+        self.server, self.length = server, length
 
     def __enter__(self):
-        words = [sys.executable, str(HERE / "slowest.py"), str(self.server.port), str(self.server.process.pid)]
+        words = [sys.executable, str(HERE / "slowest.py"), str(self.server.port), str(self.server.process.pid), *map(str, self.length)]
         self.process = subprocess.Popen(words, stdin=subprocess.PIPE, stdout=subprocess.PIPE, text=True)
         self.process.stdout.readline()
         return self
@@ -65,6 +66,7 @@ class Turns:
                 self.check_further(server, client)
                 break
         self.check_room()
+        self.check_pages()
 
     def check_further(self, server, client):
         """Of a server that has many items."""
@@ -99,22 +101,22 @@ class Turns:
             self.watch(server, name, do)
 
     @staticmethod
-    def watched(server, do):
-        with Watched(server) as watched:
+    def watched(server, do, *length):
+        with Watched(server, *length) as watched:
             watched.wrong = do()
         return watched
 
-    def watch(self, server, name, do):
+    def watch(self, server, name, do, *length, most=MOST):
         for _ in range(TRIES):
-            watched = self.watched(server, do)
-            if watched.wrong or not watched.is_slow(MOST):
+            watched = self.watched(server, do, *length)
+            if watched.wrong or not watched.is_slow(most):
                 break
-        self.tell_watched(name, watched, MOST)
+        self.tell_watched(name, watched, most)
 
     @staticmethod
     def tell_watched(name, watched, most):
         wrong = watched.wrong or (f"more than {most:.0f} ms of work" if watched.is_slow(most) else "")
-        tell(f"{name}: meanwhile the server worked {watched.work:.1f} ms at most in one of {watched.count} gets of another client, the slowest took "
+        tell(f"{name}: meanwhile the server worked {watched.work:.1f} ms at most in one of {watched.count} requests of another client, the slowest took "
              f"{watched.slowest:.1f} ms", wrong)
 
     @staticmethod
@@ -178,8 +180,21 @@ class Turns:
             tell("then memory isn't exceeded", "" if int(stats["bytes"]) <= 32 << 20 and stats["evictions"] != "0" else f"{stats['bytes']} bytes")
             tell("then it ends with nothing left", server.end())
 
+    def check_pages(self):
+        """Values that go leave free pages between others that stay. They go back: a store that wants memory doesn't wait for all of them."""
+        with self.served("-m", 400) as server:
+            client = Client(server.port, 300)
+            for begin in range(0, HOLES, 1000):
+                client.socket.sendall(b"".join(b"set h%d 0 0 9000 noreply\r\n%s\r\nset s%d 0 0 1000 noreply\r\n%s\r\n" %
+                                               (i, bytes(9000), i, bytes(1000)) for i in range(begin, begin + 1000)))
+            client.ask(b"".join(b"delete h%d noreply\r\n" % i for i in range(HOLES)))
+            self.watch(server, f"pages go back from {HOLES} places", lambda: self.room_faults(client, 300), 500, most=MOST_STEP)
+            has = self.memory(server)
+            tell("then the process takes no more than that", "" if has < 400 * 1.05 * 1.3 else f"{has:.0f} megabytes")
+            tell("then it ends with nothing left", server.end())
+
     @staticmethod
-    def room_faults(client):
+    def room_faults(client, count=25):
         value = bytes(range(256)) * 4000
-        wrong = [i for i in range(25) if not client.set(b"large%d" % i, value) or client.get(b"large%d" % i) != value]
+        wrong = [i for i in range(count) if not client.set(b"large%d" % i, value) or client.get(b"large%d" % i) != value]
         return f"{wrong[:5]} aren't stored, or are wrong" if wrong else ""

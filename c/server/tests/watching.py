@@ -6,6 +6,9 @@ from c_checks import tell
 from client import Client
 from started import Server
 
+# Of the binary protocol: what ends a connection.
+BINARY_QUIT = b"\x80\x07" + bytes(22)
+
 HEAD = r"ts=\d+\.\d{6} gid=\d+ type="
 
 # A request, and the lines of who watches fetchers, mutations and deletions.
@@ -60,6 +63,7 @@ class WatchChecks:
             self.check_who_watches(server)
             tell("then it ends with nothing left, while somebody watches", server.end())
         self.check_evictions()
+        self.check_comings()
         self.check_slow_watcher()
         with Server(self.program, "-W") as server:
             answer = Client(server.port).ask(b"watch\r\n")
@@ -72,7 +76,7 @@ class WatchChecks:
 
     def check_who_watches(self, server):
         client = Client(server.port)
-        answers = [client.ask(asked) for asked in (b"watch nothing\r\n", b"watch fetchers connevents\r\n", b"mn\r\nwatch\r\n")]
+        answers = [client.ask(asked) for asked in (b"watch nothing\r\n", b"watch fetchers sysevents\r\n", b"mn\r\nwatch\r\n")]
         watchers = [Watcher(server.port) for _ in range(20)]
         answers += [one.watch(b" evictions") for one in watchers]
         wanted = [b"ERROR\r\n"] * 2 + [b"MN\r\nERROR\r\n"] + [b"OK"] * 19 + [b"WATCHER_TOO_MANY log watcher limit reached"]
@@ -95,6 +99,28 @@ class WatchChecks:
             like = re.compile(HEAD + r"eviction key=e\d+ fetch=(no|yes) ttl=(-1|\d+) la=\d+ clsid=\d+ size=100000")
             right = 0 < before <= len(lines) <= after and all(like.fullmatch(line) for line in lines)
             tell(f"{len(lines)} evictions are told", "" if right else f"{before} to {after}: {lines[:3]}")
+            tell("then it ends with nothing left", server.end())
+
+    def check_comings(self):
+        """Who comes and goes, and why."""
+        with Server(self.program, "-o", "idle_timeout=1") as server:
+            watcher, wrong = Watcher(server.port), []
+            answer = watcher.watch(b" connevents rawcmds")
+            for request, reason in ((b"quit\r\n", "normal"), (BINARY_QUIT, "normal"), (b"GET / HTTP/1.1\r\n", "error"), (b"x" * 3000, "error"),
+                                    (b"", "idle_timeout"), (None, "normal")):
+                with socket.create_connection(("127.0.0.1", server.port), 60) as one:
+                    one.sendall(request or b"")
+                    while request is not None and one.recv(100):
+                        pass
+                    about = rf"rip=127\.0\.0\.1 rport={one.getsockname()[1]} transport=tcp"
+                lines = []
+                while len(lines) < 2:
+                    line = watcher.until(b"\n").decode()
+                    lines += [line] if about.replace("\\", "") in line else []  # else of one that was there before
+                for line, like in zip(lines, (rf"conn_new {about} cfd=\d+", rf"conn_close {about} reason={reason} cfd=\d+")):
+                    if not re.fullmatch(HEAD + like, line):
+                        wrong.append(f"{request}: {line}")
+            tell("who watches is told of connections that come and go", "; ".join(wrong[:3]) or ("" if answer == b"OK" else repr(answer)))
             tell("then it ends with nothing left", server.end())
 
     def check_slow_watcher(self):
