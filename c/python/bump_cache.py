@@ -324,16 +324,16 @@ class _Cached:
 
     def __init__(self, function, cache, typed):
         functools.update_wrapper(self, function)
-        self._function, self.cache, self._typed = function, cache, typed
+        self._function, self.cache, self._typed, self._counting = function, cache, typed, threading.RLock()
         self._hits = self._misses = 0
 
     def __call__(self, *args, **kwargs):
         key = _call_key(args, kwargs, self._typed)
         kept = self.cache.get(key)
+        with self._counting:
+            self._hits, self._misses = self._hits + (kept is not None), self._misses + (kept is None)
         if kept is not None:
-            self._hits += 1
             return kept[0]
-        self._misses += 1
         value = self._function(*args, **kwargs)
         try:
             self.cache[key] = (value,)
@@ -349,7 +349,8 @@ class _Cached:
 
     def cache_clear(self):
         self.cache.clear()
-        self._hits = self._misses = 0
+        with self._counting:
+            self._hits = self._misses = 0
 
     def cache_parameters(self):
         return {"maxsize": self.cache.maxsize, "ttl": self.cache.ttl, "typed": self._typed}

@@ -1,11 +1,25 @@
 /* Tells ThreadSanitizer what the library's words order, since it doesn't look into the library: whoever is told that a
  * chunk is free, or links an item in it, comes behind each reader that held the chunk and gave it back. Link with
- * -Wl,--wrap= and the name, for each call that is wrapped here. It fits programs whose threads have one worker each. */
+ * -Wl,--wrap= and the name, for each call that is wrapped here. A thread may have several workers. */
 #include "bump.h"
 
-enum { CHUNKS = 1000000, HOLDS = 256 };
+enum { CHUNKS = 1000000, HELD = 1 << 16 };
 static char order[CHUNKS];
-static __thread uint32_t held[HOLDS];
+/* By worker and hold, the chunk that was held last. The first place that fits lies where their hash says, or behind. */
+static __thread struct {
+  const bump_worker *worker;
+  uint32_t hold, chunk;
+} held[HELD];
+
+static uint32_t *chunk_of(const bump_worker *worker, uint32_t hold) {
+  size_t at = ((uintptr_t)worker >> 3) * 0x9E3779B1u + hold;
+  for (;; at++) {
+    at %= HELD;
+    if (held[at].worker && (held[at].worker != worker || held[at].hold != hold)) continue;
+    held[at].worker = worker, held[at].hold = hold;
+    return &held[at].chunk;
+  }
+}
 
 void __tsan_acquire(void *at);
 void __tsan_release(void *at);
@@ -22,7 +36,7 @@ static void are_free(const uint32_t *chunks, uint32_t count) {
 bool __real_bump_release(bump_worker *worker, uint32_t hold);
 bool __wrap_bump_release(bump_worker *worker, uint32_t hold);
 bool __wrap_bump_release(bump_worker *worker, uint32_t hold) {
-  __tsan_release(&order[held[hold]]);
+  __tsan_release(&order[*chunk_of(worker, hold)]);
   return __real_bump_release(worker, hold);
 }
 
@@ -37,7 +51,7 @@ bool __wrap_bump_release(bump_worker *worker, uint32_t hold) {
   }
 
 WRAPPED(enum bump_get_answer, bump_get, (bump_worker *w, uint32_t hold, uint32_t chunk, uint32_t generation),
-        (w, hold, chunk, generation), if (answer == BUMP_GET_HELD) held[hold] = chunk)
+        (w, hold, chunk, generation), if (answer == BUMP_GET_HELD) *chunk_of(w, hold) = chunk)
 WRAPPED(bump_linked, bump_link, (bump_book *b, uint64_t label, uint64_t now), (b, label, now),
         is_free(answer.answer == BUMP_LINK_DONE, answer.chunk))
 WRAPPED(bump_linked, bump_link_temp, (bump_book *b, uint64_t label, uint64_t now), (b, label, now),

@@ -155,11 +155,11 @@ def get():
 
 
 def put():
-    steps = ["take the lock of the key's part", "apply bumps that wait, at most 16 of each reader", "look for the key's item",
+    steps = ["take the lock of the key's part", "each eighth put: apply bumps that wait", "look for the key's item",
              "write expiry, key and value into a free chunk", "one store: the new item begins, in HOT or TEMP",
              "lead the index to it", "end the key's old item, if it had one", "each eighth put: balance HOT and WARM",
              "give the lock back;\nanswer what the key had, and what was evicted"]
-    room = ["COLD's last ones that were in use\ngo to WARM, at most 8", "COLD's last item ends;\nelse WARM's, HOT's or TEMP's",
+    room = ["apply all bumps if COLD's last one is held; those\nin use go to WARM, at most 8", "COLD's last item ends;\nelse WARM's, HOT's or TEMP's",
             "free ended items that nobody holds any more,\nand apply all bumps"]
     at = [45 + 62 * i for i in range(9)]
     boxes = [(20, y, 340, text, STEP) for y, text in zip(at[:-1], steps)] + [(20, at[-1], 340, steps[-1], END)]

@@ -1,6 +1,8 @@
-"""Tests of bump_cache.py over the library: as a mapping, as TTLCache of cachetools, and its decorator as CPython tests functools.lru_cache,
-where that says nothing of which item is evicted. BUMP_LIBRARY names the library."""
+"""Tests of bump_cache.py over the library: as a mapping, as TTLCache of cachetools, and its decorator, also by CPython's own tests of
+functools.lru_cache, as far as those that need no endless cache, no other keys than ours, and no word of which item is evicted.
+BUMP_LIBRARY names the library."""
 import ctypes
+import functools
 import gc
 import pickle
 import random
@@ -15,7 +17,12 @@ from pathlib import Path
 HOME = Path(__file__).resolve().parent.parent
 sys.path.insert(0, str(HOME))
 import bump_cache
-from bump_cache import CALLS, WORDS, TTLCache, library, spelled, ttl_cache
+from bump_cache import CALLS, WORDS, CacheInfo, TTLCache, library, spelled, ttl_cache
+
+try:
+    from test import test_functools as of_cpython
+except ImportError:
+    of_cpython = None
 
 # The structs of the header, each with that of the module.
 RECORDS = {"bump_cache": "_Handle", "bump_cache_config": "_Config", "bump_cache_got": "_Got", "bump_cache_words_of": "_Words",
@@ -265,6 +272,33 @@ class DecoratorTests(unittest.TestCase):
         for clock.time in range(12):
             one()
         self.assertEqual(calls, [0, 5, 10])
+
+
+class Functools:
+    """functools as CPython's tests see it, with our decorator in the place of lru_cache."""
+
+    WRAPPER_ASSIGNMENTS, _CacheInfo = functools.WRAPPER_ASSIGNMENTS, CacheInfo
+
+    @staticmethod
+    def lru_cache(maxsize=128, typed=False):
+        if callable(maxsize):
+            return ttl_cache(maxsize)
+        return ttl_cache(1000 if maxsize is None else maxsize, ttl=None, typed=typed)
+
+
+@unittest.skipUnless(of_cpython, "this Python has no tests of functools")
+class CPythonTests(unittest.TestCase):
+    """CPython's own tests of lru_cache. Those that aren't here ask for a cache without an end or without room, for keys that are any
+    objects, for pickling, for a hash that is asked for once, or for the least recently used item."""
+
+    module = Functools
+
+
+for name in """test_lru_no_args test_lru_bug_35780 test_lru_bug_36650 test_lru_star_arg_handling test_lru_type_error test_lru_with_exceptions
+               test_lru_with_types test_lru_with_keyword_args test_kwargs_order test_lru_cache_decoration test_lru_cache_threaded
+               test_lru_cache_threaded2 test_lru_cache_threaded3 test_lru_cache_weakrefable""".split():
+    if of_cpython:
+        setattr(CPythonTests, name, getattr(of_cpython.TestLRU, name))
 
 
 class ThreadTests(unittest.TestCase):
