@@ -3,6 +3,7 @@ ghost use Rattle.bump_cache.specs.Caches.{part_in};
 ghost use Rattle.bump_cache.specs.Changing.{Adds, CallsOnHad, ChangesWhereSome, GetsOrPuts, IfGot, RefusesAnew, RefusesNew, ReplacesWhereSome, TouchesWhereSome};
 ghost use Rattle.bump_cache.specs.Ending.{TakesOfPart};
 ghost use Rattle.bump_cache.specs.Putting.{PutsValue, RefusesValue, RemovesValue};
+ghost use Rattle.bump_cache.specs.Setting.{PutsWords, RefusesWords};
 ghost use Rattle.bump_cache.specs.States.{from_of, part_called, to_of, now_of};
 ghost use Rattle.bump_cache.specs.Tending.{SumsUpParts, TendsParts, TendsUntilOver};
 ghost use Rattle.bump_cache.specs.Visiting.{VisitsParts};
@@ -13,7 +14,8 @@ ghost use Rattle.std.specs.Fn.{CalledAt};
 ghost use Rattle.std.specs.Prelude.{◌≡◌, ◌+◌, ◌<◌, ◌≤◌, ◌↔◌, IfSome, IfOk, IfErr, None, IfNone, IsNone};
 
 use bump_cache::{
-    Added, Cache, CacheState, Caller, Evicted, GotOrPut, LogName, Name, NoRoom, Packed, Put, Stats,
+    Added, Cache, CacheState, Caller, Evicted, Full, GotOrPut, LogName, Name, NoRoom, Packed, Put,
+    Stats,
 };
 use std::sync::Wait;
 
@@ -73,6 +75,28 @@ pub fn put_until<N: Name + LogName, K: Packed, V: Packed, W: Wait>(
     ensures same { to_of me.new ≡ with_put (to_of me.new) (from_of me.new) }
 {
     cache.put_until(rt, me, key, value, expires, now)
+}
+
+/// Puts a value under a key, and hears only whether another item was evicted.
+pub fn set<N: Name + LogName, K: Packed, V: Packed, W: Wait>(
+    cache: &Cache<N, K, V>,
+    rt: &W,
+    me: &mut Caller<N, CacheState>,
+    key: &K,
+    value: &V,
+    expires: u64,
+    now: u64,
+) -> Result<bool, Full>
+    requires part { 0 < me.old.parts }
+    ensures call { MakesOne me.old me.new }
+    ensures part { part_called me.new ≡ part_in cache.now (K.as_words key.now) }
+    ensures sets { IfOk result (λ told. PutsWords (K.as_words key.now) (V.as_words value.now) expires now told
+        (from_of me.new) (to_of me.new)) }
+    ensures refuses { IfErr result (λ why. RefusesWords (K.as_words key.now) now why.evicted (from_of me.new)
+        (to_of me.new)) }
+    ensures same { to_of me.new ≡ with_put (to_of me.new) (from_of me.new) }
+{
+    cache.set(rt, me, key, value, expires, now)
 }
 
 /// Ends the item of a key.

@@ -4,6 +4,7 @@
 
 pub mod caches;
 pub mod configs;
+pub mod counted;
 pub mod held;
 pub mod readers;
 pub mod strings;

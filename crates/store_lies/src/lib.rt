@@ -7,6 +7,7 @@ pub mod links;
 pub mod raw_lanes;
 pub mod rings;
 pub mod stores;
+pub mod tables;
 pub mod words;
 pub mod workers;
 pub mod worlds;
