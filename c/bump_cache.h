@@ -211,9 +211,10 @@ typedef struct bump_cache_put_told {
   bool evicted; /* another item was evicted */
 } bump_cache_put_told;
 
-/* Puts a value under a key, as memcached's set. First bumps that wait are applied, at most 16 of each reader. Where the
- * key has no item and the part is full, another one is evicted. What the key had ends behind the new item's beginning:
- * so a reader finds the one or the other. Cost: grows with the words of key_bytes and value_bytes. */
+/* Puts a value under a key, as memcached's set. Each eighth put of a part applies bumps that wait, at most 16 of each
+ * reader. Where the key has no item and the part is full, another one is evicted; where COLD's last item is held then, or
+ * no chunk is free, all bumps are applied. What the key had ends behind the new item's beginning: so a reader finds the
+ * one or the other. Cost: grows with the words of key_bytes and value_bytes. */
 bump_cache_put_told bump_cache_put(bump_cache_part *part, const void *key, size_t key_length, const void *value,
                                    size_t value_length, uint32_t flags, uint64_t expires, uint64_t now);
 

@@ -1,13 +1,14 @@
 #!/usr/bin/env python3
 """Runs keys, one a line, through plain lists by the cache's rules, for one reader: what `bump_replay` has to count.
 
-    checks/lib/aged_lists.py ITEMS HOT WARM HOT_AGE WARM_AGE RING EVERY [PARTS [TICKS]] < KEYS
+    checks/lib/aged_lists.py ITEMS HOT WARM HOT_AGE WARM_AGE RING EVERY [PARTS [TICKS [SPARE]]] < KEYS
 
 HOT and WARM are percents of the items, HOT_AGE and WARM_AGE percents of the age of COLD, or - where ages don't count; EVERY is
 after how many accesses the lists are tended; each of PARTS, 1 where it isn't given, has lists of its own. With TICKS a line is
 an access's time, a comma, and its key, and the lists are tended when so many ticks have gone by; behind that may stand what is
-asked for (get, set or delete; else nothing is) and after how many ticks what is put expires. It prints the hits, how
-many bumps waited at most when a put had applied its share, and how often items went from list to list. Keys are numbered as they
+asked for (get, set or delete; else nothing is) and after how many ticks what is put expires. TICKS may be -. A part has SPARE
+spare chunks, 2 where that isn't given. It prints the hits, how many bumps waited at most behind a put, if only those that had
+their turn applied some, and how often items went from list to list. Keys are numbered as they
 first come, and the hash of its number tells a key's part.
 """
 import sys
@@ -43,8 +44,8 @@ class Item:
 class Lists:
     """Each list is a dictionary of its items; the first that went in is its last item."""
 
-    def __init__(self, items, hot, warm, hot_age, warm_age, ring):
-        self.items, self.ring = items, ring
+    def __init__(self, items, spare, hot, warm, hot_age, warm_age, ring):
+        self.items, self.ring, self.chunks, self.waiting = items, ring, items + spare, 0
         self.most = {"hot": items * hot // 100, "warm": items * warm // 100}
         self.percent = {"hot": hot_age, "warm": warm_age}
         self.lists = {place: OrderedDict() for place in ("hot", "warm", "cold")}
@@ -68,6 +69,10 @@ class Lists:
             item.time = now
             if item.place == "cold" and item.active:
                 self.go(item, "warm")
+
+    def is_out_of_chunks(self):
+        """Whether each chunk has an item, or a bump waits for the item that it had."""
+        return len(self.of_key) + len({id(item) for item in self.bumps if item.place is None}) >= self.chunks
 
     def goes_on(self, place, age, now):
         item = self.last(place)
@@ -114,6 +119,7 @@ class Lists:
                 item.time = now
             elif len(self.bumps) < self.ring:
                 self.bumps.append(item)
+                self.waiting += 1
             else:
                 item.active = False
         item.fetched = True
@@ -125,19 +131,27 @@ class Lists:
             self.end(item)
 
     def put(self, key, now, expires=None):
-        self.drain(PUT_BUMPS, now)
+        self.puts += 1
+        has_turn = self.puts % PUT_ROUNDS == 0
+        if has_turn:
+            self.drain(PUT_BUMPS, now)
+            self.waiting -= min(PUT_BUMPS, self.waiting)
         if key not in self.of_key and len(self.of_key) >= self.items:
+            if self.last("cold") in self.bumps:
+                self.drain(self.ring, now)
             self.evict(now)
+        if self.is_out_of_chunks():
+            self.drain(self.ring, now)
         item = Item(key, now, expires)
         self.lists["hot"][item] = None
         self.remove(key)
         self.of_key[key] = item
-        self.puts += 1
-        if self.puts % PUT_ROUNDS == 0:
+        if has_turn:
             self.balance(PUT_ROUNDS, now)
 
     def tend(self, now):
         self.drain(self.ring, now)
+        self.waiting = 0
         self.balance(TEND_ROUNDS, now)
 
 
@@ -145,9 +159,11 @@ def main():
     items, hot, warm = map(int, sys.argv[1:4])
     hot_age, warm_age = (None if word == "-" else int(word) for word in sys.argv[4:6])
     ring, every, parts = map(int, (*sys.argv[6:], 1)[:3])
-    ticks = int(sys.argv[9]) if len(sys.argv) > 9 else None
+    ticks = int(sys.argv[9]) if len(sys.argv) > 9 and sys.argv[9] != "-" else None
     shares = [items // parts + (part < items % parts) for part in range(parts)]
-    lists = [Lists(share, hot, warm, hot_age, warm_age, ring) for share in shares]
+    # a part has as many spare chunks as `CacheConfig::new` gives it, unless it is said
+    spare = int(sys.argv[10]) if len(sys.argv) > 10 else 2
+    lists = [Lists(share, spare, hot, warm, hot_age, warm_age, ring) for share in shares]
     numbers, hits, waiting, ways, tended = {}, 0, 0, {}, 0
     for place, line in enumerate(line for line in sys.stdin if line.strip()):
         now, word, operation, ttl = place, line.rstrip("\r\n"), "get", 0
@@ -160,7 +176,7 @@ def main():
             hits += 1
         elif operation in ("get", "set"):
             part.put(key, now, now + int(ttl) if int(ttl) else None)
-            waiting = max(waiting, sum(len(each.bumps) for each in lists))
+            waiting = max(waiting, sum(each.waiting for each in lists))
         elif operation == "delete":
             part.remove(key)
         if place % every == 0 if ticks is None else place == 0 or now - tended >= ticks:

@@ -1,5 +1,6 @@
 -- A look and then a put, told of the state before the look; and what each call's answer tells.
 use Rattle.std.proofs.Common.{◌≡◌, ◌≢◌, ℕ, Bool, false, List, Option, Some, None, IfSome, is_some, option_map, refl, sym, ap, ◌∙◌, subst}
+use Rattle.bump_class.specs.Lanes.{LaneView}
 use Rattle.cache_lists.specs.Counts.{CountedView}
 use Rattle.cache_part.specs.Parts.{PartView, IsItem}
 use Rattle.cache_part.specs.Putting.{EvictsWhereFull, FindsNoRoom}
@@ -15,10 +16,11 @@ use Rattle.bump_cache.specs.Changing.{HadSome, PutsAnew, PutsNew, RefusesAnew, R
 use Rattle.bump_cache.specs.Putting.{HadValue, PutsRow, PutsValue, RefusesRow, RefusesValue, WasEvicted, evicted_key}
 
 -- a chunk was evicted only where the key had no item
-none_full : (items now : ℕ) (old evicted : Option ℕ) (before after : CountedView)
-    → EvictsWhereFull items now old evicted before after → old ≢ None → is_some evicted ≡ false
-none_full items now old None before after full there = refl
-none_full items now old (Some chunk) before after full there = absurd (there full.0)
+none_full : (items most now : ℕ) (old evicted : Option ℕ) (before : CountedView) (from : List LaneView)
+    (after : CountedView) (to : List LaneView) → EvictsWhereFull items most now old evicted before from after to
+    → old ≢ None → is_some evicted ≡ false
+none_full items most now old None before from after to full there = refl
+none_full items most now old (Some chunk) before from after to full there = absurd (there full.0)
 
 -- the key has an item where it has something
 has_item : (key : List ℕ) (now : ℕ) (part : PartView) (old : Option ℕ) → IsItem key old part → HadSome key now part
@@ -29,14 +31,14 @@ has_item key now part old item had none = subst (λ o. IsItem key o part) none i
 pub none_put : (key value : List ℕ) (expires now : ℕ) (has_evicted : Bool) (before after : ShelfView)
     → PutsRow key value expires now has_evicted before after → HadSome key now before.part → has_evicted ≡ false
 none_put key value expires now has_evicted before after puts had = sym puts.told_evicted
-    ∙ none_full _ now puts.old puts.evicted _ _ puts.puts.does.room.evicts
+    ∙ none_full _ _ now puts.old puts.evicted _ _ _ _ puts.puts.does.room.evicts
     (has_item key now before.part puts.old puts.item had)
 
 -- and so does one that is refused
 pub none_refused : (key : List ℕ) (now : ℕ) (has_evicted : Bool) (before after : ShelfView)
     → RefusesRow key now has_evicted before after → HadSome key now before.part → has_evicted ≡ false
 none_refused key now has_evicted before after row had = sym row.told_evicted
-    ∙ none_full _ now refused.old row.evicted _ _ refused.none.room.evicts
+    ∙ none_full _ _ now refused.old row.evicted _ _ _ _ refused.none.room.evicts
     (has_item key now turn.drained refused.old refused.item (had.0, (had.1.0, had.1.1, kept)))
   where
     turn : PutsInTurn (FindsNoRoom key row.evicted now) now before after

@@ -1,6 +1,7 @@
 mod Behind
 pub mod PairLemmas
 pub mod Telling
+pub mod SettingLemmas
 pub mod HeldLemmas
 pub mod Noting
 pub mod ManyLemmas

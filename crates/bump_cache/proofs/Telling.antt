@@ -6,7 +6,7 @@ use Rattle.bump_steps.specs.Views.{last_label, last_words}
 use Rattle.cache_part.specs.Keys.{key_at, value_at, words_from}
 use Rattle.cache_part.specs.Parts.{PartView, IsItem, IsPart, IsUnknown}
 use Rattle.cache_part.specs.Putting.{row_at}
-use Rattle.cache_shelf.specs.Entries.{Evicted as TellsRowOf, Had, Keeps, key_of_evicted}
+use Rattle.cache_shelf.specs.Entries.{Evicted as TellsRowOf, Had, HadIf, Keeps, key_of_evicted}
 use Rattle.bump_rules.specs.Expiry.{has_expired}
 use Rattle.packed_words.specs.Parts.{same_parts}
 use Rattle.bump_cache.specs.declared.answers.Evicted.{Evicted}
@@ -24,10 +24,10 @@ pub second_part : (first second : List ℕ) (n : ℕ) → n ≡ length first →
 second_part first second n long = ap (λ m. drop m (first ++ second)) long ∙ drop-append_seam first second
 
 -- the chunk that had the key has its item
-pub had_item : (law : RowPredicate) (key : List ℕ) (chunk : Option ℕ) (from words : List ℕ) (part : PartView)
-    → Had law key chunk from words part → IsItem key chunk part
-had_item law key None from words part had = had.0
-had_item law key (Some c) from words part had = had.under
+pub had_item : (tells : Bool) (law : RowPredicate) (key : List ℕ) (chunk : Option ℕ) (from words : List ℕ)
+    (part : PartView) → HadIf tells law key chunk from words part → IsItem key chunk part
+had_item tells law key None from words part had = had.0
+had_item tells law key (Some c) from words part had = had.under
 
 module _ {K V : Type 0} (fits_key : K → Type 0) (key_words : K → List ℕ) (fits_value : V → Type 0)
     (value_words : V → List ℕ) (key_width value_width : ℕ)

@@ -5,6 +5,7 @@ pub mod Many
 pub mod Held
 pub mod Opening
 pub mod Putting
+pub mod Setting
 pub mod Changing
 pub mod Sums
 pub mod Tending

@@ -71,3 +71,10 @@ pub struct NoRoom<K, V> {
     /// What was evicted to make room, if something was.
     pub evicted: Option<Evicted<K, V>>,
 }
+
+/// A set was refused, where a put is as `NoRoom`.
+#[derive(Clone, Copy, Debug, PartialEq, Eq, Drop)]
+pub struct Full {
+    /// Whether an item was evicted to make room all the same.
+    pub evicted: bool,
+}

@@ -16,8 +16,12 @@ use call_log::{Caller, LogName, Logged};
 use crossbeam_utils::CachePadded;
 use keyed_hash::Seed;
 use packed_words::Packed;
+use std::hint;
 use std::marker::Model;
 use std::sync::{Mutex, MutexGuard, Wait};
+
+// How often a lock that is taken is tried before a thread sleeps for it.
+const LOCK_TRIES: u32 = 64;
 
 /// A cache, which all threads share: whoever changes it waits for the lock of one of its parts, and whoever gets
 /// doesn't. A key's part is by its hash.
@@ -81,6 +85,24 @@ impl<N: Name + LogName, K: Packed, V: Packed> Cache<N, K, V> {
         if next < self.parts.len() { next } else { 0 }
     }
 
+    // What the lock at this place guards, until the guard is let go. Who has it gives it back within a microsecond, as
+    // a rule, and to sleep and to be woken takes longer: so a thread looks for about as long before it sleeps.
+    fn wait_for_lock<W: Wait>(
+        &self,
+        rt: &W,
+        at: usize,
+    ) -> MutexGuard<'_, Logged<N, Numbered<N, K, V>, CacheState>>
+        requires { at < self.now.parts }
+    {
+        for _ in 0..LOCK_TRIES {
+            if let Some(guard) = self.parts[at].try_lock() {
+                return guard;
+            }
+            hint::spin_loop();
+        }
+        self.parts[at].lock(rt)
+    }
+
     // What the lock of the part of this number guards, until the guard is let go. The number is compared under the
     // lock, since a caller that has two guards could exchange what they guard; where that was done, it goes round the
     // locks, one at a time, until it finds the part.
@@ -94,7 +116,7 @@ impl<N: Name + LogName, K: Packed, V: Packed> Cache<N, K, V> {
     {
         let mut at = part;
         for _ in rt.forever() {
-            let guard = self.parts[at].lock(rt);
+            let guard = self.wait_for_lock(rt, at);
             if is_part(&guard, part) {
                 return guard;
             }
@@ -140,16 +162,17 @@ impl<N: Name + LogName, K: Packed, V: Packed> Cache<N, K, V> {
     /// expired at once, and is put all the same. `now` is the item's time, and that of the bumps which it applies.
     /// Times are in the caller's ticks, which all calls count alike. It asks for no memory.
     ///
-    /// First the bumps that wait are applied, at most 16 of each reader. Where the key has nothing and as many items as
-    /// the configuration says are there, one is evicted: of COLD's last ones those go to WARM that were in use since
-    /// they came there, at most 8, until one has expired; and then COLD's last one ends, or WARM's where COLD is empty,
-    /// or HOT's, or TEMP's. It is told, with its cause: whether it had expired at `now`. What the key had before ends
-    /// behind the new item's beginning, so a reader finds the one or the other; it is told where it hadn't expired. The
-    /// new item begins in TEMP where it expires within as many ticks as the configuration says, and else in HOT. Where no
-    /// chunk is free for it, also of ended items that nobody holds any more, all bumps that wait are applied, at most a
-    /// ring's room of each reader, as a tend does. It is refused, as `NoRoom`, exactly where no chunk is free then: behind
-    /// that each without an item was found held, or has had its last generation; the key keeps what it had. Each eighth
-    /// put balances HOT and WARM as a tend does, in eight rounds at most.
+    /// Where the key has nothing and as many items as the configuration says are there, one is evicted: where COLD's
+    /// last one is held all bumps that wait are applied first, at most a ring's room of each reader; then of COLD's
+    /// last ones those go to WARM that were in use since they came there, at most 8, until one has expired; and then
+    /// COLD's last one ends, or WARM's where COLD is empty, or HOT's, or TEMP's. It is told, with its cause: whether it
+    /// had expired at `now`. What the key had before ends behind the new item's beginning, so a reader finds the one or
+    /// the other; it is told where it hadn't expired. The new item begins in TEMP where it expires within as many ticks
+    /// as the configuration says, and else in HOT. Where no chunk is free for it, also of ended items that nobody holds
+    /// any more, all bumps that wait are applied, too. It is refused, as `NoRoom`, exactly where no chunk is free then:
+    /// behind that each without an item was found held, or has had its last generation; the key keeps what it had. Each
+    /// eighth put of a part begins with bumps that wait, at most 16 of each reader, and ends with a balance of HOT and
+    /// WARM, as a tend does, in eight rounds at most.
     pub fn put_until<W: Wait>(
         &self,
         rt: &W,

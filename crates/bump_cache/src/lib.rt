@@ -19,12 +19,13 @@ mod numbered;
 mod opening;
 mod pairs;
 mod readers;
+mod setting;
 mod states;
 mod statistics;
 mod tending;
 mod visiting;
 
-pub use answers::{Added, Cause, Evicted, GotOrPut, NoRoom, Put};
+pub use answers::{Added, Cause, Evicted, Full, GotOrPut, NoRoom, Put};
 pub use blanks::CacheBlank;
 pub use bump_heads::Name;
 pub use bump_rules::{Accounts, ClassConfig, Classes, Config};

@@ -12,11 +12,13 @@ ghost use Rattle.cache_shelf.specs.Visiting.{entry_at};
 ghost use Rattle.bump_cache.specs.Changing.{HadUntil};
 ghost use Rattle.bump_cache.specs.Ending.{TakesValue};
 ghost use Rattle.bump_cache.specs.Putting.{IsPairOfWords, IsTimedValue, PutsValue, RefusesValue, RemovesValue, TellsEvicted, TellsValue, cause_of};
+ghost use Rattle.bump_cache.specs.Setting.{PutsWords, RefusesWords};
 ghost use Rattle.bump_cache.specs.Visiting.{TellsEntry};
 
-use crate::answers::{Cause, Evicted, NoRoom, Put};
+use crate::answers::{Cause, Evicted, Full, NoRoom, Put};
 use crate::ending::take_row;
 use crate::law::PairLaw;
+use crate::setting::set_row;
 use bump_heads::Name;
 use bump_rules::has_expired;
 use cache_shelf::{Shelf, Stats};
@@ -160,7 +162,7 @@ fn put_row<N: Name, K: Packed, V: Packed>(
 {
     // A key is that of one item: so what is told of it is all that it had.
     shelf.promise();
-    let did = match shelf.put(row, expires, had, evicted, now) {
+    let did = match shelf.put(row, expires, true, had, evicted, now) {
         Ok(did) => did,
         Err(why) => {
             let lost = told_evicted(why.evicted, evicted, now);
@@ -293,6 +295,26 @@ impl<N: Name, K: Packed, V: Packed> Pairs<N, K, V> {
     {
         pack_row(key, value, &mut self.row);
         put_row(
+            &mut self.shelf,
+            key,
+            value,
+            &self.row,
+            expires,
+            &mut self.had,
+            &mut self.evicted,
+            now,
+        )
+    }
+
+    /// Puts a value under a key in the same way, and tells only whether another item was evicted.
+    pub(crate) fn set(&mut self, key: &K, value: &V, expires: u64, now: u64) -> Result<bool, Full>
+        ensures sets { IfOk result (λ told. PutsWords (K.as_words key.now) (V.as_words value.now) expires now told
+            self.old self.new) }
+        ensures refuses { IfErr result (λ why. RefusesWords (K.as_words key.now) now why.evicted self.old self.new) }
+        ensures same { self.new ≡ with_put self.new self.old }
+    {
+        pack_row(key, value, &mut self.row);
+        set_row(
             &mut self.shelf,
             key,
             value,

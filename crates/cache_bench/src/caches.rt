@@ -92,6 +92,8 @@ struct Putter<'a, N: Name + LogName, R> {
     me: Caller<N, CacheState>,
     // it puts keys of this part alone, where there is one
     part: Option<u32>,
+    // whether it hears what its keys had, and what was evicted
+    tells: bool,
 }
 
 impl<'a, N: Name + LogName, R> Model for Putter<'a, N, R> {
@@ -111,9 +113,12 @@ impl<'a, N: Name + LogName, R: Wait> Called for Putter<'a, N, R> {
             Some(part) => key_in(self.cache, part, key),
             None => key,
         };
-        self.cache
-            .put(&self.rt, &mut self.me, &key, &key, 5)
-            .is_ok()
+        if self.tells {
+            let put = self.cache.put(&self.rt, &mut self.me, &key, &key, 5);
+            return put.is_ok();
+        }
+        let set = self.cache.set(&self.rt, &mut self.me, &key, &key, 0, 5);
+        set.is_ok()
     }
 }
 
@@ -210,6 +215,7 @@ fn make_putters<'a, N: Name + LogName, R: Wait + Copy>(
             cache,
             me: another,
             part,
+            tells: !matches!(work, Work::Set | Work::SetSame),
         })?;
     }
     Ok(putters)

@@ -69,9 +69,10 @@ impl<R: Threads + Clock + Wait + Copy + Send + Sync> Passes<R> {
     // The calls are of so many keys, from 0 on; of fresh ones where there is no number.
     fn keys(&self) -> Option<u64> {
         match self.work {
-            Work::Put | Work::PutParts | Work::PutApart => None,
+            Work::Put | Work::PutParts | Work::PutApart | Work::Set => None,
             Work::Hot => Some(1),
-            Work::Get | Work::GetMany | Work::PutSame | Work::Bytes => Some(u64::from(self.items)),
+            Work::Get | Work::GetMany | Work::Bytes => Some(u64::from(self.items)),
+            Work::PutSame | Work::SetSame => Some(u64::from(self.items)),
         }
     }
 

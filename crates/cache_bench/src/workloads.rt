@@ -37,6 +37,12 @@ pub enum Work {
     /// Puts of keys that are there, at random.
     PutSame,
 
+    /// Sets of fresh keys: puts that tell only whether another item was evicted.
+    Set,
+
+    /// Sets of keys that are there, at random.
+    SetSame,
+
     /// None: what memory an item takes is measured.
     Bytes,
 }
@@ -52,7 +58,12 @@ impl Work {
     /// Whether puts are made, and no gets.
     pub fn is_put(self) -> bool {
         match self {
-            Work::Put | Work::PutParts | Work::PutApart | Work::PutSame => true,
+            Work::Put
+            | Work::PutParts
+            | Work::PutApart
+            | Work::PutSame
+            | Work::Set
+            | Work::SetSame => true,
             Work::Get | Work::GetMany | Work::Hot | Work::Bytes => false,
         }
     }
@@ -61,14 +72,15 @@ impl Work {
     pub fn parts(self) -> u32 {
         match self {
             Work::PutParts | Work::PutApart => 4,
-            Work::Put | Work::PutSame | Work::Get | Work::GetMany | Work::Hot | Work::Bytes => 1,
+            Work::Put | Work::PutSame | Work::Set | Work::SetSame => 1,
+            Work::Get | Work::GetMany | Work::Hot | Work::Bytes => 1,
         }
     }
 }
 
 impl Workload {
     /// The workload of a name: whose calls, and which, as `cache_get` and `lru16_put_same`. Many keys at a time are got
-    /// of a cache alone, and a cache alone has parts.
+    /// of a cache alone, keys are set there alone, and it alone has parts.
     pub fn named(name: &str) -> Option<Workload> {
         let (subject, work) = name.split_once('_')?;
         let subject = match subject {
@@ -85,6 +97,8 @@ impl Workload {
             "put_parts" if subject == Subject::Cache => Work::PutParts,
             "put_apart" if subject == Subject::Cache => Work::PutApart,
             "put_same" => Work::PutSame,
+            "set" if subject == Subject::Cache => Work::Set,
+            "set_same" if subject == Subject::Cache => Work::SetSame,
             "bytes" => Work::Bytes,
             _ => return None,
         };

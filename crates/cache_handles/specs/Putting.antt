@@ -1,33 +1,17 @@
 -- What puts of byte strings come to.
-use Rattle.std.specs.Prelude.{◌≡◌, ℕ, ◌%◌, ◌^◌, Bool, false, if◌then◌else◌, nat_lt, List, slice_index, Option, None, Some, IfNone, IfSome, is_some}
-use Rattle.cache_shelf.specs.Entries.{AllKept, Keeps, OthersKept}
+use Rattle.std.specs.Prelude.{◌≡◌, ℕ, ◌%◌, ◌^◌, Bool, false, if◌then◌else◌, nat_lt, List, slice_index, Option, None, Some, IfNone, IfSome}
+use Rattle.cache_shelf.specs.Entries.{Keeps}
 use Rattle.cache_shelf.specs.Shelves.{ShelfView}
 use Rattle.bump_rules.specs.Expiry.{has_expired}
 use Rattle.bump_cache.specs.Changing.{BehindLook, HadSome, OnlyFinds}
-use Rattle.bump_cache.specs.Putting.{HadValue, PutsRow, RefusesRow}
+use Rattle.bump_cache.specs.Putting.{HadValue}
+use Rattle.bump_cache.specs.Setting.{PutsWords, RefusesWords}
 use Rattle.cache_handles.specs.declared.keys.KeyFault.{KeyFault}
 use Rattle.cache_handles.specs.declared.keys.KeyFault.TheVariants as key_is
 use Rattle.cache_handles.specs.declared.putting.PutTold.{PutTold}
 use Rattle.cache_handles.specs.declared.putting.PutTold.TheVariants as told
 use Rattle.cache_handles.specs.Rows.{value_row}
 use Rattle.cache_handles.specs.Views.{BytePartView, fault_in}
-
--- A value was put under a key, both as words: the key keeps it until this time, and under each other key stays what was
--- there, but under that of what was evicted, if something was.
-pub record PutsWords (key value : List ℕ) (expires now : ℕ) (has_evicted : Bool) (before after : ShelfView) : Type 0
-  where
-    pub kept : Keeps key value expires after.part
-    pub lost : Option (List ℕ)
-    pub told : is_some lost ≡ has_evicted
-    pub others : OthersKept key lost before.part after.part
-    pub puts : PutsRow key value expires now has_evicted before after
-
--- No room was found for a value under the key: under each key stays what was there, but under that of what was evicted.
-pub record RefusesWords (key : List ℕ) (now : ℕ) (has_evicted : Bool) (before after : ShelfView) : Type 0 where
-  pub lost : Option (List ℕ)
-  pub told : is_some lost ≡ has_evicted
-  pub stay : AllKept lost before.part after.part
-  pub refuses : RefusesRow key now has_evicted before after
 
 -- something was found under the key, or nothing, and no more was done
 abbrev pub FindsSome : List ℕ → ℕ → ShelfView → ShelfView → Type 0

@@ -115,7 +115,7 @@ fn put_row<N: Name>(
     ensures same { shelf.new ≡ with_put shelf.new shelf.old }
     ensures lengths { (length had.new ≡ length had.old) × (length evicted.new ≡ length evicted.old) }
 {
-    match shelf.put(row, expires, had, evicted, now) {
+    match shelf.put(row, expires, false, had, evicted, now) {
         Ok(did) => PutTold::Done {
             evicted: did.evicted.is_some(),
         },

@@ -1,4 +1,5 @@
 pub mod Rows
+pub mod PullLemmas
 pub mod AgeLemmas
 pub mod Standings
 pub mod Bumping

@@ -22,6 +22,7 @@ use Rattle.cache_lists.specs.Flows.{Way, way_of_pull}
 use Rattle.cache_lists.specs.Items.{victim, or_else, may_tell}
 use Rattle.cache_lists.specs.Rescues.{most_rescues, FindsExpired, LooksAtCold, MayEnd, PullsUnexpired, Rescues, RescuesUpTo, SeesExpiry, StaysInCold, noted_times, rescue_way}
 use Rattle.cache_lists.proofs.Counting.{counts}
+use Rattle.cache_lists.proofs.PullLemmas.{pulled_after}
 
 -- ---- the victim
 
@@ -73,7 +74,8 @@ stay_told false item id e = cc e
 warm_leaves : (before after : BookView) (item : ItemId) (at : Option ℕ) → PullsAt before tail.Cold at (pulled.Warm item) after
     → victim after.lists ≢ None
 warm_leaves before after item None pulls = absurd (cc pulls.0)
-warm_leaves before after item (Some chunk) pulls = subst (λ (b : BookView). victim b.lists ≢ None) (sym pulls.2.after)
+warm_leaves before after item (Some chunk) pulls = subst (λ (b : BookView). victim b.lists ≢ None)
+    (sym (pulled_after _ before after tail.Cold chunk (pulled.Warm item) pulls.0 pulls.1 pulls.2))
     (warm_victim (to_front chunk Warm before.lists) (front_last chunk before.lists))
 
 -- what stays is the victim
@@ -81,7 +83,8 @@ stay_leaves : (before after : BookView) (item : ItemId) (at : Option ℕ) → at
     → PullsAt before tail.Cold at (pulled.Stay item) after → victim after.lists ≡ Some item.chunk
 stay_leaves before after item None is pulls = absurd (cc pulls.0)
 stay_leaves before after item (Some chunk) is pulls =
-    subst (λ (b : BookView). victim b.lists ≡ Some item.chunk) (sym pulls.2.after)
+    subst (λ (b : BookView). victim b.lists ≡ Some item.chunk)
+    (sym (pulled_after _ before after tail.Cold chunk (pulled.Stay item) pulls.0 pulls.1 pulls.2))
     (cold_victim before.lists item.chunk (sym is ∙ ap (λ (l : ItemId). Some l.chunk)
     (sym (stay_told pulls.0.active item (life_in before.sheet chunk) (pulls.2.pulled ended.Freed)))))
 

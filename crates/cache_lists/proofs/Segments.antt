@@ -26,12 +26,14 @@ use Rattle.bump_rules.proofs.Standings.{same_place}
 use Rattle.bump_steps.specs.Applications.{life_in}
 use Rattle.bump_steps.specs.Views.{owns, standing}
 use Rattle.bump_class.specs.Books.{BookView}
-use Rattle.bump_class.specs.Changes.{book_after_unlink, book_after_clear_active}
+use Rattle.bump_class.specs.Changes.{book_after_unlink}
 use Rattle.bump_class.specs.Ends.{EndsItem, Unlinks}
 use Rattle.bump_class.specs.Pulls.{PullsAt, PullsAtBy, MovesItemBy, book_after_pull_to}
 use Rattle.bump_class.specs.Sweeps.{SweepsThese}
 use Rattle.cache_lists.specs.Linked.{linked_at}
 use Rattle.cache_lists.specs.Segments.{SameSegments}
+use Rattle.cache_lists.specs.Looks.{with_steps}
+use Rattle.cache_lists.proofs.PullLemmas.{pulled_after}
 use Rattle.cache_lists.proofs.Standings.{Stands, freed_nowhere, listed_there}
 
 -- ---- lists without a chunk
@@ -145,11 +147,11 @@ pub moves_others : (limits : Limits) (book left : BookView) (from : Tail) (chunk
     → MovesItemBy limits book from chunk answer left cleared moved
     → SameSegments (all_without chunk book.lists) (all_without chunk left.lists)
 moves_others limits book left from chunk answer cleared moved moves =
-    subst (λ (b : BookView). SameSegments (all_without chunk book.lists) (all_without chunk b.lists)) (sym moves.after)
-    (by (pulled_to answer))
+    subst (λ (b : BookView). SameSegments (all_without chunk book.lists) (all_without chunk b.lists))
+    (sym (pulled_after limits book left from chunk answer cleared moved moves)) (by (pulled_to answer))
   where
     open_book : BookView
-    open_book = book_after_clear_active chunk cleared book
+    open_book = with_steps moves.looked.sheet.steps book
 
     by : (to : Option Segment) → SameSegments (all_without chunk book.lists)
         (all_without chunk (book_after_pull_to from chunk to moved open_book).lists)

@@ -40,7 +40,7 @@ use Rattle.bump_steps.specs.Applications.{life_in}
 use Rattle.bump_steps.specs.Views.{standing, owns, last_word}
 use Rattle.bump_class.specs.Books.{BookView}
 use Rattle.bump_class.specs.Pulls.{PullsAt, PullsAtBy, PullsItem, MovesItemBy, book_after_pull_to}
-use Rattle.bump_class.specs.Changes.{book_after_clear_active, book_after_unlink, book_after_load, book_with_words}
+use Rattle.bump_class.specs.Changes.{book_after_unlink, book_after_load, book_with_words}
 use Rattle.bump_class.specs.Links.{linked_item, item_of, next_life}
 use Rattle.bump_class.specs.Sweeps.{SweepsThese}
 use Rattle.bump_steps.specs.Lives.{class_after_sweep, class_after_load}
@@ -49,6 +49,8 @@ use Rattle.bump_class.specs.Ends.{EndsItem, book_after_end, unlink_refusal, is_l
 use Rattle.cache_lists.specs.Linked.{linked_standing, linked_at}
 use Rattle.cache_lists.specs.Items.{IsSameClass, KeepsItems, EndsAt, BeginsAt}
 use Rattle.bump_rules.specs.Commands.{item_told}
+use Rattle.cache_lists.specs.Looks.{with_steps}
+use Rattle.cache_lists.proofs.PullLemmas.{pulled_after}
 use Rattle.cache_lists.proofs.Rows.{row_elsewhere}
 
 -- where one more entry of a history leaves the items
@@ -123,9 +125,11 @@ stands_elsewhere class chunk q is no_segment =
 pub moves_keep : (limits : Limits) (book left : BookView) (from : Tail) (chunk : ℕ) (answer : Pulled) (cleared moved : Head)
     → MovesItemBy limits book from chunk answer left cleared moved → (standing book.sheet chunk).0 ≡ place_of (segment_of from)
     → KeepsItems book left
-moves_keep limits book left from chunk answer cleared moved moves is = subst (KeepsItems book) (sym moves.after) (by (pulled_to answer))
+moves_keep limits book left from chunk answer cleared moved moves is =
+    subst (KeepsItems book) (sym (pulled_after limits book left from chunk answer cleared moved moves)) (by (pulled_to answer))
   where
-    by : (to : Option Segment) → KeepsItems book (book_after_pull_to from chunk to moved (book_after_clear_active chunk cleared book))
+    by : (to : Option Segment) → KeepsItems book
+        (book_after_pull_to from chunk to moved (with_steps moves.looked.sheet.steps book))
     by None = record { class = record { first = refl; count = refl }; linked = λ c. refl; words = λ i c. refl }
     by (Some to) = record {
       class = record { first = refl; count = refl };

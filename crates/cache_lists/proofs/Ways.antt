@@ -42,7 +42,7 @@ use Rattle.bump_class.specs.declared.ending.UnlinkRefusal.{UnlinkRefusal}
 use Rattle.bump_class.specs.declared.ending.UnlinkRefusal.TheVariants.{NoSuchChunk, NotLinked}
 use Rattle.bump_class.specs.Applications.{FoundHeads, Applies, AppliesFront, applied_answer, book_after_update, class_with_time, with_clearing}
 use Rattle.bump_class.specs.Books.{BookView}
-use Rattle.bump_class.specs.Changes.{book_after_clear_active, book_after_unlink, book_after_sweep_or_load, book_after_load, book_with_words}
+use Rattle.bump_class.specs.Changes.{book_after_unlink, book_after_sweep_or_load, book_after_load, book_with_words}
 use Rattle.bump_class.specs.Ends.{EndsItem, book_after_end, Unlinks}
 use Rattle.bump_class.specs.Lanes.{LaneView}
 use Rattle.bump_class.specs.Links.{linked_item, item_of, next_life}
@@ -54,6 +54,8 @@ use Rattle.cache_lists.specs.Items.{may_tell}
 use Rattle.cache_lists.specs.Linked.{linked_standing, linked_at}
 use Rattle.cache_lists.proofs.Bumping.{shows_cold, shows_elsewhere, moved_found, gone_found}
 use Rattle.cache_lists.proofs.Flowing.{crossings_push, place_turned}
+use Rattle.cache_lists.specs.Looks.{with_steps}
+use Rattle.cache_lists.proofs.PullLemmas.{pulled_after}
 use Rattle.cache_lists.proofs.Standings.{Stands, listed_there, freed_nowhere}
 
 -- ---- what an entry of the history does, and what two changes do one behind the other
@@ -286,17 +288,20 @@ moves_flow : (limits : Limits) (book left : BookView) (from : Tail) (chunk : ℕ
     → (standing book.sheet chunk).0 ≡ place_of (segment_of from) → Flows (way_of_pull from answer) book left
 moves_flow limits book left from chunk answer cleared moved ne moves stood =
     subst (λ way. Flows way book left) (sym way)
-    (subst (Flows (way_to (segment_of from) (pulled_to answer)) book) (sym moves.after) (by (pulled_to answer)))
+    (subst (Flows (way_to (segment_of from) (pulled_to answer)) book) (sym after) (by (pulled_to answer)))
   where
+    after : left ≡ book_after_pull_to from chunk (pulled_to answer) moved (with_steps moves.looked.sheet.steps book)
+    after = pulled_after limits book left from chunk answer cleared moved moves
+
     way : way_of_pull from answer ≡ way_to (segment_of from) (pulled_to answer)
     way = told_way from answer ne (ap (may_tell from) (moves.pulled ended.Freed)
         ∙ may_told from cleared book.lists limits ended.Freed (life_in book.sheet chunk))
 
     by : (to : Option Segment) → Flows (way_to (segment_of from) to) book
-        (book_after_pull_to from chunk to moved (book_after_clear_active chunk cleared book))
-    by None = still book (book_after_clear_active chunk cleared book) refl refl
+        (book_after_pull_to from chunk to moved (with_steps moves.looked.sheet.steps book))
+    by None = still book (with_steps moves.looked.sheet.steps book) refl refl
     by (Some to) = entered book
-        (book_after_pull_to from chunk (Some to) moved (book_after_clear_active chunk cleared book))
+        (book_after_pull_to from chunk (Some to) moved (with_steps moves.looked.sheet.steps book))
         (change.Moved (life_in book.sheet chunk) (segment_of from) to cause.Pull) (place_of (segment_of from)) refl refl
         stood
 

@@ -2,6 +2,7 @@ pub mod Linked
 pub mod Items
 pub mod Segments
 pub mod Looks
+pub mod ColdEnds
 pub mod Flows
 pub mod Ours
 pub mod Counts

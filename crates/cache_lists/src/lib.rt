@@ -3,6 +3,7 @@
 #![tactic(auto)]
 
 mod ages;
+mod cold_ends;
 mod counted;
 mod draining;
 mod evictions;

@@ -165,9 +165,9 @@ pub finds_none : (items now : ℕ) (old evicted : Option ℕ) (most : ℕ) (befo
     → FindsNone items now old evicted most before from after to
 finds_none items now old evicted most before from after to room full is = by room.frees
   where
-    ends : (last : FreesAtLast most now room.left from after to)
-        → ((0 < length last.swept.book.lists.unused) × (after ≡ last.swept) × (to ≡ from))
-        ⊎ ((length last.swept.book.lists.unused ≡ 0) × DrainsAndSweeps most now last.swept from after to)
+    ends : (last : FreesAtLast most now room.left room.between after to)
+        → ((0 < length last.swept.book.lists.unused) × (after ≡ last.swept) × (to ≡ room.between))
+        ⊎ ((length last.swept.book.lists.unused ≡ 0) × DrainsAndSweeps most now last.swept room.between after to)
         → FindsNone items now old evicted most before from after to
     ends last (inl ended) = absurd (some_first last.swept.book.lists.unused ended.0
         (subst (λ (v : CountedView). first_of v.book.lists.unused ≡ None) ended.1 full))
@@ -187,7 +187,7 @@ finds_none items now old evicted most before from after to room full is = by roo
         held chunk own (inl retired) = inl retired
         held chunk own (inr dying) = inr (ended.1.held chunk own dying)
 
-    by : FreesWhereNone most now room.left from after to → FindsNone items now old evicted most before from after to
+    by : FreesWhereNone most now room.left room.between after to → FindsNone items now old evicted most before from after to
     by (inl free) = absurd (some_first room.left.book.lists.unused free.0
         (subst (λ (v : CountedView). first_of v.book.lists.unused ≡ None) free.1 full))
     by (inr last) = ends last.1 last.1.ends

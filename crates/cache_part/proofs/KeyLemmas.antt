@@ -1,5 +1,5 @@
 -- Keys and values as lists of words.
-use Rattle.std.proofs.Common.{◌≡◌, ℕ, zero, suc, ◌+◌, ◌-◌, ◌<◌, ◌≤◌, List, [], ◌∷◌, ◌++◌, Option, None, Some, length, get_or, take, drop, slice_set, refl, sym, ap, ap₂, ◌∙◌, arith}
+use Rattle.std.proofs.Common.{◌≡◌, ℕ, Bool, zero, suc, ◌+◌, ◌-◌, ◌<◌, ◌≤◌, List, [], ◌∷◌, ◌++◌, Option, None, Some, length, get_or, take, drop, slice_set, refl, sym, ap, ap₂, ◌∙◌, arith}
 use Rattle.std.proofs.lemmas.List.{append-nil, drop_all, get_or-take, get_or-drop, length-take-le, length-drop}
 use borrow.Rule.Slice.PartMut.{put_mid, mid_of}
 use Rattle.bump_steps.specs.declared.views.ClassSheet.{ClassSheet}
@@ -7,7 +7,7 @@ use Rattle.bump_steps.specs.Views.{last_word}
 use Rattle.bump_class.specs.Books.{BookView}
 use Rattle.cache_lists.specs.Items.{HasRow}
 use Rattle.cache_part.specs.Keys.{words_from, row_of, key_at, value_at}
-use Rattle.cache_part.specs.Putting.{TellsOldWords}
+use Rattle.cache_part.specs.Putting.{TellsOldWords, told_if}
 
 -- words of a chunk that are these one by one are these
 pub words_read : (class : ClassSheet) (chunk index : ℕ) (words : List ℕ)
@@ -47,12 +47,13 @@ pub row_same : (class left : ClassSheet) (chunk count : ℕ)
 row_same class left chunk count same = ap₂ (λ x xs. x ∷ xs) (same 0) (words_same class left chunk 0 count same)
 
 -- and what is told of its item's time and value
-pub old_told_same : (key_words value_words : ℕ) (old : Option ℕ) (from to : List ℕ) (class left : ClassSheet)
-    → ((i c : ℕ) → last_word i left c ≡ last_word i class c) → TellsOldWords key_words value_words old from to left
-    → TellsOldWords key_words value_words old from to class
-old_told_same key_words value_words None from to class left same told = told
-old_told_same key_words value_words (Some chunk) from to class left same told = told
-    ∙ ap₂ (λ x xs. x ∷ xs) (same 0 chunk) (words_same class left chunk key_words value_words (λ i. same i chunk))
+pub old_told_same : (tells : Bool) (key_words value_words : ℕ) (old : Option ℕ) (from to : List ℕ) (class left : ClassSheet)
+    → ((i c : ℕ) → last_word i left c ≡ last_word i class c) → TellsOldWords tells key_words value_words old from to left
+    → TellsOldWords tells key_words value_words old from to class
+old_told_same tells key_words value_words None from to class left same told = told
+old_told_same tells key_words value_words (Some chunk) from to class left same told = told
+    ∙ ap (λ words. told_if tells words from) (ap₂ (λ x xs. x ∷ xs) (same 0 chunk)
+    (words_same class left chunk key_words value_words (λ i. same i chunk)))
 
 -- a label and the words behind it are a row
 pub row_put : (label : ℕ) (stored words : List ℕ) → 0 < length stored

@@ -1,10 +1,11 @@
 -- What tending a part comes to.
-use Rattle.std.specs.Prelude.{◌≡◌, ℕ, zero, suc, ◌≤◌, ◌⊎◌, true, false, List, [], ◌∷◌}
+use Rattle.std.specs.Prelude.{◌≡◌, ℕ, zero, suc, ◌≤◌, ◌⊎◌, Bool, true, false, List, [], ◌∷◌}
 use Rattle.bump_rules.specs.Caches.{looks}
 use Rattle.bump_rules.specs.declared.items.Head.{Head}
 use Rattle.bump_class.specs.Books.{BookView}
 use Rattle.bump_class.specs.Lanes.{LaneView}
 use Rattle.bump_class.specs.Sweeps.{Sweeps}
+use Rattle.cache_lists.specs.ColdEnds.{LooksAtColdEnd}
 use Rattle.cache_lists.specs.Counts.{CountedView}
 use Rattle.cache_lists.specs.Draining.{DrainsLane}
 use Rattle.cache_lists.specs.declared.ages.Bound.{Bound}
@@ -18,6 +19,16 @@ DrainsEach most now book [] left [] = left ≡ book
 DrainsEach most now book (from ∷ more) left (to ∷ rest) = (between : BookView)
     × DrainsLane most now book from between to × DrainsEach most now between more left rest
 DrainsEach most now book from left to = ⊥
+
+-- Where COLD's last item was found held, the bumps that wait are applied, at most so many of each lane, since one of
+-- them may hold it; else nothing changed but what the class's seat notes of its look.
+pub record DrainsWhereHeld (most now : ℕ) (before : CountedView) (from : List LaneView) (after : CountedView)
+    (to : List LaneView) : Type 0 where
+  pub held : Bool
+  pub looked : BookView
+  pub looks : LooksAtColdEnd held before.book looked
+  pub drains : ((held ≡ false) × (after ≡ record before { book = looked }) × (to ≡ from))
+      ⊎ ((held ≡ true) × DrainsEach most now looked from after.book to × (after.evictions ≡ before.evictions))
 
 -- so many rounds of looks at HOT and WARM, each of which moved an item
 abbrev pub BalancesTimes : ℕ → Bound → Bound → ℕ → BookView → BookView → Type 0

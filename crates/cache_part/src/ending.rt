@@ -73,7 +73,7 @@ pub(crate) fn remove<N: Name, L: RowLaw>(
     ensures others { IfSome result (λ chunk. SameSegments (all_without chunk lists.old.book.lists)
         lists.new.book.lists) }
     ensures evictions { lists.new.evictions ≡ lists.old.evictions }
-    ensures told { TellsOldWords settings.key_words settings.value_words result told.old told.new lists.old.book.sheet }
+    ensures told { TellsOldWords true settings.key_words settings.value_words result told.old told.new lists.old.book.sheet }
     ensures none { IfNone result ((chunk : ℕ) → HasKey settings.key_words key.now lists.old.book.sheet chunk → ⊥) }
     ensures looks { IfNone result (LooksOnly lists.old.book lists.new.book) }
     ensures rest { IfNone result (lists.new ≡ record lists.old { book = lists.new.book }) }

@@ -91,7 +91,7 @@ pub(crate) fn look<N: Name, L: RowLaw>(
     requires told { length told.old ≡ suc settings.value_words }
     requires few { settings.key_words + settings.value_words ≤ N.table.slots }
     ensures item { IsItemOf settings.key_words key.now result lists.old.book.sheet }
-    ensures told { TellsOldWords settings.key_words settings.value_words result told.old told.new lists.old.book.sheet }
+    ensures told { TellsOldWords true settings.key_words settings.value_words result told.old told.new lists.old.book.sheet }
     ensures looks { LooksOnly lists.old.book lists.new.book }
     ensures rest { lists.new ≡ record lists.old { book = lists.new.book } }
     ensures index { index.new ≡ index.old }

@@ -193,7 +193,7 @@ impl<N: Name, L: RowLaw> Part<N, L> {
         requires key { length key.now ≡ self.old.key_words }
         requires told { length told.old ≡ suc self.old.value_words }
         ensures item { IsItem key.now result self.old }
-        ensures told { TellsOld result told.old told.new self.old }
+        ensures told { TellsOld true result told.old told.new self.old }
         ensures length { length told.new ≡ length told.old }
         ensures reads { OnlyReads self.old self.new }
     {
@@ -209,7 +209,7 @@ impl<N: Name, L: RowLaw> Part<N, L> {
         requires key { length key.now ≡ self.old.key_words }
         requires old { length old.old ≡ suc self.old.value_words }
         ensures removes { Removes key.now result self.old self.new }
-        ensures told { TellsOld result old.old old.new self.old }
+        ensures told { TellsOld true result old.old old.new self.old }
         ensures length { length old.new ≡ length old.old }
         ensures rest { self.new ≡ record self.old {
           book = self.new.book;
@@ -240,7 +240,8 @@ impl<N: Name, L: RowLaw> Part<N, L> {
 
     /// Puts an item under its key: the row is the key's words and then the value's; it expires at `expires`, or never
     /// where that is 0; and `now` is its time. Times are in the caller's ticks. Where the key has no item yet and as
-    /// many as may be are linked, the one whose turn it is ends first, as by `CountedBook::evict`. Where no chunk is
+    /// many as may be are linked, the one whose turn it is ends first, as by `CountedBook::evict`; but before that,
+    /// where COLD's last item is held, bumps that wait are applied, at most `most` of each lane. Where no chunk is
     /// free, chunks come free of ended items that nobody holds any more; and where none does, the bumps that wait in
     /// the lanes are applied, at most `most` of each, and it is tried once more. It is refused exactly where none is
     /// free then: each chunk that has no item was found held, or has had its last generation. The key keeps what it
@@ -248,17 +249,18 @@ impl<N: Name, L: RowLaw> Part<N, L> {
     /// expired already, and else in HOT; the index leads to it, and behind that the key's old item ends, whether it had
     /// expired or not. The table's law holds of whatever row begins with the label `expires` and these words.
     ///
-    /// When the key's old item expires is told in `old`, and then its value: it has one word more than a value. Where
-    /// the key has none, or the put is refused, its words stay.
+    /// Where `tells` is set, when the key's old item expires is told in `old`, and then its value: it has one word more
+    /// than a value. Where the key has none, or the put is refused, its words stay.
     ///
     /// `evicted` has room for a label and a row. Where an item is evicted, also where the put is refused then, its
     /// label is written there, which says when it expires, and then the words of its key and of its value. They are
     /// read before chunks come free, since the new item may be linked in its chunk. Where none is evicted `evicted`
-    /// stays.
+    /// stays. Where `tells` isn't set nothing is read, and the words of both stay.
     pub fn put(
         &mut self,
         row: &[u64],
         expires: u64,
+        tells: bool,
         old: &mut [u64],
         evicted: &mut [u64],
         lanes: &mut [RawLane<N, L>],
@@ -269,10 +271,10 @@ impl<N: Name, L: RowLaw> Part<N, L> {
         requires old { length old.old ≡ suc self.old.value_words }
         requires evicted { length evicted.old ≡ suc (self.old.key_words + self.old.value_words) }
         requires law { MayHave L.law expires row.now }
-        ensures puts { IfOk result (λ did. PutsItem did row.now expires now most
+        ensures puts { IfOk result (λ did. PutsItem tells did row.now expires now most
             (record { old = old.old; evicted = evicted.old }) (record { old = old.new; evicted = evicted.new }) self.old
             lanes.old self.new lanes.new) }
-        ensures refuses { IfErr result (λ why. RefusesItem why row.now now most
+        ensures refuses { IfErr result (λ why. RefusesItem tells why row.now now most
             (record { old = old.old; evicted = evicted.old }) (record { old = old.new; evicted = evicted.new }) self.old
             lanes.old self.new lanes.new) }
         ensures lengths { (length old.new ≡ length old.old) × (length evicted.new ≡ length evicted.old) }
@@ -289,6 +291,7 @@ impl<N: Name, L: RowLaw> Part<N, L> {
             &mut self.index,
             settings,
             row,
+            tells,
             evicted,
             lanes,
             most,
@@ -301,6 +304,7 @@ impl<N: Name, L: RowLaw> Part<N, L> {
             room.found,
             row,
             expires,
+            tells,
             old,
             now,
         ) else {
@@ -445,7 +449,7 @@ impl<N: Name, L: RowLaw> Part<N, L> {
         ensures ends { IfSome result (λ chunk. EndsAt chunk self.old.book self.new.book) }
         ensures others { IfSome result (λ chunk. SameSegments (all_without chunk self.old.book.lists)
             self.new.book.lists) }
-        ensures told { TellsRow result told.old told.new self.old }
+        ensures told { TellsRow true result told.old told.new self.old }
         ensures length { length told.new ≡ length told.old }
         ensures rest { self.new ≡ record self.old {
           book = self.new.book;

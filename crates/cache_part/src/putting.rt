@@ -87,13 +87,15 @@ pub(crate) struct Room {
     pub(crate) evicted: Option<u32>,
 }
 
-// Makes room for an item with this row, and tells the row of the item that was evicted. Where no chunk comes free at once
-// bumps that wait are applied, at most `most` of each lane.
+// Makes room for an item with this row, and tells the row of the item that was evicted, if that is asked for. Where
+// COLD's last item is held before an evict, and where no chunk comes free at once, bumps that wait are applied, at most
+// `most` of each lane.
 pub(crate) fn make_room<N: Name, L: RowLaw>(
     lists: &mut CountedBook<N, L>,
     index: &mut Index,
     settings: Settings,
     row: &[u64],
+    tells: bool,
     told: &mut [u64],
     lanes: &mut [RawLane<N, L>],
     most: u32,
@@ -112,7 +114,7 @@ pub(crate) fn make_room<N: Name, L: RowLaw>(
     ensures room { MakesRoom settings.items now result.found.chunk result.evicted most lists.old lanes.old lists.new
         lanes.new }
     ensures stay { OthersStay None None result.evicted lists.old.book lists.new.book }
-    ensures told { TellsWords (settings.key_words + settings.value_words) result.evicted told.old told.new
+    ensures told { TellsWords tells (settings.key_words + settings.value_words) result.evicted told.old told.new
         lists.old.book.sheet }
     ensures another { IfSome result.evicted (λ c. IsSome (linked_at lists.old.book.sheet c)
         × (result.found.chunk ≡ None)) }
@@ -120,7 +122,17 @@ pub(crate) fn make_room<N: Name, L: RowLaw>(
     ensures first { index.new.first ≡ index.old.first }
 {
     let found = find_key_of(lists, index, settings, row);
-    let evicted = room::evict_where_full(lists, index, settings, found.chunk, told, now);
+    let evicted = room::evict_where_full(
+        lists,
+        index,
+        settings,
+        found.chunk,
+        tells,
+        told,
+        lanes,
+        most,
+        now,
+    );
     room::free_where_none(lists, lanes, most, now);
     Room { found, evicted }
 }

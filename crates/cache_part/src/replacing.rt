@@ -1,14 +1,13 @@
 //! An item is linked, and the index leads to it in place of the key's old one.
-ghost use Rattle.std.specs.Prelude.{◌≡◌, ℕ, suc, ◌+◌, ◌∷◌, ◌<◌, ◌≤◌, IfSome, IfNone, IsSome, None, true, length};
+ghost use Rattle.std.specs.Prelude.{◌≡◌, ℕ, suc, ◌+◌, ◌<◌, ◌≤◌, IfSome, IfNone, IsSome, None, Some, true, length};
 ghost use Rattle.bump_class.specs.Links.{MayHave};
 ghost use Rattle.bump_links.specs.Lists.{first_of};
 ghost use Rattle.bump_rules.specs.Lists.{all_without};
-ghost use Rattle.bump_steps.specs.Views.{last_label, owns};
+ghost use Rattle.bump_steps.specs.Views.{owns};
 ghost use Rattle.cache_lists.specs.Items.{EndsAt};
 ghost use Rattle.cache_lists.specs.Linked.{linked_at};
 ghost use Rattle.cache_lists.specs.Segments.{SameSegments};
 ghost use Rattle.cache_index.specs.Views.{led_at};
-ghost use Rattle.cache_part.specs.Keys.{value_at};
 ghost use Rattle.cache_part.specs.Parts.{generation_led};
 ghost use Rattle.cache_part.specs.Putting.{Links, TellsOldWords, leads_anew, start_of};
 
@@ -22,14 +21,15 @@ use bump_steps::RowLaw;
 use cache_index::Index;
 use cache_lists::CountedBook;
 
-// The index leads to a new item in place of that of a chunk, by one store, and then the old one ends. When that expires,
-// and its value, are read before.
+// The index leads to a new item in place of that of a chunk, by one store, and then the old one ends. When that
+// expires, and its value, are read before, where they are asked for.
 fn replace<N: Name, L: RowLaw>(
     lists: &mut CountedBook<N, L>,
     index: &mut Index,
     old: u32,
     id: ItemId,
     settings: Settings,
+    tells: bool,
     told: &mut [u64],
 )
     requires within { old < length index.old.table }
@@ -46,12 +46,13 @@ fn replace<N: Name, L: RowLaw>(
     ensures evictions { lists.new.evictions ≡ lists.old.evictions }
     ensures table { (hash : ℕ) → index.new.table ≡ leads_anew hash (Some old) id index.old.table }
     ensures first { index.new.first ≡ index.old.first }
-    ensures told { told.new ≡ last_label lists.old.book.sheet old
-        ∷ value_at settings.key_words settings.value_words lists.old.book.sheet old }
+    ensures told { TellsOldWords tells settings.key_words settings.value_words (Some old) told.old told.new
+        lists.old.book.sheet }
 {
-    reading::read_value(
+    reading::read_value_where(
         lists,
-        Some(old),
+        tells,
+        old,
         settings.key_words,
         settings.value_words,
         told,
@@ -73,7 +74,8 @@ fn start(temporary: Option<u64>, expires: u64, now: u64) -> Start
 }
 
 // Links an item with this row, which expires then, and tells it; or None where no chunk is free. The index leads to it,
-// in place of the key's old item where it has one, which then ends; when that expires is told, and its value.
+// in place of the key's old item where it has one, which then ends; when that expires, and its value, are told where
+// they are asked for.
 pub(crate) fn link<N: Name, L: RowLaw>(
     lists: &mut CountedBook<N, L>,
     index: &mut Index,
@@ -81,6 +83,7 @@ pub(crate) fn link<N: Name, L: RowLaw>(
     found: Found,
     row: &[u64],
     expires: u64,
+    tells: bool,
     told: &mut [u64],
     now: u64,
 ) -> Option<ItemId>
@@ -95,7 +98,7 @@ pub(crate) fn link<N: Name, L: RowLaw>(
     requires slots { settings.key_words + settings.value_words ≤ N.table.slots }
     ensures links { IfSome result (λ id. Links settings.temporary found.chunk row.now expires now id lists.old.book
         lists.new.book) }
-    ensures told { IfSome result (λ id. TellsOldWords settings.key_words settings.value_words found.chunk told.old
+    ensures told { IfSome result (λ id. TellsOldWords tells settings.key_words settings.value_words found.chunk told.old
         told.new lists.old.book.sheet) }
     ensures stays { IfNone result (told.new ≡ told.old) }
     ensures table { IfSome result (λ id. index.new.table ≡ leads_anew found.hash found.chunk id index.old.table) }
@@ -111,7 +114,7 @@ pub(crate) fn link<N: Name, L: RowLaw>(
     };
     match found.chunk {
         Some(old) => {
-            replace(lists, index, old, id, settings, told);
+            replace(lists, index, old, id, settings, tells, told);
             Some(id)
         }
         None => {

@@ -4,7 +4,7 @@ ghost use Rattle.cache_lists.specs.Items.{KeepsItems};
 ghost use Rattle.cache_lists.specs.Linked.{linked_at};
 ghost use Rattle.cache_index.specs.Views.{led_at};
 ghost use Rattle.cache_part.specs.Parts.{generation_led};
-ghost use Rattle.cache_part.specs.Putting.{linked_count, DrainsAndSweeps, EvictsWhereFull, FreesAtLast, FreesWhereNone, TellsWords};
+ghost use Rattle.cache_part.specs.Putting.{linked_count, DrainsAndSweeps, EndsEvicted, EvictsWhereFull, FreesAtLast, FreesWhereNone, TellsWords};
 
 use crate::putting::Settings;
 use crate::{reading, tending};
@@ -26,23 +26,28 @@ fn count<N: Name, L: RowLaw>(lists: &CountedBook<N, L>) -> u64
 }
 
 // Evicts the item whose turn it is, where the key has none and as many as may be are linked; and tells its chunk, and
-// its row. The index leads to it no more behind that.
+// its row where it is asked for. The index leads to it no more behind that. Where it is held, bumps that wait are
+// applied before.
 pub(crate) fn evict_where_full<N: Name, L: RowLaw>(
     lists: &mut CountedBook<N, L>,
     index: &mut Index,
     settings: Settings,
     old: Option<u32>,
+    tells: bool,
     told: &mut [u64],
+    lanes: &mut [RawLane<N, L>],
+    most: u32,
     now: u64,
 ) -> Option<u32>
     requires leads { (chunk : ℕ) → generation_led (led_at index.old.table chunk) ≡ linked_at lists.old.book.sheet chunk }
     requires told { length told.old ≡ suc (settings.key_words + settings.value_words) }
     requires few { settings.key_words + settings.value_words ≤ N.table.slots }
-    ensures evicts { EvictsWhereFull settings.items now old result lists.old lists.new }
+    ensures evicts { EvictsWhereFull settings.items most now old result lists.old lanes.old lists.new lanes.new }
+    ensures ends { EndsEvicted result lists.old.book lists.new.book }
     ensures table { IfSome result (λ chunk. index.new.table ≡ slice_set index.old.table chunk None) }
     ensures index { IfNone result (index.new ≡ index.old) }
     ensures first { index.new.first ≡ index.old.first }
-    ensures told { TellsWords (settings.key_words + settings.value_words) result told.old told.new
+    ensures told { TellsWords tells (settings.key_words + settings.value_words) result told.old told.new
         lists.old.book.sheet }
 {
     if old.is_some() {
@@ -51,12 +56,13 @@ pub(crate) fn evict_where_full<N: Name, L: RowLaw>(
     if count(lists) < u64::from(settings.items) {
         return None;
     }
+    tending::drain_where_held(lists, lanes, most, now);
     let Some(victim) = lists.evict(now) else {
         return None;
     };
     index.clear(victim.chunk);
     // The chunk may be the next one that comes free, and the new item be linked there.
-    reading::read_row(lists, victim.chunk, told);
+    reading::read_row_where(lists, tells, victim.chunk, told);
     Some(victim.chunk)
 }
 
@@ -76,7 +82,8 @@ fn drain_and_sweep<N: Name, L: RowLaw>(
     lists.sweep();
 }
 
-// Chunks of ended items come free that nobody holds any more; and where none does the bumps that wait are applied first.
+// Chunks of ended items come free that nobody holds any more; and where none does the bumps that wait are applied
+// first.
 fn free_at_last<N: Name, L: RowLaw>(
     lists: &mut CountedBook<N, L>,
     lanes: &mut [RawLane<N, L>],

@@ -106,7 +106,7 @@ pub(crate) fn take_expired<N: Name, L: RowLaw>(
     ensures looks { IfNone result.chunk (LooksOnly lists.old.book lists.new.book) }
     ensures rest { IfNone result.chunk (lists.new ≡ record lists.old { book = lists.new.book }) }
     ensures index { IfNone result.chunk (index.new ≡ index.old) }
-    ensures told { TellsWords (settings.key_words + settings.value_words) result.chunk told.old told.new
+    ensures told { TellsWords true (settings.key_words + settings.value_words) result.chunk told.old told.new
         lists.old.book.sheet }
     ensures within { result.cursor ≤ lists.new.book.sheet.count - 1 }
 {

@@ -3,7 +3,7 @@ ghost use Rattle.std.specs.Prelude.{◌≡◌, ℕ, ◌≤◌, ◌-◌};
 ghost use Rattle.cache_lists.specs.Items.{KeepsItems};
 ghost use Rattle.cache_part.specs.Expiring.{HasNoneExpired, IsInTurn, KeepsUnexpired, looks_of, number_behind};
 ghost use Rattle.cache_part.specs.Parts.{IsPart};
-ghost use Rattle.cache_part.specs.Tending.{BalancesByAge, BalancesOften, BalancesUpTo, DrainsEach, Tends};
+ghost use Rattle.cache_part.specs.Tending.{BalancesByAge, BalancesOften, BalancesUpTo, DrainsEach, DrainsWhereHeld, Tends};
 
 use crate::expiring;
 use crate::putting::Settings;
@@ -27,6 +27,22 @@ pub(crate) fn drain<N: Name, L: RowLaw>(
 {
     for lane in lanes.iter_mut() {
         lists.drain_front(lane, now, most);
+    }
+}
+
+// Applies the bumps that wait in the lanes, at most `most` of each, where COLD's last item is held: else it would end
+// while a bump of it waits, and its chunk would come free only behind that.
+pub(crate) fn drain_where_held<N: Name, L: RowLaw>(
+    lists: &mut CountedBook<N, L>,
+    lanes: &mut [RawLane<N, L>],
+    most: u32,
+    now: u64,
+)
+    ensures drains { DrainsWhereHeld most now lists.old lanes.old lists.new lanes.new }
+    ensures kept { KeepsItems lists.old.book lists.new.book }
+{
+    if lists.is_cold_end_held() {
+        drain(lists, lanes, most, now);
     }
 }
 

@@ -1,5 +1,5 @@
 -- What is said of a change of a part, where its items move from list to list before or behind it.
-use Rattle.std.proofs.Common.{◌≡◌, ℕ, List, ◌++◌, length, take, drop, Option, Some, None, IsSome, refl, sym, ap, ◌∙◌, subst}
+use Rattle.std.proofs.Common.{◌≡◌, ℕ, Bool, List, ◌++◌, length, take, drop, Option, Some, None, IsSome, refl, sym, ap, ◌∙◌, subst}
 use Rattle.std.proofs.Math.Seq.{take-append_seam}
 use Rattle.bump_class.specs.Lanes.{LaneView}
 use Rattle.bump_steps.specs.Rule.{RowPredicate}
@@ -9,14 +9,12 @@ use Rattle.cache_part.specs.Keys.{key_at}
 use Rattle.cache_part.specs.declared.putting.NoChunk.{NoChunk}
 use Rattle.cache_part.specs.declared.putting.PutItem.{PutItem}
 use Rattle.cache_part.specs.Parts.{PartView, IsPart, IsUnknown, OnlyReads}
-use Rattle.cache_part.specs.Putting.{FindsNoRoom, Puts, PutsItem, RefusesItem, Told}
+use Rattle.cache_part.specs.Putting.{FindsNoRoom, Puts, PutsItem, RefusesItem, Told, told_if}
 use Rattle.cache_part.proofs.LookLemmas.{looks_keep, looks_then}
-use Rattle.cache_part.specs.Tending.{DrainsEach}
-use Rattle.cache_shelf.specs.Entries.{Keeps, AllKept, Evicted, Had, OthersKept, key_of_evicted}
-use Rattle.cache_shelf.specs.Limits.{put_bumps}
+use Rattle.cache_shelf.specs.Entries.{Keeps, AllKept, EvictedIf, HadIf, OthersKept, key_of_evicted}
 use Rattle.cache_shelf.specs.Putting.{PutsEntry, RefusesEntry}
 use Rattle.cache_shelf.specs.Shelves.{IsLawful, ShelfView}
-use Rattle.cache_shelf.specs.Turns.{OnlyMoves, PutsInTurn, TakesTurn}
+use Rattle.cache_shelf.specs.Turns.{DrainsInTurn, OnlyMoves, PutsInTurn, TakesTurn}
 use Rattle.cache_shelf.proofs.Keeping.{IsAlike, alike_back, key_stays, moved_all, moved_keeps, moved_unknown, moved_under, obeys_stays, old_stays, row_stays, unknown_before}
 use Rattle.cache_shelf.proofs.Putting.{puts_evicted, puts_had, puts_kept, puts_others, refuses_evicted, refuses_stay}
 
@@ -68,10 +66,10 @@ module _ (before between after : PartView) (moves : Moves between after) where
       let two = moved_all between after moves.alike moves.items other value expires (λ e. absurd (cc e)) in
       (λ kept. two.0 (one.0 kept), λ kept. one.1 (two.1 kept))
 
-  pub evicted_then : (law : RowPredicate) (evicted : Option ℕ) (from to : List ℕ)
-      → Evicted law evicted from to before between → Evicted law evicted from to before after
-  evicted_then law None from to same = same
-  evicted_then law (Some c) from to did = record {
+  pub evicted_then : (tells : Bool) (law : RowPredicate) (evicted : Option ℕ) (from to : List ℕ)
+      → EvictedIf tells law evicted from to before between → EvictedIf tells law evicted from to before after
+  evicted_then tells law None from to same = same
+  evicted_then tells law (Some c) from to did = record {
     linked = did.linked;
     obeys = did.obeys;
     told = did.told;
@@ -104,14 +102,14 @@ module _ (before between after : PartView) (moves : Moves before between) where
       let two = all other value expires not_out in
       (λ kept. two.0 (one.0 kept), λ kept. one.1 (two.1 kept))
 
-  pub had_before : (law : RowPredicate) (key : List ℕ) (told : Option ℕ) (from to : List ℕ)
-      → Had law key told from to between → Had law key told from to before
-  had_before law key None from to (unknown, same) =
+  pub had_before : (tells : Bool) (law : RowPredicate) (key : List ℕ) (told : Option ℕ) (from to : List ℕ)
+      → HadIf tells law key told from to between → HadIf tells law key told from to before
+  had_before tells law key None from to (unknown, same) =
       (unknown_before before between moves.alike moves.items key unknown, same)
-  had_before law key (Some c) from to had = record {
+  had_before tells law key (Some c) from to had = record {
     under = moved_under between before (alike_back before between moves.alike) items_back key c had.under;
     obeys = obeys_stays law between before c (back c) had.obeys;
-    told = had.told ∙ old_stays before between c moves.alike (λ i. moves.items.words i c);
+    told = had.told ∙ ap (λ words. told_if tells words from) (old_stays before between c moves.alike (λ i. moves.items.words i c));
   }
     where
       items_back : KeepsItems between.book before.book
@@ -121,22 +119,15 @@ module _ (before between after : PartView) (moves : Moves before between) where
         words = λ i d. sym (moves.items.words i d);
       }
 
-  pub evicted_before : (law : RowPredicate) (evicted : Option ℕ) (from to : List ℕ)
-      → Evicted law evicted from to between after → Evicted law evicted from to before after
-  evicted_before law None from to same = same
-  evicted_before law (Some c) from to did = record {
+  pub evicted_before : (tells : Bool) (law : RowPredicate) (evicted : Option ℕ) (from to : List ℕ)
+      → EvictedIf tells law evicted from to between after → EvictedIf tells law evicted from to before after
+  evicted_before tells law None from to same = same
+  evicted_before tells law (Some c) from to did = record {
     linked = subst IsSome (moves.items.linked c) did.linked;
     obeys = obeys_stays law between before c (back c) did.obeys;
-    told = did.told ∙ row_stays before between c moves.alike (λ i. moves.items.words i c);
+    told = did.told ∙ ap (λ row. told_if tells row from) (row_stays before between c moves.alike (λ i. moves.items.words i c));
     unknown = subst (λ key. IsUnknown key after) (key_of c) did.unknown;
   }
-
--- bumps of a shelf's lanes that are applied only move items of its part
-pub drain_moves : (inside shelf : ShelfView) (drained : PartView) → inside ≡ shelf
-    → KeepsItems inside.part.book drained.book
-    → drained ≡ record inside.part { book = drained.book; flow = drained.flow } → OnlyMoves shelf.part drained
-drain_moves inside shelf drained same items rest =
-    subst (λ v. OnlyMoves v.part drained) same (record { items = items; rest = rest })
 
 -- what was done between bumps that were applied and the turn to balance, done to the shelf
 module _ {before drained mid after : PartView} (moves : OnlyMoves before drained) (turn : OnlyMoves mid after) where
@@ -152,15 +143,15 @@ module _ {before drained mid after : PartView} (moves : OnlyMoves before drained
   kept_in_turn row expires kept = subst (λ n. Keeps (take n row) (drop n row) expires after) early.alike.key_words
       (moved_keeps mid after late.alike late.items _ _ expires kept)
 
-  pub had_in_turn : (law : RowPredicate) (row : List ℕ) (told : Option ℕ) (from to : List ℕ)
-      → Had law (take drained.key_words row) told from to drained → Had law (take before.key_words row) told from to before
-  had_in_turn law row told from to had = subst (λ n. Had law (take n row) told from to before) early.alike.key_words
-      (had_before before drained mid early law _ told from to had)
+  pub had_in_turn : (tells : Bool) (law : RowPredicate) (row : List ℕ) (told : Option ℕ) (from to : List ℕ)
+      → HadIf tells law (take drained.key_words row) told from to drained → HadIf tells law (take before.key_words row) told from to before
+  had_in_turn tells law row told from to had = subst (λ n. HadIf tells law (take n row) told from to before) early.alike.key_words
+      (had_before before drained mid early tells law _ told from to had)
 
-  pub evicted_in_turn : (law : RowPredicate) (evicted : Option ℕ) (from to : List ℕ)
-      → Evicted law evicted from to drained mid → Evicted law evicted from to before after
-  evicted_in_turn law evicted from to told = evicted_before before drained after early law evicted from to
-      (evicted_then drained mid after late law evicted from to told)
+  pub evicted_in_turn : (tells : Bool) (law : RowPredicate) (evicted : Option ℕ) (from to : List ℕ)
+      → EvictedIf tells law evicted from to drained mid → EvictedIf tells law evicted from to before after
+  evicted_in_turn tells law evicted from to told = evicted_before before drained after early tells law evicted from to
+      (evicted_then drained mid after late tells law evicted from to told)
 
   pub others_in_turn : (row : List ℕ) (evicted : Option ℕ)
       → OthersKept (take drained.key_words row) (key_of_evicted evicted drained) drained mid
@@ -183,15 +174,15 @@ pub in_turn : (Does : ℕ → PartView → List LaneView → PartView → List L
     (inside shelf : ShelfView) (drained mid : PartView) (from between to : List LaneView) (len : ℕ) (after : ShelfView)
     → inside ≡ shelf → from ≡ inside.lanes → length between ≡ length from → length to ≡ length between
     → length from ≡ len → after.lanes ≡ take len (to ++ drop (length to) inside.lanes)
-    → DrainsEach put_bumps now inside.part.book from drained.book between → OnlyMoves shelf.part drained
+    → DrainsInTurn inside.puts now inside.part from drained between → OnlyMoves shelf.part drained
     → Does inside.limits.most drained between mid to
     → TakesTurn inside.limits inside.puts now mid after.part after.puts → PutsInTurn Does now shelf after
 in_turn Does now inside shelf drained mid from between to len after same all even again long left drains moves does turn =
     record {
       drained = drained;
       between = between;
-      drains = subst (λ v. DrainsEach put_bumps now v.part.book v.lanes drained.book between) same
-          (subst (λ l. DrainsEach put_bumps now inside.part.book l drained.book between) all drains);
+      drains = subst (λ v. DrainsInTurn v.puts now v.part v.lanes drained between) same
+          (subst (λ l. DrainsInTurn inside.puts now inside.part l drained between) all drains);
       moves = moves;
       did = mid;
       does = subst (λ v. Does v.limits.most drained between mid after.lanes) same
@@ -204,33 +195,33 @@ in_turn Does now inside shelf drained mid from between to len after same all eve
         ∙ take-append_seam to (drop (length to) inside.lanes)
 
 -- what a put of the part came to, between both, is what it came to for the shelf
-module _ (law : RowPredicate) (row : List ℕ) (now most : ℕ) (was told : Told) (before after : ShelfView)
+module _ (tells : Bool) (law : RowPredicate) (row : List ℕ) (now most : ℕ) (was told : Told) (before after : ShelfView)
     (drained mid : PartView) (from to : List LaneView) (moves : OnlyMoves before.part drained)
     (turn : OnlyMoves mid after.part) (alike : IsAlike drained mid) (lawful : IsLawful law drained)
     (is : IsPart drained.seed drained.key_words drained.book.sheet drained.index) where
-  pub puts_entry : (expires : ℕ) (did : PutItem) → PutsItem did row expires now most was told drained from mid to
+  pub puts_entry : (expires : ℕ) (did : PutItem) → PutsItem tells did row expires now most was told drained from mid to
       → PutsInTurn (Puts did.old did.evicted row expires now did.chunk) now before after
-      → PutsEntry law did row expires now was told before after
+      → PutsEntry tells law did row expires now was told before after
   puts_entry expires did puts in_its_turn = record {
     kept = kept_in_turn moves turn row expires
-        (puts_kept law row now most was told drained mid from to alike lawful is expires did puts);
-    had = had_in_turn moves turn law row did.old was.old told.old
-        (puts_had law row now most was told drained mid from to alike lawful is expires did puts);
-    evicted = evicted_in_turn moves turn law did.evicted was.evicted told.evicted
-        (puts_evicted law row now most was told drained mid from to alike lawful is expires did puts);
+        (puts_kept tells law row now most was told drained mid from to alike lawful is expires did puts);
+    had = had_in_turn moves turn tells law row did.old was.old told.old
+        (puts_had tells law row now most was told drained mid from to alike lawful is expires did puts);
+    evicted = evicted_in_turn moves turn tells law did.evicted was.evicted told.evicted
+        (puts_evicted tells law row now most was told drained mid from to alike lawful is expires did puts);
     others = others_in_turn moves turn row did.evicted
-        (puts_others law row now most was told drained mid from to alike lawful is expires did puts);
+        (puts_others tells law row now most was told drained mid from to alike lawful is expires did puts);
     puts = in_its_turn;
   }
 
-  pub refuses_entry : (why : NoChunk) → RefusesItem why row now most was told drained from mid to
+  pub refuses_entry : (why : NoChunk) → RefusesItem tells why row now most was told drained from mid to
       → PutsInTurn (FindsNoRoom (take before.part.key_words row) why.evicted now) now before after
-      → RefusesEntry law why row now was told before after
+      → RefusesEntry tells law why row now was told before after
   refuses_entry why refuses in_its_turn = record {
     had = refuses.had;
-    evicted = evicted_in_turn moves turn law why.evicted was.evicted told.evicted
-        (refuses_evicted law row now most was told drained mid from to alike lawful is why refuses);
+    evicted = evicted_in_turn moves turn tells law why.evicted was.evicted told.evicted
+        (refuses_evicted tells law row now most was told drained mid from to alike lawful is why refuses);
     stay = all_in_turn moves turn why.evicted
-        (refuses_stay law row now most was told drained mid from to alike lawful is why refuses);
+        (refuses_stay tells law row now most was told drained mid from to alike lawful is why refuses);
     refuses = in_its_turn;
   }

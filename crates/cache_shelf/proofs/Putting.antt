@@ -11,7 +11,7 @@ use Rattle.cache_part.specs.declared.putting.PutItem.{PutItem}
 use Rattle.cache_part.specs.Keys.{key_at, value_at}
 use Rattle.cache_part.specs.Parts.{PartView, IsItem, IsPart, IsUnder, IsUnknown}
 use Rattle.cache_part.specs.Putting.{IsFresh, OthersStay, PutsItem, RefusesItem, TellsOld, TellsRow, Told, WasAnother}
-use Rattle.cache_shelf.specs.Entries.{Keeps, AllKept, Evicted, Had, OthersKept, key_of_evicted}
+use Rattle.cache_shelf.specs.Entries.{Keeps, AllKept, EvictedIf, HadIf, OthersKept, key_of_evicted}
 use Rattle.cache_shelf.specs.Shelves.{IsLawful, Obeys}
 use Rattle.cache_shelf.proofs.Keeping.{IsAlike, alike_back, key_stays, keeps_stays, not_linked, obeys_stays}
 
@@ -93,12 +93,12 @@ module _ (key : List ℕ) (before after : PartView) (chunk : ℕ) (old evicted :
           not_evicted d new has.linked (out ∙ ap Some (sym (is.agrees.once d c linked there.0 key_before)))
 
   -- what is told of the evicted one
-  pub put_evicted : (law : RowPredicate) (from to : List ℕ) → IsLawful law before
-      → IsPart before.seed before.key_words before.book.sheet before.index → TellsRow evicted from to before
-      → Evicted law evicted from to before after
-  put_evicted law from to lawful is told = by evicted refl told
+  pub put_evicted : (tells : Bool) (law : RowPredicate) (from to : List ℕ) → IsLawful law before
+      → IsPart before.seed before.key_words before.book.sheet before.index → TellsRow tells evicted from to before
+      → EvictedIf tells law evicted from to before after
+  put_evicted tells law from to lawful is told = by evicted refl told
     where
-      by : (e : Option ℕ) → evicted ≡ e → TellsRow e from to before → Evicted law e from to before after
+      by : (e : Option ℕ) → evicted ≡ e → TellsRow tells e from to before → EvictedIf tells law e from to before after
       by None out same = same
       by (Some c) out row =
           let there : IsSome (linked_at before.book.sheet c) × (old ≡ None) =
@@ -150,12 +150,12 @@ module _ (before after : PartView) (evicted : Option ℕ) (alike : IsAlike befor
           (sym (still kept.chunk (out_of kept.chunk kept.under.linked))) (λ i. sym (words kept.chunk i))
 
   -- what is told of the evicted one
-  pub refused_evicted : (law : RowPredicate) (from to : List ℕ) → IsLawful law before
-      → IsPart before.seed before.key_words before.book.sheet before.index → TellsRow evicted from to before
-      → Evicted law evicted from to before after
-  refused_evicted law from to lawful is told = by evicted refl told
+  pub refused_evicted : (tells : Bool) (law : RowPredicate) (from to : List ℕ) → IsLawful law before
+      → IsPart before.seed before.key_words before.book.sheet before.index → TellsRow tells evicted from to before
+      → EvictedIf tells law evicted from to before after
+  refused_evicted tells law from to lawful is told = by evicted refl told
     where
-      by : (e : Option ℕ) → evicted ≡ e → TellsRow e from to before → Evicted law e from to before after
+      by : (e : Option ℕ) → evicted ≡ e → TellsRow tells e from to before → EvictedIf tells law e from to before after
       by None out same = same
       by (Some c) out row =
           let linked : IsSome (linked_at before.book.sheet c) = subst (λ e. IfSome e (λ d. IsSome (linked_at before.book.sheet d))) out was in
@@ -174,17 +174,17 @@ module _ (before after : PartView) (evicted : Option ℕ) (alike : IsAlike befor
       (lawful c (subst IsSome (still c (out_of c some)) some))
 
 -- what the key had, by what was told of its item
-pub had_told : (law : RowPredicate) (key : List ℕ) (chunk : Option ℕ) (from to : List ℕ) (part : PartView)
-    → IsLawful law part → IsItem key chunk part → TellsOld chunk from to part → Had law key chunk from to part
-had_told law key None from to part lawful item told = (item, told)
-had_told law key (Some c) from to part lawful item told =
+pub had_told : (tells : Bool) (law : RowPredicate) (key : List ℕ) (chunk : Option ℕ) (from to : List ℕ) (part : PartView)
+    → IsLawful law part → IsItem key chunk part → TellsOld tells chunk from to part → HadIf tells law key chunk from to part
+had_told tells law key None from to part lawful item told = (item, told)
+had_told tells law key (Some c) from to part lawful item told =
     record { under = item; obeys = lawful c item.linked; told = told }
 
 -- a row is put into a part of which the law holds, or isn't
-module _ (law : RowPredicate) (row : List ℕ) (now most : ℕ) (was told : Told) (before after : PartView)
+module _ (tells : Bool) (law : RowPredicate) (row : List ℕ) (now most : ℕ) (was told : Told) (before after : PartView)
     (from to : List LaneView) (alike : IsAlike before after) (lawful : IsLawful law before)
     (is : IsPart before.seed before.key_words before.book.sheet before.index) where
-  module _ (expires : ℕ) (did : PutItem) (puts : PutsItem did row expires now most was told before from after to) where
+  module _ (expires : ℕ) (did : PutItem) (puts : PutsItem tells did row expires now most was told before from after to) where
     -- the key keeps the value
     pub puts_kept : Keeps (take before.key_words row) (drop before.key_words row) expires after
     puts_kept = record {
@@ -195,13 +195,13 @@ module _ (law : RowPredicate) (row : List ℕ) (now most : ℕ) (was told : Told
     }
 
     -- what it had is told
-    pub puts_had : Had law (take before.key_words row) did.old was.old told.old before
-    puts_had = had_told law (take before.key_words row) did.old was.old told.old before lawful puts.item puts.had
+    pub puts_had : HadIf tells law (take before.key_words row) did.old was.old told.old before
+    puts_had = had_told tells law (take before.key_words row) did.old was.old told.old before lawful puts.item puts.had
 
     -- and what was evicted
-    pub puts_evicted : Evicted law did.evicted was.evicted told.evicted before after
+    pub puts_evicted : EvictedIf tells law did.evicted was.evicted told.evicted before after
     puts_evicted = put_evicted (take before.key_words row) before after did.chunk did.old did.evicted alike puts.others
-        puts.under puts.item puts.ended puts.was_another puts.gone puts.fresh law was.evicted told.evicted lawful is
+        puts.under puts.item puts.ended puts.was_another puts.gone puts.fresh tells law was.evicted told.evicted lawful is
         puts.evicted
 
     -- under each other key stays what was there
@@ -209,10 +209,10 @@ module _ (law : RowPredicate) (row : List ℕ) (now most : ℕ) (was told : Told
     puts_others = put_others (take before.key_words row) before after did.chunk did.old did.evicted alike puts.others
         puts.under puts.item puts.ended puts.was_another puts.gone puts.fresh
 
-  module _ (why : NoChunk) (refuses : RefusesItem why row now most was told before from after to) where
+  module _ (why : NoChunk) (refuses : RefusesItem tells why row now most was told before from after to) where
     -- what was evicted is told
-    pub refuses_evicted : Evicted law why.evicted was.evicted told.evicted before after
-    refuses_evicted = refused_evicted before after why.evicted alike refuses.others refuses.was_linked refuses.gone law
+    pub refuses_evicted : EvictedIf tells law why.evicted was.evicted told.evicted before after
+    refuses_evicted = refused_evicted before after why.evicted alike refuses.others refuses.was_linked refuses.gone tells law
         was.evicted told.evicted lawful is refuses.evicted
 
     -- under each key but that one's stays what was there
@@ -221,8 +221,8 @@ module _ (law : RowPredicate) (row : List ℕ) (now most : ℕ) (was told : Told
 
   -- the law holds of each item, whether it was put or not
   pub law_kept : (expires : ℕ) (result : Result PutItem NoChunk) → MayHave law expires row
-      → IfOk result (λ did. PutsItem did row expires now most was told before from after to)
-      → IfErr result (λ why. RefusesItem why row now most was told before from after to) → IsLawful law after
+      → IfOk result (λ did. PutsItem tells did row expires now most was told before from after to)
+      → IfErr result (λ why. RefusesItem tells why row now most was told before from after to) → IsLawful law after
   law_kept expires (Ok did) may puts refuses = put_lawful (take before.key_words row) before after did.chunk did.old
       did.evicted alike puts.others puts.under puts.item puts.ended puts.was_another puts.gone puts.fresh law row expires
       lawful may puts.has_row

@@ -1,5 +1,5 @@
 -- What a removal leaves of what a part keeps.
-use Rattle.std.proofs.Common.{◌≡◌, ◌≢◌, ℕ, List, Option, Some, None, IsSome, IfSome, IfNone, if◌then◌else◌, ◌==◌, refl, sym, ap, ◌∙◌, subst, eq-eqb, ne_eqb}
+use Rattle.std.proofs.Common.{◌≡◌, ◌≢◌, ℕ, List, Option, Some, None, IsSome, IfSome, IfNone, if◌then◌else◌, ◌==◌, refl, sym, ap, ◌∙◌, subst, eq-eqb, ne_eqb, true}
 use Rattle.bump_steps.specs.Rule.{RowPredicate}
 use Rattle.cache_lists.specs.Items.{EndsAt}
 use Rattle.cache_lists.specs.Linked.{linked_at}
@@ -104,10 +104,10 @@ module _ (key : List ℕ) (before after : PartView) (alike : IsAlike before afte
           linked))
 
   -- so it is as a table of keys and values
-  pub removes_entry : (law : RowPredicate) (from to : List ℕ) → IsLawful law before → TellsOld told from to before
+  pub removes_entry : (law : RowPredicate) (from to : List ℕ) → IsLawful law before → TellsOld true told from to before
       → RemovesEntry law key told from to before after
   removes_entry law from to lawful words = record {
-    had = had_told law key told from to before lawful (removed_item key before after told removes) words;
+    had = had_told true law key told from to before lawful (removed_item key before after told removes) words;
     gone = removed_unknown;
     others = removed_others;
     removes = removes;

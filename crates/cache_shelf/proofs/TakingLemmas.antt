@@ -1,5 +1,5 @@
 -- What the end of the next item that has expired leaves of what a part keeps.
-use Rattle.std.proofs.Common.{ℕ, List, Option, Some, None, IsSome, IfSome, IfNone}
+use Rattle.std.proofs.Common.{ℕ, List, Option, Some, None, IsSome, IfSome, IfNone, true}
 use Rattle.bump_steps.specs.Rule.{RowPredicate}
 use Rattle.cache_lists.specs.Items.{EndsAt}
 use Rattle.cache_lists.specs.Linked.{linked_at}
@@ -39,7 +39,7 @@ module _ (most now : ℕ) (before after : PartView) (alike : IsAlike before afte
 
     -- and what is told is the row of an item that is gone
     pub taken_told : (law : RowPredicate) (from to : List ℕ) → IsLawful law before
-        → IsPart before.seed before.key_words before.book.sheet before.index → TellsRow taken from to before
+        → IsPart before.seed before.key_words before.book.sheet before.index → TellsRow true taken from to before
         → Evicted law taken from to before after
     taken_told = refused_evicted before after taken alike (stay before after taken ends (looks taken takes.ends))
-        (was taken takes) (gone before after taken ends)
+        (was taken takes) (gone before after taken ends) true

@@ -32,14 +32,20 @@ abbrev pub TakesTurn : Limits → ℕ → ℕ → PartView → PartView → ℕ 
 TakesTurn limits puts now before after left =
     CountsPut puts before after left ⊎ BalancesInTurn limits puts now before after left
 
--- First the bumps that wait are applied, at most `put_bumps` of each lane; then the part does this, for which it may apply
--- as many of each lane as the limits say; and then the put has its turn to balance. Before and behind what the part does
--- items only move.
+-- The put whose turn it is to balance applies the bumps that wait first, at most `put_bumps` of each lane; and where it is
+-- another's, nothing changed.
+abbrev pub DrainsInTurn : ℕ → ℕ → PartView → List LaneView → PartView → List LaneView → Type 0
+DrainsInTurn puts now before from after to =
+    ((puts + 1 < put_rounds) × (after ≡ before) × (to ≡ from))
+    ⊎ ((puts + 1 ≡ put_rounds) × DrainsEach put_bumps now before.book from after.book to)
+
+-- First bumps are applied, where it is this put's turn; then the part does this, for which it may apply as many of each
+-- lane as the limits say; and then the put has its turn to balance. Before and behind what the part does items only move.
 pub record PutsInTurn (Does : ℕ → PartView → List LaneView → PartView → List LaneView → Type 0) (now : ℕ)
     (before after : ShelfView) : Type 0 where
   pub drained : PartView
   pub between : List LaneView
-  pub drains : DrainsEach put_bumps now before.part.book before.lanes drained.book between
+  pub drains : DrainsInTurn before.puts now before.part before.lanes drained between
   pub moves : OnlyMoves before.part drained
   pub did : PartView
   pub does : Does before.limits.most drained between did after.lanes

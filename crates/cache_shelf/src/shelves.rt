@@ -17,9 +17,9 @@ ghost use Rattle.cache_shelf.specs.Putting.{PutsEntry, RefusesEntry, RemovesEntr
 ghost use Rattle.cache_shelf.specs.Turns.{TendsShelf};
 
 use crate::entries::read_unexpired_entry;
-use crate::limits::{Limits, PUT_BUMPS};
+use crate::limits::Limits;
 use crate::taking::take_entry;
-use crate::turns::take_turn;
+use crate::turns::{drain_in_turn, take_turn};
 use bump_class::RawLane;
 use bump_heads::Name;
 use bump_steps::{AnyRow, RowLaw};
@@ -27,8 +27,8 @@ use cache_part::{NoChunk, Part, PutItem, Stats};
 use std::marker::Model;
 use std::ops::Range;
 
-/// A part, the lanes of its readers' rings, and how many puts there were since its lists were balanced. Of each item
-/// that is linked the table's law holds.
+/// A part, the lanes of its readers' rings, and how many puts there were since one had its turn. Of each item that
+/// is linked the table's law holds.
 #[derive(Drop)]
 pub struct Shelf<N: Name, L: RowLaw = AnyRow> {
     part: Part<N, L>,
@@ -76,18 +76,22 @@ impl<N: Name, L: RowLaw> Shelf<N, L> {
     /// Puts an item under its key: its row is the key's words and then the value's. It expires at `expires`, and 0 is
     /// never; `now` is the time of the item, and of the bumps that it applies. Times are in the caller's ticks.
     ///
-    /// First the bumps that wait are applied, at most `PUT_BUMPS` of each lane. Then the part puts, as `Part::put`
-    /// does: the key's old item ends, and at most one other is evicted. When the old item expires, and its value, are
-    /// told in `old`, which has one word more than a value; and when the evicted one does, and its row, in `evicted`,
-    /// which has one word more than a row. Both may have expired; where there is none the words stay. Where no chunk is
-    /// free, also of those of ended items that nobody holds any more, as many bumps of each lane are applied as the
-    /// limits say, and it looks once more; it is refused exactly where none is free then: each chunk that has no item
-    /// was found held, or has had its last generation. The key keeps what it had. In the end each eighth put balances
-    /// HOT and WARM, in `PUT_ROUNDS` rounds at most. Under each other key but the evicted one's stays what was there.
+    /// Each eighth put has its turn: it first applies the bumps that wait, at most `PUT_BUMPS` of each lane, and in the
+    /// end balances HOT and WARM, in `PUT_ROUNDS` rounds at most. Each put does what `Part::put` does: the key's old
+    /// item ends, and at most one other is evicted; where COLD's last item is held before that, as many bumps of each
+    /// lane are applied as the limits say. Where no chunk is free, also of those of ended items that nobody holds any
+    /// more, as many are applied, too, and it looks once more; it is refused exactly where none is free then: each
+    /// chunk that has no item was found held, or has had its last generation. The key keeps what it had. Under each
+    /// other key but the evicted one's stays what was there.
+    ///
+    /// Where `tells` is set, when the old item expires, and its value, are told in `old`, which has one word more than
+    /// a value; and when the evicted one does, and its row, in `evicted`, which has one word more than a row. Both may
+    /// have expired. Where there is none, or `tells` isn't set, the words stay.
     pub fn put(
         &mut self,
         row: &[u64],
         expires: u64,
+        tells: bool,
         old: &mut [u64],
         evicted: &mut [u64],
         now: u64,
@@ -96,21 +100,23 @@ impl<N: Name, L: RowLaw> Shelf<N, L> {
         requires old { length old.old ≡ suc self.old.part.value_words }
         requires evicted { length evicted.old ≡ suc (self.old.part.key_words + self.old.part.value_words) }
         requires law { MayHave L.law expires row.now }
-        ensures puts { IfOk result (λ did. PutsEntry L.law did row.now expires now
+        ensures puts { IfOk result (λ did. PutsEntry tells L.law did row.now expires now
             (record { old = old.old; evicted = evicted.old }) (record { old = old.new; evicted = evicted.new }) self.old
             self.new) }
-        ensures refuses { IfErr result (λ why. RefusesEntry L.law why row.now now
+        ensures refuses { IfErr result (λ why. RefusesEntry tells L.law why row.now now
             (record { old = old.old; evicted = evicted.old }) (record { old = old.new; evicted = evicted.new }) self.old
             self.new) }
         ensures lengths { (length old.new ≡ length old.old) × (length evicted.new ≡ length evicted.old) }
         ensures same { self.new ≡ with_put self.new self.old }
     {
         let lanes: &mut [RawLane<N, L>] = &mut self.lanes;
-        self.part.drain(lanes, PUT_BUMPS, now);
+        drain_in_turn(&mut self.part, lanes, self.puts, now);
         let most = self.limits.most;
         // A key is that of one item: so what is evicted leaves nothing under its key.
         self.part.promise();
-        let put = self.part.put(row, expires, old, evicted, lanes, most, now);
+        let put = self
+            .part
+            .put(row, expires, tells, old, evicted, lanes, most, now);
         self.puts = take_turn(&mut self.part, self.limits, self.puts, now);
         put
     }

@@ -32,6 +32,8 @@ mod random_calls;
 #[cfg(test)]
 mod refused_memory;
 #[cfg(test)]
+mod sets;
+#[cfg(test)]
 mod stands;
 #[cfg(test)]
 mod text;

@@ -3,13 +3,13 @@ use bump_cache::CacheConfig;
 use std::alloc::{AllocError, Global};
 use std::collections::VecDeque;
 
-// A put applies at most so many bumps of a reader.
+// A put whose turn it is applies at most so many bumps of a reader.
 const PUT_BUMPS: usize = 16;
 
 // An eviction rescues at most so many.
 const RESCUES: usize = 8;
 
-// Each so manieth put looks at the ends of HOT and WARM, in so many rounds at most.
+// Each so manieth put has its turn: it applies bumps, and looks at the ends of HOT and WARM, in so many rounds at most.
 const LOOKS: u32 = 8;
 
 // A tend does in so many.
@@ -43,6 +43,8 @@ type Items = VecDeque<Item>;
 #[derive(Drop)]
 pub struct Lists {
     room: usize,
+    // how many chunks there are
+    chunks: usize,
     ring: usize,
     hot_most: usize,
     warm_most: usize,
@@ -59,7 +61,7 @@ pub struct Lists {
     bumps: VecDeque<u64>,
     // how many items were put
     placed: u64,
-    // how many puts there were since the last that looked at the ends
+    // how many puts there were since the last that had its turn
     puts: u32,
     evicted_active: u64,
 }
@@ -168,6 +170,7 @@ impl Lists {
         let (hot_most, warm_most) = shares(config);
         Lists {
             room: config.items as usize,
+            chunks: (config.items as usize).saturating_add(config.spare as usize),
             ring: config.ring as usize,
             hot_most,
             warm_most,
@@ -403,18 +406,63 @@ impl Lists {
         }
     }
 
+    // Whether a bump waits for the last item of COLD.
+    fn is_cold_end_held(&self) -> bool {
+        match self.cold.back() {
+            Some(item) => self.bumps.iter().any(|number| *number == item.number),
+            None => false,
+        }
+    }
+
+    // Evicts an item for a key that has none, where there are as many as there may be, and tells its key.
+    fn evict_where_full(&mut self, key: u64, now: u64) -> Result<Option<u64>, AllocError> {
+        if self.linked() < self.room || self.is_known(key) {
+            return Ok(None);
+        }
+        if self.is_cold_end_held() {
+            self.drain(self.ring, now)?;
+        }
+        self.evict(now)
+    }
+
+    // How many items there are.
+    fn linked(&self) -> usize {
+        self.sizes()
+            .iter()
+            .fold(0usize, |sum, size| sum.saturating_add(*size))
+    }
+
+    // Whether the item of this number is linked.
+    fn has_number(&self, number: u64) -> bool {
+        let is_it = |item: &Item| item.number == number;
+        self.hot.iter().any(is_it)
+            || self.warm.iter().any(is_it)
+            || self.cold.iter().any(is_it)
+            || self.temp.iter().any(is_it)
+    }
+
+    // Whether no chunk is free: each has an item, or a bump waits for the item that it had.
+    fn is_out_of_chunks(&self) -> bool {
+        let mut held = 0usize;
+        for (place, number) in self.bumps.iter().enumerate() {
+            let is_first = !self.bumps.iter().take(place).any(|other| other == number);
+            if is_first && !self.has_number(*number) {
+                held = held.saturating_add(1);
+            }
+        }
+        self.linked().saturating_add(held) >= self.chunks
+    }
+
     /// Puts a key for which there is a chunk, and which expires then or never (0). It tells which key is evicted.
     pub fn put(&mut self, key: u64, expires: u64, now: u64) -> Result<Option<u64>, AllocError> {
-        self.drain(PUT_BUMPS, now)?;
-        let count = self
-            .sizes()
-            .iter()
-            .fold(0usize, |sum, size| sum.saturating_add(*size));
-        let evicted = if count >= self.room && !self.is_known(key) {
-            self.evict(now)?
-        } else {
-            None
-        };
+        let has_turn = self.puts.saturating_add(1) == LOOKS;
+        if has_turn {
+            self.drain(PUT_BUMPS, now)?;
+        }
+        let evicted = self.evict_where_full(key, now)?;
+        if self.is_out_of_chunks() {
+            self.drain(self.ring, now)?;
+        }
         self.take(key);
         let item = Item {
             number: self.placed,
@@ -431,7 +479,7 @@ impl Lists {
         }
         self.placed = self.placed.saturating_add(1);
         self.puts = self.puts.saturating_add(1);
-        if self.puts == LOOKS {
+        if has_turn {
             self.puts = 0;
             self.balance(LOOKS, now)?;
         }

@@ -111,8 +111,8 @@ enum Case {
     // 1,000 items are read twice each, and then 1,001 others put
     Read,
 
-    // more than eight of COLD are ACTIVE, and their bumps wait behind 16 others
-    Rescue,
+    // all of COLD are ACTIVE, and their bumps wait when one is evicted
+    Held,
 }
 
 // A time at which an item expires, some ticks behind `now`, or a few before it; or 0, where there are no ticks always.
@@ -239,9 +239,9 @@ impl<N: Name + LogName> Pair<N> {
         Ok(())
     }
 
-    // All are in COLD, and the ones that were put last are read first. The first put applies the bumps of 16 of those,
-    // rescues the eight that were put first, and evicts the ninth, which is ACTIVE.
-    fn rescue<W: Wait>(&mut self, rt: &W) -> Result<(), AllocError> {
+    // All are in COLD, and the ones that were put last are read first. The first put has no turn, but COLD's last item is
+    // held by its bump: so it applies all bumps, and evicts the one that was read first, WARM's last.
+    fn save<W: Wait>(&mut self, rt: &W) -> Result<(), AllocError> {
         self.put_all(rt, 0, 40)?;
         self.tend(rt)?;
         let stats = self.stand.stats(rt);
@@ -251,10 +251,10 @@ impl<N: Name + LogName> Pair<N> {
             self.get(key)?;
         }
         let first = self.put(rt, 40)?;
-        self.note(first == Some(8));
+        self.note(first == Some(39));
         let stats = self.stand.stats(rt);
-        self.note(stats.number_warm == 24 && stats.evicted_active() == 1);
-        for key in 0..8 {
+        self.note(stats.number_warm == 39 && stats.evicted_active() == 0);
+        for key in 0..39 {
             let seen = self.stand.peek(0, &key, self.now);
             self.note(seen == Some(key));
         }
@@ -270,7 +270,7 @@ impl<N: Name + LogName> Pair<N> {
             Case::Expiring { calls, gets, keys } => self.call_at_random(rt, calls, gets, keys, 48),
             Case::Drift { accesses, keys } => self.drift(rt, accesses, keys),
             Case::Read => self.read_twice(rt),
-            Case::Rescue => self.rescue(rt),
+            Case::Held => self.save(rt),
         }
     }
 }
@@ -392,8 +392,8 @@ fn a_put_evicts_one(rt: HostRuntime) -> Result<(), Fail> {
 }
 
 #[test]
-fn an_eviction_rescues_at_most_eight(rt: HostRuntime) -> Result<(), Fail> {
+fn an_eviction_applies_the_bumps_of_a_held_item(rt: HostRuntime) -> Result<(), Fail> {
     let config = config_of(40, 40, 0, 100, 64);
-    assert_eq!(rt; wrong_in(&rt, rt.alloc(), &config, Case::Rescue)?, 0);
+    assert_eq!(rt; wrong_in(&rt, rt.alloc(), &config, Case::Held)?, 0);
     Ok(())
 }

@@ -5,7 +5,8 @@ ghost use Rattle.bump_cache.specs.Opening.{IsNamed};
 
 use crate::stands::{Changer, Entry, SEED};
 use bump_cache::{
-    Cache, CacheBlank, CacheConfig, CacheFault, CacheReader, HeldItem, LogName, Name, Opened, open,
+    Cache, CacheBlank, CacheConfig, CacheFault, CacheReader, Full, HeldItem, LogName, Name, Opened,
+    open,
 };
 use std::alloc::Global;
 use std::marker::Brand;
@@ -205,6 +206,10 @@ fn hold_too_much<N: Name + LogName, R: Wait + Abort>(
     assert_eq!(rt; small.refused, 0);
     small.put(rt, 1, 12);
     assert_eq!(rt; small.refused, 1);
+    let set = small
+        .changer
+        .set(rt, &small.cache, &Entry { key: 1, value: 12 }, 0, 1);
+    assert!(rt; set == Err(Full { evicted: false }));
     assert_eq!(rt; other.get(&1, 1), Some(11));
     assert_eq!(rt; first.value(), 10);
     drop(first);

@@ -3,8 +3,8 @@ ghost use Rattle.std.specs.Prelude.{◌≡◌, ◌<◌, length};
 ghost use Rattle.bump_cache.specs.Opening.{IsNamed};
 
 use bump_cache::{
-    Bytes, Cache, CacheBlank, CacheConfig, CacheReader, CacheState, Caller, Evicted, LogName, Name,
-    NoRoom, Opened, Packed, Put, Seed, Stats, open,
+    Bytes, Cache, CacheBlank, CacheConfig, CacheReader, CacheState, Caller, Evicted, Full, LogName,
+    Name, NoRoom, Opened, Packed, Put, Seed, Stats, open,
 };
 use std::alloc::{AllocError, Global};
 use std::sync::Wait;
@@ -66,6 +66,18 @@ impl<N: Name + LogName> Changer<N> {
         now: u64,
     ) -> Result<Put<K, V>, NoRoom<K, V>> {
         cache.put_until(rt, &mut self.me, &entry.key, &entry.value, expires, now)
+    }
+
+    /// Puts a value under a key, which expires then, and hears only whether another item was evicted.
+    pub fn set<K: Packed, V: Packed, W: Wait>(
+        &mut self,
+        rt: &W,
+        cache: &Cache<N, K, V>,
+        entry: &Entry<K, V>,
+        expires: u64,
+        now: u64,
+    ) -> Result<bool, Full> {
+        cache.set(rt, &mut self.me, &entry.key, &entry.value, expires, now)
     }
 
     /// Ends the item of a key.
@@ -217,6 +229,17 @@ impl<N: Name + LogName, K: Packed, V: Packed> Stand<N, K, V> {
         now: u64,
     ) -> Result<Put<K, V>, NoRoom<K, V>> {
         self.changer.put_until(rt, &self.cache, entry, expires, now)
+    }
+
+    /// Puts a value under a key, which expires then, and hears only whether another item was evicted.
+    pub fn set<W: Wait>(
+        &mut self,
+        rt: &W,
+        entry: &Entry<K, V>,
+        expires: u64,
+        now: u64,
+    ) -> Result<bool, Full> {
+        self.changer.set(rt, &self.cache, entry, expires, now)
     }
 
     /// Ends the item of a key.

@@ -91,11 +91,15 @@ AddsEvict old new = (between : List ℕ) × Adds (IsPull Cold) most_rescues old 
 abbrev pub AddsEvictOrNot : List ℕ → List ℕ → Type 0
 AddsEvictOrNot old new = (new ≡ old) ⊎ AddsEvict old new
 
+-- behind a text bumps were applied, and then chunks came free; or neither
+abbrev pub AddsFreeOrNot : List ℕ → List ℕ → Type 0
+AddsFreeOrNot old new = (new ≡ old) ⊎ (new ≡ (old ++ with_end drain_instruction) ++ with_end sweep_instruction)
+
 -- Behind a text the lines that make room for an item were written: bumps may be applied, then an item may be evicted, and
--- then chunks may come free.
+-- then chunks may come free, behind bumps.
 abbrev pub AddsRoom : List ℕ → List ℕ → Type 0
 AddsRoom old new = (drained evicted : List ℕ) × AddsOrNot drain_instruction old drained × AddsEvictOrNot drained evicted
-    × AddsOrNot sweep_instruction evicted new
+    × AddsFreeOrNot evicted new
 
 -- at most so many lines balance the lists behind a put
 abbrev pub most_behind : ℕ

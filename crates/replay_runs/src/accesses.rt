@@ -2,7 +2,7 @@
 ghost use Rattle.std.specs.Prelude.{◌+◌, ◌*◌, ◌%◌, ◌<◌, ◌++◌, IfOk, IfErr, OnOk, length, max};
 ghost use Rattle.cache_lists.specs.Rescues.{most_rescues};
 ghost use Rattle.bump_rules.specs.declared.places.Tail.TheVariants.{Cold};
-ghost use Rattle.replay_runs.specs.Writing.{IsPull, IsBalance, Adds, AddsOrNot, AddsEvict, AddsEvictOrNot, AddsRoom, AddsPut};
+ghost use Rattle.replay_runs.specs.Writing.{IsPull, IsBalance, Adds, AddsOrNot, AddsEvict, AddsEvictOrNot, AddsFreeOrNot, AddsRoom, AddsPut};
 ghost use Rattle.replay_runs.specs.Writing.{AddsAccess, AddsAccessAndTend, IsTraceOf, IsOfCalls, IsOfPut};
 ghost use Rattle.replay_runs.specs.Writing.{drain_instruction, most_tending, tend_instructions};
 ghost use Rattle.replay_runs.specs.Faults.{IsOfTraceWriting};
@@ -18,16 +18,32 @@ use cache_shelf::{Bound, PUT_BUMPS, PUT_ROUNDS};
 use std::alloc::Global;
 use std::hash::RandomState;
 
-// Applies the bumps that wait, as a put does. No line of a trace applies some of them and leaves others.
+// Whether there are as many items as there may be.
+fn is_full(scribe: &Scribe, plan: &Plan) -> bool {
+    scribe.linked() >= u64::from(plan.config.items)
+}
+
+// Whether more bumps wait than a put that has its turn applies, and the next one has it.
+fn has_too_many(scribe: &Scribe) -> bool {
+    scribe.has_turn() && scribe.has_waiting(PUT_BUMPS)
+}
+
+// Whether a put applies bumps that wait: it has its turn, or one is to be evicted, and COLD's last item is held.
+fn applies_bumps(scribe: &Scribe, plan: &Plan) -> bool {
+    let is_due = scribe.has_turn() || is_full(scribe, plan) && scribe.is_cold_end_held();
+    is_due && scribe.has_waiting(0)
+}
+
+// Applies the bumps that wait, as a put does. No line of a trace applies some of them and leaves others, as a turn does.
 fn drain_for_put(scribe: &mut Scribe, plan: &Plan) -> Result<(), ReplayFault>
     ensures text { OnOk result (AddsOrNot drain_instruction scribe.old.text.items scribe.new.text.items) }
     ensures fault { IfErr result (IsOfPut plan.now) }
 {
-    if !scribe.has_waiting(0) {
-        return Ok(());
-    }
-    if plan.config.ring > PUT_BUMPS && scribe.has_waiting(PUT_BUMPS) {
+    if plan.config.ring > PUT_BUMPS && has_too_many(scribe) {
         return Err(ReplayFault::Bumps);
+    }
+    if !applies_bumps(scribe, plan) {
+        return Ok(());
     }
     scribe.drain()?;
     Ok(())
@@ -67,26 +83,36 @@ fn evict_where_full(scribe: &mut Scribe, plan: &Plan) -> Result<(), ReplayFault>
     ensures text { OnOk result (AddsEvictOrNot scribe.old.text.items scribe.new.text.items) }
     ensures fault { IfErr result IsOfCalls }
 {
-    if scribe.linked() < u64::from(plan.config.items) {
+    if !is_full(scribe, plan) {
         return Ok(());
     }
     evict(scribe)?;
     Ok(())
 }
 
+// Frees chunks where none is free. Where one thread has a cache only bumps hold those of ended items, so they are applied
+// first; and one is freed that no bump holds when its item ends.
+fn free_where_none(scribe: &mut Scribe) -> Result<(), ReplayFault>
+    ensures text { OnOk result (AddsFreeOrNot scribe.old.text.items scribe.new.text.items) }
+    ensures fault { IfErr result IsOfCalls }
+{
+    if scribe.has_room() {
+        return Ok(());
+    }
+    scribe.drain()?;
+    scribe.sweep()?;
+    Ok(())
+}
+
 // Makes room for an item: bumps are applied, an item is evicted where there are as many as there may be, and chunks come
-// free where none is. A put frees at most 64 of them, and a line of a trace all; but where one thread has a cache, none
-// of an ended item waits for a sweep that no bump holds.
+// free where none is.
 fn make_room(scribe: &mut Scribe, plan: &Plan) -> Result<(), ReplayFault>
     ensures text { OnOk result (AddsRoom scribe.old.text.items scribe.new.text.items) }
     ensures fault { IfErr result (IsOfPut plan.now) }
 {
     drain_for_put(scribe, plan)?;
     evict_where_full(scribe, plan)?;
-    if scribe.has_room() {
-        return Ok(());
-    }
-    scribe.sweep()?;
+    free_where_none(scribe)?;
     Ok(())
 }
 

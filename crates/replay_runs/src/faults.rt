@@ -26,8 +26,8 @@ pub enum ReplayFault {
     #[error("the trace would have more than 16777216 bytes")]
     Long,
 
-    /// More bumps of a reader waited at a put than it applies, which are 16; and no line of a trace applies some of them
-    /// and leaves others. A ring that has room for at most 16 never has more.
+    /// More bumps of a reader waited at a put that had its turn than it applies, which are 16; and no line of a trace
+    /// applies some of them and leaves others. A ring that has room for at most 16 never has more.
     #[error("more than 16 bumps of a reader wait at a put, which no trace tells: take a ring of 16")]
     Bumps,
 

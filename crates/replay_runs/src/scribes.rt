@@ -226,6 +226,19 @@ impl Scribe {
         self.world.list_len(0, Place::Unused) > 0
     }
 
+    /// Whether the next put has its turn: it applies bumps, and balances the lists.
+    pub(crate) fn has_turn(&self) -> bool {
+        self.puts.saturating_add(1) >= PUT_ROUNDS
+    }
+
+    /// Whether the last item of COLD has more references than that of its list: a bump of it waits.
+    pub(crate) fn is_cold_end_held(&self) -> bool {
+        match self.last(Place::Cold) {
+            Some(chunk) => self.world.head(chunk).refs > 1,
+            None => false,
+        }
+    }
+
     /// Counts one more put; whether it is one of those that balance the lists.
     pub(crate) fn count_put(&mut self) -> bool
         ensures { self.new.text ≡ self.old.text }

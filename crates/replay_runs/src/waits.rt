@@ -1,6 +1,6 @@
 //! How many bumps wait in the rings of a cache that one thread has.
 use crate::plans::Plan;
-use cache_shelf::PUT_BUMPS;
+use cache_shelf::{PUT_BUMPS, PUT_ROUNDS};
 use std::alloc::{AllocError, Global};
 
 /// How many bumps wait. A cache doesn't tell it, but how many were accepted, and what a put and a tend apply, is known.
@@ -11,6 +11,8 @@ pub(crate) struct Waits {
     accepted: Vec<u64>,
     // how many wait in each ring: in those of the first part, one for each reader, and so on
     rings: Vec<u64>,
+    // how many puts there were in each part since one had its turn
+    puts: Vec<u32>,
     most: u64,
 }
 
@@ -22,10 +24,13 @@ impl Waits {
         accepted.resize(readers, 0)?;
         let mut rings = Vec::new(alloc);
         rings.resize(readers.saturating_mul(plan.config.parts as usize), 0)?;
+        let mut puts = Vec::new(alloc);
+        puts.resize(plan.config.parts as usize, 0)?;
         Ok(Waits {
             readers,
             accepted,
             rings,
+            puts,
             most: 0,
         })
     }
@@ -57,15 +62,34 @@ impl Waits {
         }
     }
 
-    /// A put in a part applied as many of each reader as it does: at least, since one that found no chunk free applied all.
+    // Counts a put in a part; whether it had its turn to apply bumps.
+    fn has_turn(&mut self, part: u32) -> bool {
+        match self.puts.get_mut(part as usize) {
+            Some(puts) => {
+                *puts = puts.saturating_add(1) % PUT_ROUNDS;
+                *puts == 0
+            }
+            None => false,
+        }
+    }
+
+    /// A put in a part applied as many of each reader as it does: at least, since one that found no chunk free, or the
+    /// last item of COLD held, applied all.
     pub(crate) fn apply_for_put(&mut self, part: u32) {
+        if self.has_turn(part) {
+            self.apply_share(part);
+        }
+        self.most = self.most.max(self.waiting());
+    }
+
+    // As many of each reader were applied in a part as a put applies that has its turn.
+    fn apply_share(&mut self, part: u32) {
         let first = self.ring_of(0, part);
         for reader in 0..self.readers {
             if let Some(ring) = self.rings.get_mut(first.saturating_add(reader)) {
                 *ring = ring.saturating_sub(u64::from(PUT_BUMPS));
             }
         }
-        self.most = self.most.max(self.waiting());
     }
 
     /// A tend applied all.
@@ -84,7 +108,7 @@ impl Waits {
         all
     }
 
-    /// The most that waited when a put had applied its share, at most: one that found no chunk free applied more.
+    /// The most that waited behind a put, at most: one that found no chunk free, or COLD's last item held, applied more.
     pub(crate) fn most(&self) -> u64 {
         self.most
     }

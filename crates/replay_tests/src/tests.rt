@@ -236,12 +236,12 @@ fn plan_whose_shares_are_too_large_is_refused(rt: HostRuntime) -> Result<(), Fai
     Ok(())
 }
 
-// Three times the same 24 keys, and then another: all are in COLD when they are got for the second time, and one of the
-// bumps was applied when the last key is put.
+// Three times the same 23 keys, and then another: all are in COLD when they are got for the second time, one of the bumps
+// was applied when the last key is put, and that put has its turn.
 fn bumped(alloc: Global) -> Result<Vec<u32>, AllocError> {
     let mut accesses = Vec::new(alloc);
-    for place in 0..72 {
-        accesses.push(place % 24)?;
+    for place in 0..69 {
+        accesses.push(place % 23)?;
     }
     accesses.push(99)?;
     Ok(accesses)
@@ -250,7 +250,7 @@ fn bumped(alloc: Global) -> Result<Vec<u32>, AllocError> {
 #[test]
 fn put_at_which_more_bumps_wait_than_it_applies_is_refused(rt: HostRuntime) -> Result<(), Fail> {
     let accesses = bumped(rt.alloc())?;
-    let mut plan = plan(40, 0, 100, 24);
+    let mut plan = plan(40, 0, 100, 23);
     plan.config.ring = 64;
     let keys = RandomState::new(&rt)?;
     let refused = trace_of(rt.alloc(), keys, &plan, &accesses, &[]).err();
@@ -261,12 +261,12 @@ fn put_at_which_more_bumps_wait_than_it_applies_is_refused(rt: HostRuntime) -> R
 #[test]
 fn ring_of_sixteen_has_no_more_bumps_than_a_put_applies(rt: HostRuntime) -> Result<(), Fail> {
     let accesses = bumped(rt.alloc())?;
-    let mut plan = plan(40, 0, 100, 24);
+    let mut plan = plan(40, 0, 100, 23);
     plan.config.ring = 16;
     let outcome = replay(&rt, rt.alloc(), &plan, &gets(&accesses, &[]))?;
     let hits = trace_of(rt.alloc(), RandomState::new(&rt)?, &plan, &accesses, &[])?.hits;
-    assert!(rt; outcome.hits == hits.total() && outcome.misses == 25);
-    assert!(rt; outcome.bumps.accepted == 17 && hits.queued == 17 && hits.full == 7);
+    assert!(rt; outcome.hits == hits.total() && outcome.misses == 24);
+    assert!(rt; outcome.bumps.accepted == 17 && hits.queued == 17 && hits.full == 6);
     Ok(())
 }
 

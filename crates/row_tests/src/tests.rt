@@ -112,7 +112,16 @@ fn put<N: Name>(
     ensures value { part.new.value_words ≡ 1 }
 {
     let mut no_lanes: [RawLane<N>; 0] = [];
-    match part.put(&row, expires, &mut [0; 2], evicted, &mut no_lanes, 0, now) {
+    match part.put(
+        &row,
+        expires,
+        true,
+        &mut [0; 2],
+        evicted,
+        &mut no_lanes,
+        0,
+        now,
+    ) {
         Ok(put) => put,
         Err(_) => panic!(rt; "there is room"),
     }
@@ -364,6 +373,7 @@ fn use_up<N: Name, R: Abort>(
     let put = part.put(
         &[5, 5, 5],
         0,
+        true,
         &mut [0; 2],
         &mut evicted,
         &mut no_lanes,

@@ -1,4 +1,4 @@
-use Rattle.std.proofs.Common.{◌≡◌, length, take, drop, sym, ap, ◌∙◌, subst}
+use Rattle.std.proofs.Common.{◌≡◌, true, length, take, drop, sym, ap, ◌∙◌, subst}
 use Rattle.cache_part.specs.Putting.{FindsNoRoom, Puts}
 use Rattle.cache_shelf.specs.Entries.{AllKept, Had, Keeps, OthersKept, key_of_evicted}
 use Rattle.cache_shelf.specs.Turns.{PutsInTurn}
@@ -52,7 +52,7 @@ returns-clause-puts g c =
           e.others);
       puts = record {
         old = c.in-Ok.did.old;
-        item = had_item _ _ c.in-Ok.did.old _ _ now had;
+        item = had_item true _ _ c.in-Ok.did.old _ _ now had;
         evicted = c.in-Ok.did.evicted;
         told_evicted = sym c.told_evicted-gone.ensures.told;
         chunk = c.in-Ok.did.chunk;

@@ -1,4 +1,4 @@
-use Rattle.std.proofs.Common.{Some, IsSome, sym, ap, ◌∙◌, subst, arith}
+use Rattle.std.proofs.Common.{Some, IsSome, true, sym, ap, ◌∙◌, subst, arith}
 use Rattle.bump_rules.specs.Lists.{all_without}
 use Rattle.bump_steps.specs.Views.{owns}
 use Rattle.cache_lists.specs.Segments.{SameSegments}
@@ -62,7 +62,7 @@ returns g c =
       others = subst (λ b. SameSegments (all_without chunk b.lists) left.lists) looks c.end_led.ensures.others;
       evictions = c.end_led.ensures.evictions ∙ (ap (λ v. v.evictions) c.read_value.ensures.rest
           ∙ ap (λ v. v.evictions) c.find-found.ensures.rest);
-      told = old_told_same kw vw (Some chunk) c.args.told.now c.read_value.new.told before.sheet found.sheet
+      told = old_told_same true kw vw (Some chunk) c.args.told.now c.read_value.new.told before.sheet found.sheet
           (looks_keep before found c.find-found.ensures.looks).words c.read_value.ensures.told;
       none = tt;
       looks = tt;

@@ -1,4 +1,4 @@
-use Rattle.std.proofs.Common.{arith}
+use Rattle.std.proofs.Common.{arith, true}
 use Rattle.cache_part.proofs.KeyLemmas.{old_told_same}
 use Rattle.cache_part.proofs.LookLemmas.{looks_keep, looks_then, rest_then}
 use Rattle.cache_part.proofs.PartLemmas.{item_owned}
@@ -22,7 +22,7 @@ read_value-requires g c = record {
 pub returns-clause-told : goal.returns-clause-told
 returns-clause-told g c =
     let before = c.args.lists.now.book in let seen = c.find-found.new.lists.book in
-    old_told_same c.args.settings.key_words c.args.settings.value_words c.find-found.result.chunk c.args.told.now
+    old_told_same true c.args.settings.key_words c.args.settings.value_words c.find-found.result.chunk c.args.told.now
     c.read_value.new.told before.sheet seen.sheet (looks_keep before seen c.find-found.ensures.looks).words
     c.read_value.ensures.told
 

@@ -3,7 +3,7 @@ use Rattle.bump_class.specs.Changes.{book_with_words}
 use Rattle.cache_lists.specs.Linked.{linked_at}
 use Rattle.cache_lists.proofs.Standings.{owns_same}
 use Rattle.cache_index.specs.Views.{led_at}
-use Rattle.cache_part.specs.Putting.{Links, TellsOldWords, leads_anew}
+use Rattle.cache_part.specs.Putting.{Links, TellsOldWords, leads_anew, told_if}
 use Rattle.cache_part.proofs.Agreements.{led_some, led_within}
 use Rattle.cache_part.proofs.KeyLemmas.{words_same}
 use Rattle.cache_part.proofs.LinkLemmas.{begun_elsewhere, led_nothing}
@@ -66,8 +66,9 @@ pub returns-in-Some-chunk-clause-told : goal.returns-in-Some-chunk-clause-told
 returns-in-Some-chunk-clause-told g c =
     let before = c.args.lists.now.book in let begun = c.begin.new.self.book in
     let begins = c.in-Some.ensures.begins in let id = c.in-Some.id in let old = c.in-Some-chunk.old in
-    let kw = c.args.settings.key_words in let vw = c.args.settings.value_words in
+    let kw = c.args.settings.key_words in let vw = c.args.settings.value_words in let tells = c.args.tells in
     let apart = ne_eqb id.chunk old (begun_elsewhere before begun id old begins (c.requires.old old c.in-Some-chunk.is)) in
-    let P : Option ℕ → Type 0 = λ o. TellsOldWords kw vw o c.args.told.now c.replace.new.told before.sheet in
-    subst P (sym c.in-Some-chunk.is) (c.replace.ensures.told ∙ ap₂ (λ x xs. x ∷ xs) (begins.words 0 old apart)
-    (words_same before.sheet begun.sheet old kw vw (λ i. begins.words i old apart)))
+    let P : Option ℕ → Type 0 = λ o. TellsOldWords tells kw vw o c.args.told.now c.replace.new.told before.sheet in
+    subst P (sym c.in-Some-chunk.is) (c.replace.ensures.told ∙ ap (λ words. told_if tells words c.args.told.now)
+    (ap₂ (λ x xs. x ∷ xs) (begins.words 0 old apart)
+    (words_same before.sheet begun.sheet old kw vw (λ i. begins.words i old apart))))

@@ -30,21 +30,21 @@ end_unled-requires g c =
           ∙ get_or-set_other (slice_set table c.args.old None) c.args.id.chunk c.args.old
           (with_generation c.args.id.generation (led_at table c.args.old)) None apart
           ∙ get_or-set_same table c.args.old None None c.requires.within;
-      own = ap (λ b. owns c.args.old b.sheet) c.read_value.ensures.looks ∙ c.requires.own;
-      linked = subst IsSome (sym ((looks_keep c.args.lists.now.book c.read_value.new.lists.book
-          c.read_value.ensures.looks).linked c.args.old)) c.requires.linked;
+      own = ap (λ b. owns c.args.old b.sheet) c.read_value_where.ensures.looks ∙ c.requires.own;
+      linked = subst IsSome (sym ((looks_keep c.args.lists.now.book c.read_value_where.new.lists.book
+          c.read_value_where.ensures.looks).linked c.args.old)) c.requires.linked;
     }
 
 pub returns-clause-table : goal.returns-clause-table
 returns-clause-table g c hash = c.lead.ensures.table
 
 pub returns-clause-ends : goal.returns-clause-ends
-returns-clause-ends g c = kept_ends c.args.lists.now.book c.read_value.new.lists.book c.end_unled.new.lists.book c.args.old
-    (looks_keep c.args.lists.now.book c.read_value.new.lists.book c.read_value.ensures.looks) c.end_unled.ensures.ends
+returns-clause-ends g c = kept_ends c.args.lists.now.book c.read_value_where.new.lists.book c.end_unled.new.lists.book c.args.old
+    (looks_keep c.args.lists.now.book c.read_value_where.new.lists.book c.read_value_where.ensures.looks) c.end_unled.ensures.ends
 
 pub returns-clause-others : goal.returns-clause-others
 returns-clause-others g c = subst (λ b. SameSegments (all_without c.args.old b.lists) c.end_unled.new.lists.book.lists)
-    c.read_value.ensures.looks c.end_unled.ensures.others
+    c.read_value_where.ensures.looks c.end_unled.ensures.others
 
 pub returns-clause-evictions : goal.returns-clause-evictions
-returns-clause-evictions g c = c.end_unled.ensures.evictions ∙ ap (λ v. v.evictions) c.read_value.ensures.rest
+returns-clause-evictions g c = c.end_unled.ensures.evictions ∙ ap (λ v. v.evictions) c.read_value_where.ensures.rest

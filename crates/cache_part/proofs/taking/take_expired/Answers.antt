@@ -1,4 +1,4 @@
-use Rattle.std.proofs.Common.{◌≡◌, ◌+◌, ◌-◌, None, Some, IfNone, IfSome, length, sym, ap, ◌∙◌, subst, arith}
+use Rattle.std.proofs.Common.{◌≡◌, ◌+◌, ◌-◌, None, Some, IfNone, IfSome, length, sym, ap, ◌∙◌, subst, arith, true}
 use Rattle.bump_steps.specs.Views.{owns}
 use Rattle.cache_lists.specs.Expiring.{EndsFound}
 use Rattle.cache_lists.specs.Linked.{linked_at}
@@ -82,7 +82,7 @@ returns g c =
       looks = subst (λ item. IfNone item (LooksOnly before.book left.book)) (sym is) tt;
       rest = subst (λ item. IfNone item (left ≡ record before { book = left.book })) (sym is) tt;
       index = subst (λ item. IfNone item (c.clear.new.self ≡ c.args.index.now)) (sym is) tt;
-      told = subst (λ item. TellsWords words item c.args.told.now c.read_row.new.row before.book.sheet) (sym is) row;
+      told = subst (λ item. TellsWords true words item c.args.told.now c.read_row.new.row before.book.sheet) (sym is) row;
       within = cursor_kept next.cursor before.book left.book ends.class c.find_next-next.ensures.within;
     }
 

@@ -1,4 +1,4 @@
-use Rattle.std.proofs.Common.{suc, sym, ap, ◌∙◌, rules, subst}
+use Rattle.std.proofs.Common.{suc, sym, ap, ◌∙◌, rules, subst, true}
 use Rattle.cache_part.specs.Looks.{LooksOnly}
 use Rattle.cache_part.specs.Parts.{IsItem}
 use Rattle.cache_part.specs.Putting.{TellsOld}
@@ -30,7 +30,7 @@ pub returns : goal.returns
 returns g c =
     let is = c.self.view_is in let left = c.look.new.lists in record {
       item = subst (λ v. IsItem c.args.key.now c.look.result v) is c.look.ensures.item;
-      told = subst (λ v. TellsOld c.look.result c.args.told.now c.look.new.told v) is c.look.ensures.told;
+      told = subst (λ v. TellsOld true c.look.result c.args.told.now c.look.new.told v) is c.look.ensures.told;
       length = search rules;
       reads = record {
         looks = subst (λ v. LooksOnly v.book left.book) is c.look.ensures.looks;

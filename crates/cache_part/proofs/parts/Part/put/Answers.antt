@@ -73,7 +73,7 @@ returns-in_default g c =
     let told : Told = record { old = c.link.new.told; evicted = c.make_room-room.new.told } in
     record {
       puts = tt;
-      refuses = seen_from (λ v w. RefusesItem (record { evicted = evicted }) c.args.row.now c.args.now most was told v lanes w
+      refuses = seen_from (λ v w. RefusesItem c.args.tells (record { evicted = evicted }) c.args.row.now c.args.now most was told v lanes w
           drained) _ _ _ same (record {
             had = none.stays;
             others = subst S (sym none.none) made.stay;
@@ -126,10 +126,10 @@ returns g c =
     let was : Told = record { old = c.args.old.now; evicted = c.args.evicted.now } in
     let told : Told = record { old = c.link.new.told; evicted = c.make_room-room.new.told } in
     record {
-      puts = seen_from (λ v w. PutsItem (record { chunk = id.chunk; old = at; evicted = evicted }) row expires now
+      puts = seen_from (λ v w. PutsItem c.args.tells (record { chunk = id.chunk; old = at; evicted = evicted }) row expires now
           c.args.most was told v c.args.lanes.now w c.make_room-room.new.lanes) _ _ _ same (record {
             item = made.was;
-            had = old_told_same kw vw at was.old told.old before.book.sheet between.book.sheet
+            had = old_told_same c.args.tells kw vw at was.old told.old before.book.sheet between.book.sheet
                 (λ i c. made.stay.words i c (λ e. absurd (cc e))) did.told;
             under = links_under temporary at row expires now id between.book left.book did.links kw (omega (arith, all))
                 (item_linked kw (take kw row) at between.book.sheet made.item);

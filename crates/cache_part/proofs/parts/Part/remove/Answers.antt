@@ -1,4 +1,4 @@
-use Rattle.std.proofs.Common.{suc, IfSome, IfNone, refl, sym, ap, ◌∙◌, rules, subst}
+use Rattle.std.proofs.Common.{suc, IfSome, IfNone, refl, sym, ap, ◌∙◌, rules, subst, true}
 use Rattle.bump_rules.specs.Lists.{all_without}
 use Rattle.cache_lists.specs.Items.{EndsAt}
 use Rattle.cache_lists.specs.Segments.{SameSegments}
@@ -38,7 +38,7 @@ returns g c =
           (subst (λ v. IfNone told (IsUnknown c.args.key.now v)) is did.none)
           (subst (λ v. IfNone told (LooksOnly v.book left.book)) is did.looks)
           (none_changes told _ _ left c.self.inside.index c.remove.new.index is did.rest did.index refl);
-      told = subst (λ v. TellsOld told c.args.old.now c.remove.new.told v) is did.told;
+      told = subst (λ v. TellsOld true told c.args.old.now c.remove.new.told v) is did.told;
       length = search rules;
       rest = evictions_stay _ _ left c.remove.new.index.table is did.evictions;
     }

@@ -1,4 +1,4 @@
-use Rattle.std.proofs.Common.{suc, ◌+◌, refl, sym, ap, ◌∙◌, rules, subst, IfSome}
+use Rattle.std.proofs.Common.{suc, ◌+◌, refl, sym, ap, ◌∙◌, rules, subst, IfSome, true}
 use Rattle.bump_rules.specs.Lists.{all_without}
 use Rattle.cache_lists.specs.Items.{EndsAt}
 use Rattle.cache_lists.specs.Segments.{SameSegments}
@@ -42,7 +42,7 @@ returns g c =
           (taken_at next.chunk now c.self.inside.lists left did.ends);
       others = subst (λ (v : PartView). IfSome next.chunk (λ chunk. SameSegments (all_without chunk v.book.lists)
           left.book.lists)) is (taken_others next.chunk now c.self.inside.lists left did.ends);
-      told = subst (λ (v : PartView). TellsRow next.chunk c.args.told.now c.take_expired-next.new.told v) is did.told;
+      told = subst (λ (v : PartView). TellsRow true next.chunk c.args.told.now c.take_expired-next.new.told v) is did.told;
       length = search rules;
       rest = cursor_moves _ _ left to.table next.cursor is;
     }

@@ -1,4 +1,4 @@
-use Rattle.std.proofs.Common.{subst}
+use Rattle.std.proofs.Common.{subst, true}
 use Rattle.cache_shelf.specs.Entries.{Had}
 use Rattle.cache_shelf.specs.Shelves.{ShelfView}
 use Rattle.cache_shelf.proofs.Keeping.{moved_lawful}
@@ -18,5 +18,5 @@ pub returns-clause-had : goal.returns-clause-had
 returns-clause-had g c =
     subst (λ (from : ShelfView). Had g.L.RowLaw.law c.args.key.now c.look.result c.args.told.now c.look.new.told from.part)
     c.self.view_is
-    (had_told g.L.RowLaw.law c.args.key.now c.look.result c.args.told.now c.look.new.told c.self.inside.part
+    (had_told true g.L.RowLaw.law c.args.key.now c.look.result c.args.told.now c.look.new.told c.self.inside.part
     c.self.invariant.0 c.look.ensures.item c.look.ensures.told)
