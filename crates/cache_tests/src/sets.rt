@@ -10,24 +10,26 @@ use std::process::Abort;
 use std::sync::Wait;
 use std::test::Fail;
 
-// There is room for so many items.
-const ITEMS: u32 = 20;
-
-// Sets keys at random, of which there are half as many again as items. Another item is evicted where the key has none and
-// there are as many as there may be, and each key has what was set last.
+// Sets keys at random, of which there are two more than items. Another item is evicted where the key has none and there are
+// as many as there may be, and each key has what was set last. Each key is read twice before it is set, so some items have
+// grown active, and bumps wait.
 fn set_all<N: Name + LogName, R: Wait + Abort>(
     rt: &R,
     alloc: Global,
     blank: CacheBlank<u64, u64>,
+    items: u32,
 ) -> Result<(), AllocError>
     requires { IsNamed N.table N.book N.name N.parts blank }
 {
     let mut stand = Stand::<N, u64, u64>::open(alloc, rt, blank)?;
+    let keys = u64::from(items).saturating_add(2);
     let mut seed = 3u64;
     for now in 0..600 {
-        let key = next(&mut seed) % 30;
+        let key = next(&mut seed) % keys.max(1);
+        let read = next(&mut seed) % keys.max(1);
+        assert_eq!(rt; stand.get(0, &read, now), stand.get(0, &read, now));
         let is_new = stand.peek(0, &key, now).is_none();
-        let is_full = items_in(&stand.stats(rt)) == u64::from(ITEMS);
+        let is_full = items_in(&stand.stats(rt)) == u64::from(items);
         let set = stand.set(rt, &Entry { key, value: now }, 0, now);
         assert!(rt; set == Ok(is_new && is_full));
         assert_eq!(rt; stand.get(0, &key, now), Some(now));
@@ -38,8 +40,21 @@ fn set_all<N: Name + LogName, R: Wait + Abort>(
 #[test]
 fn a_set_tells_whether_another_item_was_evicted(rt: HostRuntime) -> Result<(), Fail> {
     let alloc = rt.alloc();
-    let config = config_of(ITEMS, 1, 20, 40, 8);
-    let blank = CacheBlank::<u64, u64>::new(alloc, &config)?;
-    set_all::<Brand, _>(&rt, alloc, blank)?;
+    for (items, ring) in [
+        (1, 1),
+        (1, 2),
+        (2, 1),
+        (2, 2),
+        (3, 1),
+        (3, 2),
+        (4, 1),
+        (20, 8),
+    ] {
+        for spare in [1, 2] {
+            let config = config_of(items, spare, 20, 40, ring);
+            let blank = CacheBlank::<u64, u64>::new(alloc, &config)?;
+            set_all::<Brand, _>(&rt, alloc, blank, items)?;
+        }
+    }
     Ok(())
 }
