@@ -2,11 +2,10 @@
 ghost use Rattle.std.specs.Prelude.{◌<◌, ◌≤◌};
 ghost use Rattle.bump_cache.specs.Opening.{IsNamed};
 
-use crate::changers::{Changer, some_of};
 use crate::readers::{Part, Seen, read};
 use crate::values::{Value, others_of};
-use crate::writers::{Wrote, put_staying, tend, write};
-use bump_cache::{Cache, CacheBlank, CacheReader, LogName, Name, Opened, Stats, open};
+use crate::writers::{Writer, Wrote, put_staying, some_of, tend, write};
+use bump_cache::{Cache, CacheBlank, CacheReader, Changer, LogName, Name, Opened, Stats, open};
 use std::alloc::{AllocError, Global};
 use std::sync::Wait;
 use std::sync::atomic::{AtomicBool, Ordering};
@@ -105,7 +104,7 @@ fn run_threads<N: Name + LogName + Send + Sync, R: Threads + Wait + Sync>(
     rt: &R,
     cache: &Cache<N, u64, Value>,
     parts: Vec<Part<N>>,
-    writers: Vec<Changer<N>>,
+    writers: Vec<Writer<N>>,
     tender: Changer<N>,
 ) -> (
     Result<Vec<Seen>, AllocError>,
@@ -145,16 +144,12 @@ pub fn run<N: Name + LogName + Send + Sync, R: Threads + Wait + Sync>(
         readers,
     } = open::<N, u64, Value, R>(alloc, rt, blank)?;
     let others = others_of(load.parts);
-    let tender = Changer {
-        number: 0,
-        others,
-        me: me.another(),
-    };
+    let tender = Changer::new(me.another());
     let writers = some_of(alloc, &mut me, load.writers.min(4), others)?;
-    let mut first = Changer {
+    let mut first = Writer {
         number: 0,
         others,
-        me,
+        changer: Changer::new(me),
     };
     let mut wrote = Wrote::new();
     put_staying(rt, &cache, &mut first, &mut wrote);
@@ -167,7 +162,7 @@ pub fn run<N: Name + LogName + Send + Sync, R: Threads + Wait + Sync>(
     for one in &all_wrote? {
         wrote.add(one);
     }
-    let stats = cache.stats(rt, &mut first.me);
+    let stats = cache.stats(rt, &mut first.changer.me);
     Ok(Report {
         seen,
         wrote,

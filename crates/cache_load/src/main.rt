@@ -4,7 +4,6 @@
 //! `checks/loaded_cache` runs it with big numbers.
 #![tactic(auto)]
 
-mod changers;
 mod loads;
 mod readers;
 mod values;

@@ -1,10 +1,46 @@
 //! What a writer and the tender do.
+ghost use Rattle.std.specs.Prelude.{◌<◌, ◌+◌};
 
-use crate::changers::Changer;
 use crate::values::{STAYING, Value, count, next_other, value_of};
-use bump_cache::{Cache, LogName, Name, NoRoom, Put};
+use bump_cache::{Cache, CacheState, Caller, Changer, LogName, Name, NoRoom, Put};
+use std::alloc::{AllocError, Global};
 use std::sync::Wait;
 use std::sync::atomic::{AtomicBool, Ordering};
+
+/// Who puts and removes.
+#[derive(Drop)]
+pub struct Writer<N: Name + LogName> {
+    /// Its number, from 0.
+    pub number: u32,
+
+    /// So many keys come and go.
+    pub others: u64,
+
+    /// Its caller.
+    pub changer: Changer<N>,
+}
+
+/// So many more writers, each with a part that this caller gives away.
+pub fn some_of<N: Name + LogName>(
+    alloc: Global,
+    me: &mut Caller<N, CacheState>,
+    count: u32,
+    others: u64,
+) -> Result<Vec<Writer<N>>, AllocError>
+    requires { count < me.old.parts }
+    ensures { me.old.parts < me.new.parts + count + 1 }
+{
+    let mut all = Vec::with_capacity(alloc, count as usize)?;
+    for number in 0..count {
+        let changer = Changer::new(me.another());
+        all.push(Writer {
+            number,
+            others,
+            changer,
+        })?;
+    }
+    Ok(all)
+}
 
 /// What writers came to.
 #[derive(Clone, Copy)]
@@ -67,12 +103,12 @@ impl Wrote {
         &mut self,
         rt: &W,
         cache: &Cache<N, u64, Value>,
-        changer: &mut Changer<N>,
+        writer: &mut Writer<N>,
         key: u64,
     ) {
         let now = self.puts.saturating_add(1);
-        let value = value_of(key, changer.number, now);
-        self.note(cache.put(rt, &mut changer.me, &key, &value, now));
+        let value = value_of(key, writer.number, now);
+        self.note(cache.put(rt, &mut writer.changer.me, &key, &value, now));
     }
 
     // Ends a key's item.
@@ -80,10 +116,10 @@ impl Wrote {
         &mut self,
         rt: &W,
         cache: &Cache<N, u64, Value>,
-        changer: &mut Changer<N>,
+        writer: &mut Writer<N>,
         key: u64,
     ) {
-        let removed = cache.remove(rt, &mut changer.me, &key, self.puts);
+        let removed = cache.remove(rt, &mut writer.changer.me, &key, self.puts);
         count(&mut self.removed, removed.is_some());
     }
 }
@@ -92,11 +128,11 @@ impl Wrote {
 pub fn put_staying<N: Name + LogName, W: Wait>(
     rt: &W,
     cache: &Cache<N, u64, Value>,
-    changer: &mut Changer<N>,
+    writer: &mut Writer<N>,
     wrote: &mut Wrote,
 ) {
     for key in 0..STAYING {
-        wrote.put(rt, cache, changer, key);
+        wrote.put(rt, cache, writer, key);
     }
 }
 
@@ -105,22 +141,22 @@ pub fn put_staying<N: Name + LogName, W: Wait>(
 pub fn write<N: Name + LogName, W: Wait>(
     rt: &W,
     cache: &Cache<N, u64, Value>,
-    mut changer: Changer<N>,
+    mut writer: Writer<N>,
     done: &AtomicBool,
 ) -> Wrote {
     let mut wrote = Wrote::new();
-    let mut seed = u64::from(changer.number);
+    let mut seed = u64::from(writer.number);
     for _ in rt.forever() {
         if done.load(Ordering::SeqCst) {
             return wrote;
         }
         for staying in 0..STAYING {
-            wrote.put(rt, cache, &mut changer, staying);
-            let other = next_other(&mut seed, changer.others);
-            wrote.put(rt, cache, &mut changer, other);
+            wrote.put(rt, cache, &mut writer, staying);
+            let other = next_other(&mut seed, writer.others);
+            wrote.put(rt, cache, &mut writer, other);
             if staying % 4 == 0 {
-                let key = next_other(&mut seed, changer.others);
-                wrote.remove(rt, cache, &mut changer, key);
+                let key = next_other(&mut seed, writer.others);
+                wrote.remove(rt, cache, &mut writer, key);
             }
         }
     }
@@ -131,15 +167,10 @@ pub fn write<N: Name + LogName, W: Wait>(
 pub fn tend<N: Name + LogName, W: Wait>(
     rt: &W,
     cache: &Cache<N, u64, Value>,
-    changer: Changer<N>,
+    mut tender: Changer<N>,
     done: &AtomicBool,
 ) {
-    let Changer {
-        number: _,
-        others: _,
-        mut me,
-    } = changer;
-    cache.tend_until(rt, &mut me, || {
+    cache.tend_until(rt, &mut tender.me, || {
         if done.load(Ordering::SeqCst) {
             None
         } else {

@@ -2,8 +2,7 @@
 
 ghost use Rattle.bump_cache.specs.Opening.{IsNamed};
 
-use crate::stands::{Changer, Entry};
-use bump_cache::{CacheBlank, CacheConfig, LogName, Name, Opened, Seed, open};
+use bump_cache::{CacheBlank, CacheConfig, Changer, LogName, Name, Opened, Seed, open};
 use std::alloc::Global;
 use std::marker::Brand;
 use std::process::Abort;
@@ -31,20 +30,17 @@ fn run<N: Name + LogName, R: Wait + Abort>(
     let Some(reader) = readers.first_mut() else {
         panic!(rt; "there is a reader")
     };
-    let first = Entry { key: 1, value: 10 };
-    let second = Entry { key: 1, value: 11 };
-    let third = Entry { key: 1, value: 12 };
-    assert!(rt; changer.put(rt, &cache, &first, 0).is_ok());
+    assert!(rt; cache.put(rt, &mut changer.me, &1, &10, 0).is_ok());
     let Some(mut held) = reader.get_with(&1, 1) else {
         panic!(rt; "the key has a value")
     };
-    assert!(rt; changer.put(rt, &cache, &second, 2).is_ok());
+    assert!(rt; cache.put(rt, &mut changer.me, &1, &11, 2).is_ok());
     // There are two chunks: one has the new item, and the old one is held.
-    assert!(rt; changer.put(rt, &cache, &third, 3).is_err());
+    assert!(rt; cache.put(rt, &mut changer.me, &1, &12, 3).is_err());
     assert_eq!(rt; held.value(), 10);
     assert_eq!(rt; held.word(0), 10);
     drop(held);
-    assert!(rt; changer.put(rt, &cache, &third, 4).is_ok());
+    assert!(rt; cache.put(rt, &mut changer.me, &1, &12, 4).is_ok());
     assert_eq!(rt; reader.get(&1, 5), Some(12));
     assert!(rt; reader.get_with(&2, 6).is_none());
     Ok(())

@@ -3,10 +3,10 @@
 
 ghost use Rattle.bump_cache.specs.Opening.{IsNamed};
 
-use crate::stands::{Changer, Entry, SEED};
+use crate::stands::SEED;
 use bump_cache::{
-    Cache, CacheBlank, CacheConfig, CacheFault, CacheReader, Full, HeldItem, LogName, Name, Opened,
-    open,
+    Cache, CacheBlank, CacheConfig, CacheFault, CacheReader, Changer, Full, HeldItem, LogName,
+    Name, Opened, open,
 };
 use std::alloc::Global;
 use std::marker::Brand;
@@ -37,8 +37,8 @@ struct Small<N: Name + LogName> {
 impl<N: Name + LogName> Small<N> {
     // Puts a value under a key, and counts whether that was refused.
     fn put<W: Wait>(&mut self, rt: &W, key: u64, value: u64) {
-        let entry = Entry { key, value };
-        if self.changer.put(rt, &self.cache, &entry, 1).is_err() {
+        let put = self.cache.put(rt, &mut self.changer.me, &key, &value, 1);
+        if put.is_err() {
             self.refused = self.refused.saturating_add(1);
         }
     }
@@ -206,9 +206,7 @@ fn hold_too_much<N: Name + LogName, R: Wait + Abort>(
     assert_eq!(rt; small.refused, 0);
     small.put(rt, 1, 12);
     assert_eq!(rt; small.refused, 1);
-    let set = small
-        .changer
-        .set(rt, &small.cache, &Entry { key: 1, value: 12 }, 0, 1);
+    let set = small.cache.set(rt, &mut small.changer.me, &1, &12, 0, 1);
     assert!(rt; set == Err(Full { evicted: false }));
     assert_eq!(rt; other.get(&1, 1), Some(11));
     assert_eq!(rt; first.value(), 10);

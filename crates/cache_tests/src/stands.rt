@@ -1,15 +1,14 @@
 //! A cache that a test was given, with whoever changes it.
-ghost use Rattle.std.specs.Prelude.{◌≡◌, ◌<◌, length};
+ghost use Rattle.std.specs.Prelude.{◌≡◌, length};
 ghost use Rattle.bump_cache.specs.Opening.{IsNamed};
 
 use bump_cache::{
-    Bytes, Cache, CacheBlank, CacheConfig, CacheReader, CacheState, Caller, Evicted, Full, LogName,
-    Name, NoRoom, Opened, Packed, Put, Seed, Stats, open,
+    Cache, CacheBlank, CacheConfig, CacheReader, Changer, Evicted, Full, LogName, Name, NoRoom,
+    Opened, Packed, Put, Seed, Stats, open,
 };
 use std::alloc::{AllocError, Global};
 use std::sync::Wait;
 use std::sync::atomic::{AtomicBool, AtomicU64, Ordering};
-use std::time::{Clock, Duration};
 
 /// A key and its value.
 #[derive(Clone, Copy, Drop)]
@@ -21,161 +20,12 @@ pub struct Entry<K, V> {
     pub value: V,
 }
 
-// What a clock has, until a flag is set.
-fn time_of(clock: &AtomicU64, stop: &AtomicBool) -> Option<u64> {
+/// What a clock has, until a flag is set.
+pub fn time_of(clock: &AtomicU64, stop: &AtomicBool) -> Option<u64> {
     if stop.load(Ordering::SeqCst) {
         None
     } else {
         Some(clock.load(Ordering::SeqCst))
-    }
-}
-
-/// Whoever changes a cache: a caller that has a part.
-#[derive(Drop)]
-pub struct Changer<N: Name + LogName> {
-    me: Caller<N, CacheState>,
-    ghost part: { 0 < me.parts },
-}
-
-impl<N: Name + LogName> Changer<N> {
-    /// A caller that has a part.
-    pub fn new(me: Caller<N, CacheState>) -> Changer<N>
-        requires { 0 < me.parts }
-    {
-        Changer { me }
-    }
-
-    /// Puts a value under a key.
-    pub fn put<K: Packed, V: Packed, W: Wait>(
-        &mut self,
-        rt: &W,
-        cache: &Cache<N, K, V>,
-        entry: &Entry<K, V>,
-        now: u64,
-    ) -> Result<Put<K, V>, NoRoom<K, V>> {
-        cache.put(rt, &mut self.me, &entry.key, &entry.value, now)
-    }
-
-    /// Puts a value under a key, which expires then.
-    pub fn put_until<K: Packed, V: Packed, W: Wait>(
-        &mut self,
-        rt: &W,
-        cache: &Cache<N, K, V>,
-        entry: &Entry<K, V>,
-        expires: u64,
-        now: u64,
-    ) -> Result<Put<K, V>, NoRoom<K, V>> {
-        cache.put_until(rt, &mut self.me, &entry.key, &entry.value, expires, now)
-    }
-
-    /// Puts a value under a key, which expires then, and hears only whether another item was evicted.
-    pub fn set<K: Packed, V: Packed, W: Wait>(
-        &mut self,
-        rt: &W,
-        cache: &Cache<N, K, V>,
-        entry: &Entry<K, V>,
-        expires: u64,
-        now: u64,
-    ) -> Result<bool, Full> {
-        cache.set(rt, &mut self.me, &entry.key, &entry.value, expires, now)
-    }
-
-    /// Ends the item of a key.
-    pub fn remove<K: Packed, V: Packed, W: Wait>(
-        &mut self,
-        rt: &W,
-        cache: &Cache<N, K, V>,
-        key: &K,
-        now: u64,
-    ) -> Option<V> {
-        cache.remove(rt, &mut self.me, key, now)
-    }
-
-    /// Ends the item of a text.
-    pub fn remove_text<V: Packed, W: Wait, const B: usize>(
-        &mut self,
-        rt: &W,
-        cache: &Cache<N, Bytes<B>, V>,
-        key: &str,
-        now: u64,
-    ) -> Option<V> {
-        cache.remove_text(rt, &mut self.me, key, now)
-    }
-
-    /// Ends the item of a string of bytes.
-    pub fn remove_bytes<V: Packed, W: Wait, const B: usize>(
-        &mut self,
-        rt: &W,
-        cache: &Cache<N, Bytes<B>, V>,
-        key: &[u8],
-        now: u64,
-    ) -> Option<V> {
-        cache.remove_bytes(rt, &mut self.me, key, now)
-    }
-
-    /// Tends the cache.
-    pub fn tend<K: Packed, V: Packed, W: Wait>(
-        &mut self,
-        rt: &W,
-        cache: &Cache<N, K, V>,
-        now: u64,
-    ) {
-        cache.tend(rt, &mut self.me, now);
-    }
-
-    /// Tends the cache again and again, until a flag is set.
-    pub fn tend_until<K: Packed, V: Packed, W: Wait>(
-        self,
-        rt: &W,
-        cache: &Cache<N, K, V>,
-        clock: &AtomicU64,
-        stop: &AtomicBool,
-    ) {
-        let Changer { mut me } = self;
-        cache.tend_until(rt, &mut me, || time_of(clock, stop));
-    }
-
-    /// The same, and sleeps for a millisecond behind each tend.
-    pub fn tend_each<K: Packed, V: Packed, R: Wait + Clock>(
-        self,
-        rt: &R,
-        cache: &Cache<N, K, V>,
-        clock: &AtomicU64,
-        stop: &AtomicBool,
-    ) {
-        let Changer { mut me } = self;
-        cache.tend_each(
-            rt,
-            &mut me,
-            rt,
-            Duration::from_millis(1),
-            || time_of(clock, stop),
-        );
-    }
-
-    /// Ends the next item of a part that has expired, and tells it.
-    pub fn take_expired<K: Packed, V: Packed, W: Wait>(
-        &mut self,
-        rt: &W,
-        cache: &Cache<N, K, V>,
-        part: u32,
-        now: u64,
-    ) -> Option<Evicted<K, V>> {
-        cache.take_expired(rt, &mut self.me, part, now)
-    }
-
-    /// Ends each item.
-    pub fn clear<K: Packed, V: Packed, W: Wait>(&mut self, rt: &W, cache: &Cache<N, K, V>) {
-        cache.clear(rt, &mut self.me);
-    }
-
-    /// The statistics.
-    pub fn stats<K: Packed, V: Packed, W: Wait>(
-        &mut self,
-        rt: &W,
-        cache: &Cache<N, K, V>,
-    ) -> Stats {
-        cache.stats(rt, &mut self.me)
     }
 }
 
@@ -216,8 +66,7 @@ impl<N: Name + LogName, K: Packed, V: Packed> Stand<N, K, V> {
         value: V,
         now: u64,
     ) -> Result<Put<K, V>, NoRoom<K, V>> {
-        self.changer
-            .put(rt, &self.cache, &Entry { key, value }, now)
+        self.cache.put(rt, &mut self.changer.me, &key, &value, now)
     }
 
     /// Puts a value under a key, which expires then.
@@ -228,7 +77,9 @@ impl<N: Name + LogName, K: Packed, V: Packed> Stand<N, K, V> {
         expires: u64,
         now: u64,
     ) -> Result<Put<K, V>, NoRoom<K, V>> {
-        self.changer.put_until(rt, &self.cache, entry, expires, now)
+        let Entry { key, value } = entry;
+        self.cache
+            .put_until(rt, &mut self.changer.me, key, value, expires, now)
     }
 
     /// Puts a value under a key, which expires then, and hears only whether another item was evicted.
@@ -239,22 +90,24 @@ impl<N: Name + LogName, K: Packed, V: Packed> Stand<N, K, V> {
         expires: u64,
         now: u64,
     ) -> Result<bool, Full> {
-        self.changer.set(rt, &self.cache, entry, expires, now)
+        let Entry { key, value } = entry;
+        self.cache
+            .set(rt, &mut self.changer.me, key, value, expires, now)
     }
 
     /// Ends the item of a key.
     pub fn remove<W: Wait>(&mut self, rt: &W, key: &K, now: u64) -> Option<V> {
-        self.changer.remove(rt, &self.cache, key, now)
+        self.cache.remove(rt, &mut self.changer.me, key, now)
     }
 
     /// Tends the cache.
     pub fn tend<W: Wait>(&mut self, rt: &W, now: u64) {
-        self.changer.tend(rt, &self.cache, now);
+        self.cache.tend(rt, &mut self.changer.me, now);
     }
 
     /// Ends the next item of a part that has expired, and tells it.
     pub fn take_expired<W: Wait>(&mut self, rt: &W, part: u32, now: u64) -> Option<Evicted<K, V>> {
-        self.changer.take_expired(rt, &self.cache, part, now)
+        self.cache.take_expired(rt, &mut self.changer.me, part, now)
     }
 
     /// The part of a key.
@@ -264,12 +117,12 @@ impl<N: Name + LogName, K: Packed, V: Packed> Stand<N, K, V> {
 
     /// Ends each item.
     pub fn clear<W: Wait>(&mut self, rt: &W) {
-        self.changer.clear(rt, &self.cache);
+        self.cache.clear(rt, &mut self.changer.me);
     }
 
     /// The statistics.
     pub fn stats<W: Wait>(&mut self, rt: &W) -> Stats {
-        self.changer.stats(rt, &self.cache)
+        self.cache.stats(rt, &mut self.changer.me)
     }
 
     /// What a reader gets under a key; nothing where there is no such reader.

@@ -2,9 +2,9 @@
 
 ghost use Rattle.bump_cache.specs.Opening.{IsNamed};
 
-use crate::stands::{Changer, Entry, config_of};
+use crate::stands::{config_of, time_of};
 use bump_cache::{
-    Bytes, Cache, CacheBlank, CacheReader, LogName, Name, Opened, ReaderCounts, open,
+    Bytes, Cache, CacheBlank, CacheReader, Changer, LogName, Name, Opened, ReaderCounts, open,
 };
 use std::alloc::Global;
 use std::marker::Brand;
@@ -14,7 +14,7 @@ use std::sync::atomic::{AtomicBool, AtomicU64, Ordering};
 use std::test::Fail;
 use std::thread;
 use std::thread::Threads;
-use std::time::Clock;
+use std::time::{Clock, Duration};
 
 // A string of 15 bytes: one more than a key has room for.
 const LONG: &str = "fifteen letters";
@@ -64,11 +64,11 @@ fn remove_all<N: Name + LogName, R: Wait>(
     mut changer: Changer<N>,
 ) -> [Option<u64>; 5] {
     [
-        changer.remove_text(rt, cache, "fourteen bytes", 2),
-        changer.remove_text(rt, cache, "fourteen bytes", 2),
-        changer.remove_text(rt, cache, LONG, 2),
-        changer.remove_bytes(rt, cache, &[0, 255, 0], 2),
-        changer.remove_bytes(rt, cache, LONG.as_bytes(), 2),
+        cache.remove_text(rt, &mut changer.me, "fourteen bytes", 2),
+        cache.remove_text(rt, &mut changer.me, "fourteen bytes", 2),
+        cache.remove_text(rt, &mut changer.me, LONG, 2),
+        cache.remove_bytes(rt, &mut changer.me, &[0, 255, 0], 2),
+        cache.remove_bytes(rt, &mut changer.me, LONG.as_bytes(), 2),
     ]
 }
 
@@ -77,7 +77,7 @@ fn remove_beside_tends<N: Name + LogName + Send + Sync, R: Threads + Wait + Cloc
     rt: &R,
     cache: &Cache<N, Bytes<2>, u64>,
     changer: Changer<N>,
-    tender: Changer<N>,
+    mut tender: Changer<N>,
 ) -> [Option<u64>; 5] {
     let done = AtomicBool::new(false);
     let clock = AtomicU64::new(2);
@@ -88,7 +88,11 @@ fn remove_beside_tends<N: Name + LogName + Send + Sync, R: Threads + Wait + Cloc
             done.store(true, Ordering::SeqCst);
             removed
         },
-        || tender.tend_each(rt, cache, &clock, &done),
+        || {
+            cache.tend_each(rt, &mut tender.me, rt, Duration::from_millis(1), || {
+                time_of(&clock, &done)
+            });
+        },
     );
     removed
 }
@@ -109,7 +113,7 @@ fn run<N: Name + LogName + Send + Sync, R: Threads + Wait + Clock + Abort + Sync
     let mut changer = Changer::new(me);
     for (key, value) in [("fourteen bytes".as_bytes(), 14), (&[0, 255, 0], 3)] {
         let key = Bytes::new(key)?;
-        assert!(rt; changer.put(rt, &cache, &Entry { key, value }, 0).is_ok());
+        assert!(rt; cache.put(rt, &mut changer.me, &key, &value, 0).is_ok());
     }
     let Some(reader) = readers.first_mut() else {
         panic!(rt; "there is a reader")

@@ -3,8 +3,10 @@
 ghost use Rattle.bump_cache.specs.Opening.{IsNamed};
 
 use crate::model::adds_up;
-use crate::stands::{Changer, Entry, config_of, next};
-use bump_cache::{Cache, CacheBlank, CacheConfig, CacheReader, LogName, Name, Opened, open};
+use crate::stands::{config_of, next, time_of};
+use bump_cache::{
+    Cache, CacheBlank, CacheConfig, CacheReader, Changer, LogName, Name, Opened, open,
+};
 use std::alloc::{AllocError, Global};
 use std::marker::Brand;
 use std::sync::Wait;
@@ -117,11 +119,8 @@ fn put_staying<N: Name + LogName, W: Wait>(
 ) -> u64 {
     let mut refused = 0u64;
     for key in 0..STAYING {
-        let entry = Entry {
-            key,
-            value: value_of(key, 1),
-        };
-        count(&mut refused, changer.put(rt, cache, &entry, 0).is_err());
+        let put = cache.put(rt, &mut changer.me, &key, &value_of(key, 1), 0);
+        count(&mut refused, put.is_err());
     }
     refused
 }
@@ -148,11 +147,8 @@ fn write<N: Name + LogName, W: Wait>(
         turn = turn.saturating_add(1);
         for key in [turn % STAYING, next_other(&mut seed)] {
             number = number.saturating_add(1);
-            let entry = Entry {
-                key,
-                value: value_of(key, number),
-            };
-            match changer.put(rt, cache, &entry, number) {
+            let value = value_of(key, number);
+            match cache.put(rt, &mut changer.me, &key, &value, number) {
                 Ok(did) => {
                     let evicted = did.evicted.map(|lost| lost.key);
                     count(&mut wrote.evicted, evicted.is_some_and(|key| key < STAYING));
@@ -161,7 +157,7 @@ fn write<N: Name + LogName, W: Wait>(
             }
         }
         if turn % 3 == 0 {
-            changer.remove(rt, cache, &next_other(&mut seed), number);
+            cache.remove(rt, &mut changer.me, &next_other(&mut seed), number);
         }
     }
     unreachable!()
@@ -171,11 +167,11 @@ fn write<N: Name + LogName, W: Wait>(
 fn tend<N: Name + LogName, W: Wait>(
     rt: &W,
     cache: &Cache<N, u64, Value>,
-    changer: Changer<N>,
+    mut changer: Changer<N>,
     done: &AtomicBool,
 ) {
     let clock = AtomicU64::new(7);
-    changer.tend_until(rt, cache, &clock, done);
+    cache.tend_until(rt, &mut changer.me, || time_of(&clock, done));
 }
 
 // Each reader in a thread of its own, the writer in one more, and the tender in another.
@@ -234,7 +230,7 @@ fn run<N: Name + LogName + Send + Sync, R: Threads + Wait + Sync>(
         all.missing = all.missing.saturating_add(one.missing);
         all.older = all.older.saturating_add(one.older);
     }
-    let stats = Changer::new(me).stats(rt, &cache);
+    let stats = cache.stats(rt, &mut me);
     Ok((all, wrote, adds_up(&stats)))
 }
 

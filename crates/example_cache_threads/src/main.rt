@@ -2,13 +2,11 @@
 //! puts them anew, and another one tends the cache. In this folder `rt try` runs it, and `rt run` proves it first.
 #![tactic(auto)]
 
-ghost use Rattle.std.specs.Prelude.{◌<◌};
 ghost use Rattle.bump_cache.specs.Opening.{IsNamed};
 
 use anyhow::Result;
 use bump_cache::{
-    Cache, CacheBlank, CacheConfig, CacheReader, CacheState, Caller, LogName, Name, Opened, Seed,
-    Stats, open,
+    Cache, CacheBlank, CacheConfig, CacheReader, Changer, LogName, Name, Opened, Seed, Stats, open,
 };
 use std::alloc::{AllocError, Global};
 use std::marker::Brand;
@@ -51,18 +49,16 @@ fn read<N: Name + LogName>(mut reader: CacheReader<N, u64, u64>) -> Gets {
 fn write<N: Name + LogName, R: Wait>(
     rt: &R,
     cache: &Cache<N, u64, u64>,
-    mut me: Caller<N, CacheState>,
+    mut changer: Changer<N>,
     clock: &AtomicU64,
     done: &AtomicBool,
-)
-    requires { 0 < me.parts }
-{
+) {
     let mut now = 0u64;
     for _ in rt.forever() {
         if done.load(Ordering::SeqCst) {
             return;
         }
-        let _ = cache.put(rt, &mut me, &(now % KEYS), &now, now);
+        let _ = cache.put(rt, &mut changer.me, &(now % KEYS), &now, now);
         now = now.saturating_add(1);
         clock.store(now, Ordering::SeqCst);
     }
@@ -72,13 +68,11 @@ fn write<N: Name + LogName, R: Wait>(
 fn tend<N: Name + LogName, R: Wait>(
     rt: &R,
     cache: &Cache<N, u64, u64>,
-    mut me: Caller<N, CacheState>,
+    mut changer: Changer<N>,
     clock: &AtomicU64,
     done: &AtomicBool,
-)
-    requires { 0 < me.parts }
-{
-    cache.tend_until(rt, &mut me, || {
+) {
+    cache.tend_until(rt, &mut changer.me, || {
         if done.load(Ordering::SeqCst) {
             None
         } else {
@@ -92,12 +86,9 @@ fn work<N: Name + LogName + Send + Sync, R: Threads + Wait + Sync>(
     rt: &R,
     cache: &Cache<N, u64, u64>,
     readers: Vec<CacheReader<N, u64, u64>>,
-    writer: Caller<N, CacheState>,
-    tender: Caller<N, CacheState>,
-) -> Result<Vec<Gets>, AllocError>
-    requires writer { 0 < writer.parts }
-    requires tender { 0 < tender.parts }
-{
+    writer: Changer<N>,
+    tender: Changer<N>,
+) -> Result<Vec<Gets>, AllocError> {
     let clock = AtomicU64::new(0);
     let done = AtomicBool::new(false);
     let (gets, ((), ())) = thread::join(
@@ -107,17 +98,11 @@ fn work<N: Name + LogName + Send + Sync, R: Threads + Wait + Sync>(
             done.store(true, Ordering::SeqCst);
             gets
         },
-        || -> ((), ())
-            requires { (0 < writer.parts) × (0 < tender.parts) }
-        {
+        || {
             thread::join(
                 rt,
-                || -> ()
-                    requires { 0 < writer.parts }
-                { write(rt, cache, writer, &clock, &done) },
-                || -> ()
-                    requires { 0 < tender.parts }
-                { tend(rt, cache, tender, &clock, &done) },
+                || write(rt, cache, writer, &clock, &done),
+                || tend(rt, cache, tender, &clock, &done),
             )
         },
     );
@@ -138,8 +123,8 @@ fn run<N: Name + LogName + Send + Sync, R: Threads + Wait + Sync>(
         readers,
     } = open::<N, u64, u64, R>(alloc, rt, blank)?;
     // Each thread that changes the cache has a caller of its own.
-    let writer = me.another();
-    let tender = me.another();
+    let writer = Changer::new(me.another());
+    let tender = Changer::new(me.another());
     let mut all = Gets {
         wrong: 0,
         counted: 0,

@@ -2,8 +2,8 @@
 
 ghost use Rattle.bump_cache.specs.Opening.{IsNamed};
 
-use crate::stands::{Changer, EXPIRY, KEYS, LOOKS, Stand, config, open_filled};
-use bump_cache::{Cache, CacheBlank, LogName, Name};
+use crate::stands::{EXPIRY, KEYS, LOOKS, Stand, config, open_filled, reclaimed};
+use bump_cache::{Cache, CacheBlank, Changer, LogName, Name};
 use std::alloc::{AllocError, Global};
 use std::marker::Brand;
 use std::sync::Wait;
@@ -52,7 +52,7 @@ fn run_each<N: Name + LogName, W: Wait>(
     let (stand, refused) = open_filled::<N, W>(rt, alloc, blank)?;
     let Stand {
         cache,
-        tender: Changer { me: mut tender },
+        mut tender,
         mut other,
     } = stand;
     let mut next = first;
@@ -61,7 +61,7 @@ fn run_each<N: Name + LogName, W: Wait>(
         slept: AtomicU64::new(0),
         stop: AtomicBool::new(false),
     };
-    cache.tend_each(rt, &mut tender, &sleeper, Duration::from_secs(7), || {
+    cache.tend_each(rt, &mut tender.me, &sleeper, Duration::from_secs(7), || {
         let now = next;
         next = next.saturating_add(1);
         if sleeper.stop.load(Ordering::SeqCst) {
@@ -71,7 +71,7 @@ fn run_each<N: Name + LogName, W: Wait>(
         }
     });
     Ok([
-        other.reclaimed(rt, &cache),
+        reclaimed(rt, &cache, &mut other),
         sleeper.sleeps.load(Ordering::SeqCst),
         sleeper.slept.load(Ordering::SeqCst),
         refused,
@@ -109,13 +109,12 @@ fn each_tend_is_at_what_the_clock_has_then(rt: HostRuntime) -> Result<(), Fail> 
 fn ask<N: Name + LogName, W: Wait>(
     rt: &W,
     cache: &Cache<N, u64, u64>,
-    other: Changer<N>,
+    mut other: Changer<N>,
     stop: &AtomicBool,
 ) -> u64 {
-    let mut other = other;
     let mut ended = 0u64;
     for _ in 0..3_000_000u32 {
-        ended = other.reclaimed(rt, cache);
+        ended = reclaimed(rt, cache, &mut other);
         if ended == KEYS {
             break;
         }
@@ -152,12 +151,11 @@ fn run_until<N: Name + LogName + Send + Sync, R: Threads + Wait + Sync>(
 fn tend<N: Name + LogName, W: Wait>(
     rt: &W,
     cache: &Cache<N, u64, u64>,
-    tender: Changer<N>,
+    mut tender: Changer<N>,
     clock: &AtomicU64,
     stop: &AtomicBool,
 ) {
-    let Changer { mut me } = tender;
-    cache.tend_until(rt, &mut me, || {
+    cache.tend_until(rt, &mut tender.me, || {
         if stop.load(Ordering::SeqCst) {
             None
         } else {

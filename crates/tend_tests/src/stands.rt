@@ -1,10 +1,7 @@
 //! A cache with entries that expire, and two who change it.
-ghost use Rattle.std.specs.Prelude.{◌<◌};
 ghost use Rattle.bump_cache.specs.Opening.{IsNamed};
 
-use bump_cache::{
-    Cache, CacheBlank, CacheConfig, CacheState, Caller, LogName, Name, Opened, Seed, open,
-};
+use bump_cache::{Cache, CacheBlank, CacheConfig, Changer, LogName, Name, Opened, Seed, open};
 use std::alloc::{AllocError, Global};
 use std::sync::Wait;
 
@@ -22,32 +19,25 @@ const SEED: Seed = Seed {
     second: 6,
 };
 
-/// Whoever changes a cache: a caller that has a part.
-#[derive(Drop)]
-pub struct Changer<N: Name + LogName> {
-    /// The caller, who has a part.
-    pub me: Caller<N, CacheState>,
-    ghost part: { 0 < me.parts },
+// Puts a key, which expires then; and tells whether that was refused.
+fn is_refused<N: Name + LogName, W: Wait>(
+    rt: &W,
+    cache: &Cache<N, u64, u64>,
+    changer: &mut Changer<N>,
+    key: u64,
+) -> bool {
+    cache
+        .put_until(rt, &mut changer.me, &key, &key, EXPIRY, 1)
+        .is_err()
 }
 
-impl<N: Name + LogName> Changer<N> {
-    fn new(me: Caller<N, CacheState>) -> Changer<N>
-        requires { 0 < me.parts }
-    {
-        Changer { me }
-    }
-
-    // Puts a key, which expires then; and tells whether that was refused.
-    fn is_refused<W: Wait>(&mut self, rt: &W, cache: &Cache<N, u64, u64>, key: u64) -> bool {
-        cache
-            .put_until(rt, &mut self.me, &key, &key, EXPIRY, 1)
-            .is_err()
-    }
-
-    /// How many entries have ended because they had expired.
-    pub fn reclaimed<W: Wait>(&mut self, rt: &W, cache: &Cache<N, u64, u64>) -> u64 {
-        cache.stats(rt, &mut self.me).crawler_reclaimed()
-    }
+/// How many entries have ended because they had expired.
+pub fn reclaimed<N: Name + LogName, W: Wait>(
+    rt: &W,
+    cache: &Cache<N, u64, u64>,
+    changer: &mut Changer<N>,
+) -> u64 {
+    cache.stats(rt, &mut changer.me).crawler_reclaimed()
 }
 
 /// A cache, who tends it and who asks.
@@ -88,7 +78,7 @@ pub fn open_filled<N: Name + LogName, W: Wait>(
     let mut other = Changer::new(me);
     let mut refused = 0u64;
     for key in 0..KEYS {
-        if other.is_refused(rt, &cache, key) {
+        if is_refused(rt, &cache, &mut other, key) {
             refused = refused.saturating_add(1);
         }
     }

@@ -1,5 +1,5 @@
 use Rattle.std.proofs.Common.{◌≡◌, ◌+◌}
-use Rattle.cache_load.proofs.changers.some_of.Given as goal
+use Rattle.cache_load.proofs.writers.some_of.Given as goal
 
 -- the caller gave so many parts away
 abbrev pub invariant-loop-number : goal.invariant-loop-number
