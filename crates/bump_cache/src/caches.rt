@@ -104,9 +104,28 @@ impl<N: Name + LogName, K: Packed, V: Packed> Cache<N, K, V> {
     }
 
     // What the lock of the part of this number guards, until the guard is let go. The number is compared under the
-    // lock, since a caller that has two guards could exchange what they guard; where that was done, it goes round the
-    // locks, one at a time, until it finds the part.
+    // lock, since a caller that has two guards could exchange what they guard.
+    #[inline(always)]
     pub(crate) fn lock_part<W: Wait>(
+        &self,
+        rt: &W,
+        part: usize,
+    ) -> MutexGuard<'_, Logged<N, Numbered<N, K, V>, CacheState>>
+        requires { part < self.now.parts }
+        ensures { (mutex_guard_value result).number ≡ part }
+    {
+        if let Some(guard) = self.parts[part].try_lock() {
+            if is_part(&guard, part) {
+                return guard;
+            }
+        }
+        self.wait_for_part(rt, part)
+    }
+
+    // The same where the lock is taken, or what it guards was exchanged: then it goes round the locks, one at a time,
+    // until it finds the part.
+    #[inline(never)]
+    fn wait_for_part<W: Wait>(
         &self,
         rt: &W,
         part: usize,
@@ -126,6 +145,7 @@ impl<N: Name + LogName, K: Packed, V: Packed> Cache<N, K, V> {
     }
 
     // What the lock of a key's part guards, until the guard is let go.
+    #[inline(always)]
     pub(crate) fn lock_of<W: Wait>(
         &self,
         rt: &W,

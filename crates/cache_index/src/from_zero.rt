@@ -113,6 +113,7 @@ impl IndexFromZero {
     }
 
     /// Leads no more to a chunk, to which it does. Readers find it no more when this returns.
+    #[inline(always)]
     pub(crate) fn clear(&mut self, chunk: u32)
         requires { IsSome (led_at self.old.table chunk) }
         ensures table { self.new.table ≡ slice_set self.old.table chunk None }

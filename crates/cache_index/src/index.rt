@@ -133,6 +133,7 @@ impl Index {
     }
 
     /// Leads no more to a chunk, to which it does. Readers find it no more when this returns.
+    #[inline(always)]
     pub fn clear(&mut self, chunk: u32)
         requires { IsSome (led_at self.old.table chunk) }
         ensures first { self.new.first ≡ self.old.first }

@@ -97,6 +97,7 @@ impl<N: Name, L: RowLaw> CountedBook<N, L> {
     /// it is ACTIVE it loses that, and goes to the front of WARM. Else it goes to the front of COLD where its list has more
     /// items than the bound says, or where it was used longer ago than that, in the caller's ticks before `now`; and else
     /// it stays. Where the list is empty nothing changes.
+    #[inline(always)]
     pub fn look_past(&mut self, from: Tail, bound: Bound, now: u64) -> bool
         requires { from ≢ tail.Evict }
         ensures looked { LooksPast from bound now result self.old.book self.new.book }
@@ -109,6 +110,7 @@ impl<N: Name, L: RowLaw> CountedBook<N, L> {
     }
 
     /// Looks at the last item of HOT, and then at WARM's, each by its bound, and tells whether one of them was moved.
+    #[inline(always)]
     pub fn balance(&mut self, hot: Bound, warm: Bound, now: u64) -> bool
         ensures looked { Balances hot warm now result self.old.book self.new.book }
         ensures kept { KeepsItems self.old.book self.new.book }

@@ -202,6 +202,7 @@ impl<N: Name, L: RowLaw> CountedBook<N, L> {
 
     // Looks at the last item of HOT, WARM or COLD, and moves it by the tail table, as `Book::pull` does. Where the list is
     // empty nothing is changed.
+    #[inline(always)]
     pub(crate) fn look_at(&mut self, from: Tail) -> Pulled
         requires { from ≢ tail.Evict }
         ensures kept { KeepsItems self.old.book self.new.book }

@@ -35,6 +35,7 @@ use bump_rules::{Applied, ItemId, Place, Pulled, Segment, Start, Tail};
 use bump_steps::RowLaw;
 
 // The last item of HOT, WARM or COLD is looked at, and moved by the tail table.
+#[inline(always)]
 pub(crate) fn look_at<N: Name, L: RowLaw>(book: &mut Book<N, L>, from: Tail) -> Pulled
     requires { from ≢ tail.Evict }
     ensures kept { KeepsItems book.old book.new }
@@ -53,6 +54,7 @@ pub(crate) fn look_at<N: Name, L: RowLaw>(book: &mut Book<N, L>, from: Tail) -> 
 }
 
 // The last item of HOT, WARM or COLD is looked at, and moved by the tail table, by this limit in place of its list's.
+#[inline(always)]
 fn pull_past<N: Name, L: RowLaw>(book: &mut Book<N, L>, from: Tail, limit: u32) -> Pulled
     requires { from ≢ tail.Evict }
     ensures kept { KeepsItems book.old book.new }
@@ -65,6 +67,7 @@ fn pull_past<N: Name, L: RowLaw>(book: &mut Book<N, L>, from: Tail, limit: u32) 
 }
 
 // The last item of HOT or WARM is looked at, by the limit that its list has for an item that was used when it was.
+#[inline(always)]
 pub(crate) fn look_past<N: Name, L: RowLaw>(
     book: &mut Book<N, L>,
     from: Tail,

@@ -17,6 +17,7 @@ pub const RESCUES: u32 = 8;
 
 impl<N: Name, L: RowLaw> CountedBook<N, L> {
     // Pulls COLD once, where its last item hasn't expired, and tells whether that rescued it.
+    #[inline(always)]
     fn rescue_last(&mut self, now: u64) -> bool
         ensures looked { LooksAtCold now result self.old.book self.new.book }
         ensures kept { KeepsItems self.old.book self.new.book }

@@ -47,6 +47,7 @@ pub(crate) fn drain_where_held<N: Name, L: RowLaw>(
 }
 
 // Looks at the last items of HOT and WARM, each by its bound, in rounds, until one moves nothing, at most so many.
+#[inline(always)]
 fn balance_by<N: Name, L: RowLaw>(
     lists: &mut CountedBook<N, L>,
     most: u32,
@@ -65,7 +66,9 @@ fn balance_by<N: Name, L: RowLaw>(
     }
 }
 
-// Looks at the age of COLD, and then at HOT and WARM, by the bounds that follow.
+// Looks at the age of COLD, and then at HOT and WARM, by the bounds that follow. It stands alone, since it is made of
+// pulls, and each eighth put calls it.
+#[inline(never)]
 pub(crate) fn balance<N: Name, L: RowLaw>(
     lists: &mut CountedBook<N, L>,
     most: u32,
