@@ -13,7 +13,7 @@ static char *first_block(void) {
 }
 
 static void free_block(char *block, size_t room) {
-  free(block);
+  memory_free(block);
   memory_give(MEMORY_connections, block_bytes(room));
 }
 

@@ -3,6 +3,7 @@
 #include <stdalign.h>
 #include <stdlib.h>
 #include <string.h>
+#include "blocks.h"
 #include "memory.h"
 #include "settings.h"
 #include "shelf.h"
@@ -80,7 +81,7 @@ struct item *item_begin(const struct key *key, uint32_t flags, uint32_t expires,
   bool in_row = bytes <= ROW_VALUE_MOST;
   struct item *item = malloc(row_bytes(offsetof(struct item, key) + key->bytes + (in_row ? bytes + 2 : 0)));
   if (item == NULL) return NULL;
-  char *value = in_row ? item->key + key->bytes : malloc(room);
+  char *value = in_row ? item->key + key->bytes : block_new(room);
   if (value == NULL) return free(item), NULL;
   *item = (struct item){ .value = value,
                          .hash = key->hash,
@@ -100,7 +101,7 @@ static void charge(struct item *item, uint32_t bytes) {
 
 /* What an item is charged whose value is all there: what it takes. */
 static uint32_t whole_charge(struct item *item) {
-  return (uint32_t)(memory_of_block(item) + (item_is_apart(item) ? memory_of_block(item->value) : 0));
+  return (uint32_t)(memory_of_block(item) + (item_is_apart(item) ? block_takes(item->value) : 0));
 }
 
 struct item *item_new(const struct key *key, uint32_t flags, uint32_t expires, size_t bytes) {
@@ -113,8 +114,8 @@ struct item *item_new(const struct key *key, uint32_t flags, uint32_t expires, s
 
 void item_free(struct item *item) {
   memory_give(MEMORY_items, item->charge);
-  if (item_is_apart(item)) free(item->value);
-  free(item);
+  if (item_is_apart(item)) block_free(item->value);
+  memory_free(item);
 }
 
 /* The share is a quarter of the memory, and one value of the greatest size: so that there is room for one whatever -I
@@ -131,7 +132,7 @@ bool item_may_have(struct item *item, size_t room) {
 }
 
 bool item_grow(struct item *item, size_t room) {
-  char *value = realloc(item->value, room);
+  char *value = block_grow(item->value, room);
   if (value != NULL) item->value = value;
   return value != NULL;
 }

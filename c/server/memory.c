@@ -1,6 +1,7 @@
 #define _GNU_SOURCE
 #include "memory.h"
 #include <fcntl.h>
+#include <limits.h>
 #include <malloc.h>
 #include <stdalign.h>
 #include <stdatomic.h>
@@ -11,19 +12,24 @@
 #include "pages.h"
 #include "settings.h"
 
-/* A block of MAPPED_LEAST bytes is a mapping of its own, which goes back to the system by itself: always, where malloc
- * would choose by what was freed before. */
-enum { MAPPED_LEAST = 1 << 17, TRIMMED_LEAST = 1 << 20, BEFORE_BLOCK = sizeof(size_t) };
+enum { BEFORE_BLOCK = sizeof(size_t) };
 
-/* Parts of -m: the most that counts of what isn't items, of what connections take, and of what is exceeded. That is
- * what the process has beyond -m, a SPARE_PART-th of it, and what it had at its start: since some memory always lies
- * free between pieces. It doesn't grow less by itself when items are evicted. But those that come take the places of
- * those that went, and so it grows no more. */
-enum { NOT_ITEMS_PART = 2, CONNECTIONS_PART = 4, EXCEEDED_PART = 4, SPARE_PART = 50 };
+/* Pieces that come free before they are put in order. For a block of SORTING_BYTES malloc looks at all of them: few
+ * pieces have just this size, of which it would take the first. */
+enum { UNSORTED_MOST = 16, SORTING_BYTES = 60008 };
+
+/* Parts of -m: the most that counts of what isn't items, of what connections take, and of what is exceeded; and what
+ * always stays for items. What is exceeded is what the process has beyond -m, a SPARE_PART-th of it, and what it had at
+ * its start: since some memory always lies free between pieces. It doesn't grow less by itself when items are evicted.
+ * But those that come take the places of those that went, and so it grows no more. */
+enum { NOT_ITEMS_PART = 2, CONNECTIONS_PART = 4, EXCEEDED_PART = 2, ITEMS_PART = 4, SPARE_PART = 50 };
 
 /* Free pages are given back where at least a FREE_PART-th of -m is free. That takes at most one of PAUSE_TIMES parts of
- * the time. */
-enum { FREE_PART = 16, PAUSE_TIMES = 32, PAUSE_LEAST = 100000000, SECOND = 1000000000 };
+ * the time, or of PRESSED_TIMES where it wasn't enough. */
+enum { FREE_PART = 16, PAUSE_TIMES = 32, PRESSED_TIMES = 8, PAUSE_LEAST = 100000000, SECOND = 1000000000 };
+
+/* Of what was counted since that wasn't enough, so much is let go in a look where it is. */
+enum { PRESSED_PART = 256 };
 
 /* Nanoseconds from one look to the next, which takes as long as some requests. */
 enum { LOOK_PAUSE = 5000000 };
@@ -34,6 +40,7 @@ static struct {
 } taken[MEMORY_KIND_COUNT];
 static _Atomic uint64_t now_resident, exceeded;
 static uint64_t at_start; /* what the process had before it had any of these */
+static uint64_t pressed;  /* the maintainer's */
 
 static uint64_t least_of(uint64_t one, uint64_t other) { return one < other ? one : other; }
 
@@ -49,15 +56,27 @@ static uint64_t resident(void) {
 }
 
 /* All threads have one heap: with a heap for each, what one frees no other one could use, and the process would take
- * several times -m. */
+ * several times -m. A mapping goes back to the system by itself: always, where malloc would choose by what was freed
+ * before. The end of the heap doesn't, since it may be large, and whoever frees would wait: pages_give_back does it. */
 void memory_begin(void) {
 #ifdef __GLIBC__
   mallopt(M_ARENA_MAX, 1);
-  mallopt(M_MMAP_THRESHOLD, MAPPED_LEAST);
-  mallopt(M_TRIM_THRESHOLD, TRIMMED_LEAST);
+  mallopt(M_MMAP_THRESHOLD, MEMORY_MAPPED_LEAST);
+  mallopt(M_TRIM_THRESHOLD, INT_MAX);
   mallopt(M_MXFAST, 0); /* else small pieces are joined when a large one is asked for: all at once */
 #endif
   at_start = resident();
+}
+
+void memory_free(void *block) {
+  static _Thread_local int unsorted;
+  free(block);
+#ifdef __GLIBC__
+  if (++unsorted < UNSORTED_MOST) return;
+  unsorted = 0;
+  void *volatile sorts = malloc(SORTING_BYTES); /* or the compiler would leave both out */
+  free(sorts);
+#endif
 }
 
 void memory_take(enum memory_kind kind, uint64_t bytes) {
@@ -90,6 +109,16 @@ static bool has_free_pages(uint64_t all) {
   return memory_resident() >= known + all / FREE_PART;
 }
 
+/* What came free of large pages can't go back where something small stays in each of them. So where the process has too
+ * much though all was given back that could be, items go, too: for half of it, as others come free with them. Whether
+ * that is so. */
+static bool press(uint64_t all) {
+  uint64_t most = all + all / FREE_PART + at_start, has = memory_resident();
+  if (has <= most) return false;
+  pressed = least_of(pressed + (has - most) / 2, all / EXCEEDED_PART);
+  return true;
+}
+
 /* Gives some of them back, where that is to be done, or goes on with it. How far it is. */
 enum giving { GIVING_DONE, GIVING_LATER, GIVING_NOW };
 static enum giving give_back_pages(uint64_t all, bool is_enough) {
@@ -107,8 +136,8 @@ static enum giving give_back_pages(uint64_t all, bool is_enough) {
   took += ends - begins;
   if (!is_over) return GIVING_NOW;
   is_giving = false;
-  not_before = ends + took * PAUSE_TIMES + PAUSE_LEAST;
   atomic_store_explicit(&now_resident, resident(), memory_order_relaxed);
+  not_before = ends + took * (press(all) ? PRESSED_TIMES : PAUSE_TIMES) + PAUSE_LEAST;
   return GIVING_DONE;
 }
 
@@ -127,7 +156,8 @@ bool memory_look(void) {
   uint64_t over = memory_resident() > may ? memory_resident() - may : 0;
   known = giving == GIVING_DONE ? over : least_of(known, over);
   uint64_t counts = over > known + all / FREE_PART ? over - all / FREE_PART : known;
-  atomic_store_explicit(&exceeded, least_of(counts, all / EXCEEDED_PART), memory_order_relaxed);
+  if (over == 0) pressed -= pressed / PRESSED_PART;
+  atomic_store_explicit(&exceeded, least_of(counts + pressed, all / EXCEEDED_PART), memory_order_relaxed);
   return giving == GIVING_NOW;
 }
 
@@ -135,8 +165,8 @@ uint64_t memory_used(void) {
   uint64_t all = atomic_load_explicit(&settings.memory, memory_order_relaxed);
   uint64_t others = memory_of(MEMORY_shelves) + memory_of(MEMORY_table) +
                     least_of(memory_of(MEMORY_connections), all / CONNECTIONS_PART);
-  return memory_of(MEMORY_items) + least_of(others, all / NOT_ITEMS_PART) +
-         atomic_load_explicit(&exceeded, memory_order_relaxed);
+  others = least_of(others, all / NOT_ITEMS_PART) + atomic_load_explicit(&exceeded, memory_order_relaxed);
+  return memory_of(MEMORY_items) + least_of(others, all - all / ITEMS_PART);
 }
 
 bool memory_may_take(uint64_t bytes) {

@@ -12,8 +12,15 @@
 #define MEMORY_KIND_AS_NAME(name) MEMORY_##name,
 enum memory_kind { MEMORY_KINDS(MEMORY_KIND_AS_NAME) MEMORY_KIND_COUNT };
 
+/* What has so many bytes is a mapping of its own. */
+enum { MEMORY_MAPPED_LEAST = 1 << 17 };
+
 /* Says how the C library is to take and give back memory. Before any other thread is there. */
 void memory_begin(void);
+
+/* free, for what many come free of at a time: malloc puts what came free in order when it is called next, and takes
+ * 3 milliseconds for 10,000 pieces. So this has it do that for a few at a time. */
+void memory_free(void *block);
 
 void memory_take(enum memory_kind kind, uint64_t bytes);
 void memory_give(enum memory_kind kind, uint64_t bytes);
@@ -28,7 +35,8 @@ bool memory_look(void);
 uint64_t memory_resident(void);
 
 /* All that counts against -m: items; what else is taken, up to half of -m, and of that what connections take up to a
- * quarter; and what the process has beyond -m, up to a quarter. So there is always room for items. */
+ * quarter; and what the process has beyond -m, up to half. Both together count up to three quarters: so there is always
+ * room for items. */
 uint64_t memory_used(void);
 
 /* Whether connections may take so much more for what they could do without: all together have a part of -m for that. */

@@ -247,7 +247,7 @@ static void end_connection(struct connection *connection) {
   sending_drop(connection);
   buffer_give_back(thread, &connection->in);
   memory_give(MEMORY_connections, memory_of_block(connection));
-  free(connection);
+  memory_free(connection);
   atomic_fetch_sub(&current, 1);
 }
 

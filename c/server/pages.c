@@ -5,6 +5,7 @@
 #include <stdlib.h>
 #include <sys/mman.h>
 #include <unistd.h>
+#include "memory.h"
 
 /* What is given back in one step, and how many pieces are freed in one. */
 enum { PIECES_AT_ONCE = 64, BYTES_AT_ONCE = 1 << 20, FREED_AT_ONCE = 64, PAGE = 4096 };
@@ -55,7 +56,7 @@ static bool take_some(void) {
 static bool free_some(void) {
   for (int i = 0; i < FREED_AT_ONCE && taken != NULL; i++) {
     struct piece *next = taken->next;
-    free(taken);
+    memory_free(taken);
     taken = next;
   }
   return taken != NULL;

@@ -13,9 +13,8 @@ from client import Client, value_for
 from started import Server
 
 MEGABYTE = 1 << 20
-# What the process may have: so much more than -m, and so much for each connection that is busy. A fifth is what it has at most on a machine
-# that does nothing else; where the maintainer waits for a processor there is more for a moment.
-FACTOR, BUSY = 1.3, 64 << 10
+# What the process may have: so much more than -m, and so much for each connection that is busy.
+FACTOR, BUSY = 1.15, 64 << 10
 IDLE = 10_000
 
 
