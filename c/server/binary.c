@@ -5,6 +5,7 @@
 #include <string.h>
 #include "clock.h"
 #include "keys.h"
+#include "prefixes.h"
 #include "protocol.h"
 #include "table.h"
 #include "values.h"
@@ -195,6 +196,7 @@ static void get(struct connection *connection, const struct request *request) {
   uint32_t expires = has_expiry ? read_expiry(connection, request->extras) : TICK_NEVER;
   struct key key = key_of(request);
   struct item *item = key_fetch(connection->thread, &key, connection->thread->now, has_expiry ? &expires : NULL);
+  prefixes_count_get(&key, item != NULL);
   connection->work -= WORK_KEY;
   if (item == NULL) {
     tell_missed(connection, request);
@@ -218,6 +220,7 @@ static void get(struct connection *connection, const struct request *request) {
 static void delete_key(struct connection *connection, const struct request *request) {
   const struct end_terms terms = { .has_unique = request->unique != 0, .unique = request->unique, .command = "delete" };
   struct key key = key_of(request);
+  prefixes_count(&key, PREFIX_DELETE);
   enum end_answer answer = key_end(connection->thread, &key, &terms);
   if (answer == END_DONE) tell_done(connection, 0);
   else tell_fault(connection, answer == END_EXISTS ? STATUS_EXISTS : STATUS_NOT_FOUND);
@@ -301,6 +304,7 @@ static void store(struct connection *connection, const struct request *request) 
   storing->speaker = &SPEAKER;
   storing->outdates = request->opcode == SET || request->opcode == SETQ;
   struct key key = key_of(request);
+  prefixes_count(&key, PREFIX_SET);
   value_begin(connection, &key, flags, expires, value_bytes(request));
   if (connection->state == READS_VALUE) storing->item->has_binary_key = has_binary_key(request);
 }
@@ -335,7 +339,12 @@ static void flush(struct connection *connection, const struct request *request) 
   tell_done(connection, 0);
 }
 
-/* A line of `stats` as an answer of its own; and behind the last one an empty one. */
+static bool is_line(const char *line, size_t bytes, const char *text) {
+  return bytes == strlen(text) && memcmp(line, text, bytes) == 0;
+}
+
+/* A line of `stats` as an answer of its own; and behind the last one an empty one. What `stats detail` tells of a
+ * prefix is told as it is in text, by a key that memcached has for all of them together. */
 static void retell_line(struct connection *connection, const char *line, size_t bytes) {
   const char *name = line + 5, *end = line + bytes;
   if (bytes > 5 && memcmp(line, "STAT ", 5) == 0) {
@@ -346,7 +355,10 @@ static void retell_line(struct connection *connection, const char *line, size_t 
                                .key_bytes = (size_t)(behind - name),
                                .value = value,
                                .value_bytes = (size_t)(end - value) });
-  } else if ((bytes == 3 && memcmp(line, "END", 3) == 0) || (bytes == 5 && memcmp(line, "RESET", 5) == 0)) {
+  } else if (bytes > 7 && memcmp(line, "PREFIX ", 7) == 0) {
+    put_answer(connection, STATUS_DONE, 0,
+               &(struct body){ .key = "detailed", .key_bytes = 8, .value = line, .value_bytes = bytes + 2 });
+  } else if (is_line(line, bytes, "END") || is_line(line, bytes, "RESET") || is_line(line, bytes, "OK")) {
     put_answer(connection, STATUS_DONE, 0, &(struct body){ 0 });
   } else {
     tell_fault(connection, STATUS_NOT_FOUND);

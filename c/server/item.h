@@ -26,7 +26,7 @@ struct item {
   uint32_t charge; /* what it takes of the memory, with its value */
   uint16_t shelf;
   uint8_t key_bytes;
-  bool named;      /* it is in the table */
+  uint8_t named;   /* 0: it isn't in the table; else 1 more than the round of `stats sizes` in which it came there */
   bool is_stale;   /* a client is to store it anew */
   bool has_winner; /* one was told so */
   bool has_binary_key;

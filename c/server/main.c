@@ -9,9 +9,11 @@
 #include "maintainer.h"
 #include "memory.h"
 #include "network.h"
+#include "prefixes.h"
 #include "process.h"
 #include "settings.h"
 #include "shelf.h"
+#include "sizes.h"
 #include "table.h"
 #include "thread.h"
 
@@ -70,6 +72,8 @@ static void prepare(sigset_t *before) {
   classes_make();
   if (!shelves_make() || !table_make() || !network_make())
     process_fail("no memory, or more than the shelves can have: choose a smaller -m");
+  if (settings.counts_sizes && !sizes_begin()) process_fail("no memory for sizes");
+  atomic_store(&prefixes_are_counted, settings.counts_prefixes);
   take_signals(before);
   listen_and_become();
   process_write_number();

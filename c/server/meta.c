@@ -6,6 +6,7 @@
 #include "base64.h"
 #include "clock.h"
 #include "keys.h"
+#include "prefixes.h"
 #include "protocol.h"
 #include "shelf.h"
 #include "table.h"
@@ -295,6 +296,7 @@ void meta_get(struct connection *connection, struct words *words) {
   }
   struct key key = table_key(words->word[1].at, words->word[1].bytes);
   struct found found = find(connection->thread, &key, &meta);
+  prefixes_count_get(&key, found.item != NULL && !found.is_new);
   if (found.item != NULL) {
     tell_found(connection, words, &meta, &found);
     return;
@@ -386,6 +388,7 @@ void meta_set(struct connection *connection, struct words *words) {
   connection->is_quiet = meta.is_quiet;
   prepare_answer(storing, words, &meta);
   struct key key = table_key(words->word[1].at, words->word[1].bytes);
+  prefixes_count(&key, PREFIX_SET);
   value_begin(connection, &key, meta.flags, meta.expires, bytes);
   if (connection->state == READS_VALUE) storing->item->has_binary_key = meta.has_binary_key;
 }
@@ -405,6 +408,7 @@ void meta_delete(struct connection *connection, struct words *words) {
   char text[ANSWER_MOST];
   const struct end_terms terms = { meta.has_unique, meta.unique,  meta.invalidates,
                                    meta.has_expiry, meta.expires, "md" };
+  prefixes_count(&key, PREFIX_DELETE);
   enum end_answer answer = key_end(connection->thread, &key, &terms);
   if (answer == END_EXISTS) count(connection_counters(connection), COUNT_delete_misses, 1);
   bool done = answer == END_DONE || answer == END_MADE_STALE;

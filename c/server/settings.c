@@ -22,6 +22,7 @@ struct settings settings = { .port = 11211,
                              .may_flush = true,
                              .may_watch = true,
                              .may_dump = true,
+                             .prefix_delimiter = ':',
                              .begins_crawling = true,
                              .maintains = true,
                              .memory = 64 << 20,
@@ -55,6 +56,7 @@ static const struct option LONG[] = { { "port", required_argument, NULL, 'p' },
                                       { "protocol", required_argument, NULL, 'B' },
                                       { "disable-dumping", no_argument, NULL, 'X' },
                                       { "disable-watch", no_argument, NULL, 'W' },
+                                      { "prefix-delimiter", required_argument, NULL, 'D' },
                                       { "enable-sasl", no_argument, NULL, 'S' },
                                       { "auth-file", required_argument, NULL, 'Y' },
                                       { "enable-ssl", no_argument, NULL, 'Z' },
@@ -93,6 +95,7 @@ static const char HELP[] =
     "-A, --enable-shutdown        allow the command shutdown\n"
     "-X, --disable-dumping        refuse stats cachedump and lru_crawler metadump\n"
     "-W, --disable-watch          refuse watch\n"
+    "-D, --prefix-delimiter=<letter>  count gets and sets by what stands before it in keys, for stats detail (:)\n"
     "-B, --protocol=<name>        ascii, binary, or auto: that of a connection's first byte (auto)\n"
     "-u, --user=<name>            whom to become, where root starts it, who has to say so\n"
     "-P, --pidfile=<file>         write the number of the process there\n"
@@ -116,6 +119,7 @@ static const char HELP[] =
     "    lru_crawler, no_lru_crawler        look for expired items, or don't\n"
     "    lru_maintainer, no_lru_maintainer  age lists in a thread of their own, or don't\n"
     "    modern, no_modern          both, or none\n"
+    "    track_sizes                count items by their sizes from the start on, for stats sizes\n"
     "\n"
     "Not here: UDP (-U has no effect), authentication (-S, -Y), encryption (-Z), storage on disk.\n";
 
@@ -169,8 +173,8 @@ static bool is_without_effect(const char *name) {
     "maxconns_fast",      "no_maxconns_fast",     "no_hashexpand",      "hash_algorithm",     "hashpower",
     "slab_reassign",      "no_slab_reassign",     "slab_automove",      "no_slab_automove",   "slab_automove_window",
     "lru_crawler_sleep",  "lru_crawler_tocrawl",  "tail_repair_time",   "relaxed_privileges", "drop_privileges",
-    "no_drop_privileges", "watcher_logbuf_size",  "worker_logbuf_size", "track_sizes",        "resp_obj_mem_limit",
-    "read_buf_mem_limit", "no_inline_ascii_resp", "inline_ascii_resp"
+    "no_drop_privileges", "watcher_logbuf_size",  "worker_logbuf_size", "resp_obj_mem_limit", "read_buf_mem_limit",
+    "no_inline_ascii_resp", "inline_ascii_resp"
   };
   for (size_t i = 0; i < sizeof NAMES / sizeof *NAMES; i++)
     if (strcmp(name, NAMES[i]) == 0) return true;
@@ -200,6 +204,7 @@ static void read_extended(char *text) {
     else if (strcmp(name, "no_modern") == 0) settings.begins_crawling = settings.maintains = false;
     else if (strcmp(name, "lru_crawler") == 0) settings.begins_crawling = true;
     else if (strcmp(name, "no_lru_crawler") == 0) settings.begins_crawling = false;
+    else if (strcmp(name, "track_sizes") == 0) settings.counts_sizes = true;
     else if (strcmp(name, "lru_maintainer") == 0) settings.maintains = true;
     else if (strcmp(name, "no_lru_maintainer") == 0) settings.maintains = false;
     else if (value != NULL && read_valued(name, value)) continue;
@@ -245,6 +250,13 @@ static bool read_place(int option) {
   }
 }
 
+/* The letter that ends a key's prefix. Who names one wants prefixes to be counted. */
+static void read_delimiter(const char *text) {
+  if (*text == 0) wrong("-D", "no delimiter");
+  settings.prefix_delimiter = *text;
+  settings.counts_prefixes = true;
+}
+
 /* Options that say how much there may be. */
 static void read_measure(int option) {
   switch (option) {
@@ -262,6 +274,7 @@ static void read_measure(int option) {
     case 'A': settings.may_shut_down = true; return;
     case 'W': settings.may_watch = false; return;
     case 'X': settings.may_dump = false; return;
+    case 'D': read_delimiter(optarg); return;
     case 'o': read_extended(optarg); return;
     case OPTION_WALK: settings.walks = true; return;
     default: wrong("the command line", "no such option");
@@ -279,7 +292,7 @@ static void read_environment(void) {
 void settings_read(int count, char **words) {
   int option;
   opterr = 0;
-  while ((option = getopt_long(count, words, "p:l:s:a:u:P:kdrLvU:B:SY:ZVhm:t:c:b:R:I:f:n:MCFAWXo:", LONG, NULL)) != -1)
+  while ((option = getopt_long(count, words, "p:l:s:a:u:P:kdrLvU:B:SY:ZVhm:t:c:b:R:I:f:n:MCFAWXD:o:", LONG, NULL)) != -1)
     if (!read_place(option)) read_measure(option);
   if (optind < count) wrong(words[optind], "not an option");
   if (settings.hot_percent + settings.warm_percent > 80)

@@ -39,6 +39,9 @@ struct settings {
   bool may_shut_down;
   bool may_watch;
   bool may_dump;
+  bool counts_prefixes; /* from the start on; and the letter that ends a prefix */
+  char prefix_delimiter;
+  bool counts_sizes; /* from the start on */
   enum protocol protocol;
   bool locks_memory;
   bool is_daemon;

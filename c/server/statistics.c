@@ -11,8 +11,10 @@
 #include "maintainer.h"
 #include "memory.h"
 #include "network.h"
+#include "prefixes.h"
 #include "protocol.h"
 #include "shelf.h"
+#include "sizes.h"
 #include "table.h"
 #include "watchers.h"
 
@@ -52,6 +54,7 @@ static void tell_counters(struct connection *connection, enum counter first, enu
 }
 
 static void reset(void) {
+  prefixes_forget();
   for (enum counter which = 0; which < COUNTER_COUNT; which++)
     if (which != COUNT_total_items) atomic_store(&forgotten[which], counted_ever(which));
   for (uint32_t number = 0; number < shelf_count(); number++) {
@@ -241,7 +244,8 @@ static void tell_settings(struct connection *connection) {
   connection_print(connection, "STAT growth_factor %.2f\r\n", settings.growth_factor);
   tell(connection, "chunk_size", settings.chunk_least);
   tell(connection, "num_threads", (uint64_t)settings.threads);
-  tell_word(connection, "detail_enabled", "no");
+  connection_print(connection, "STAT stat_key_prefix %c\r\n", settings.prefix_delimiter);
+  tell_word(connection, "detail_enabled", yes_or_no(atomic_load(&prefixes_are_counted)));
   tell(connection, "reqs_per_event", (uint64_t)settings.requests_at_once);
   tell_word(connection, "cas_enabled", yes_or_no(settings.has_unique));
   tell(connection, "tcp_backlog", (uint64_t)settings.backlog);
@@ -261,7 +265,7 @@ static void tell_settings(struct connection *connection) {
   tell_word(connection, "hash_algorithm", "murmur3");
   tell_lists(connection);
   tell(connection, "read_buf_mem_limit", 0);
-  tell_word(connection, "track_sizes", "no");
+  tell_word(connection, "track_sizes", yes_or_no(atomic_load(&sizes_round) != 0));
   tell_word(connection, "ssl_enabled", "no");
   tell_word(connection, "memory_file", "(null)");
 }
@@ -493,11 +497,38 @@ static void dump(struct connection *connection, const struct words *words) {
   }
 }
 
+/* stats detail on|off|dump */
+static void detail(struct connection *connection, const struct words *words) {
+  const struct word *what = &words->word[2];
+  if (words->count > 2 && word_is(what, "dump")) {
+    connection_walk(connection, prefixes_tell, "END");
+  } else if (words->count > 2 && (word_is(what, "on") || word_is(what, "off"))) {
+    atomic_store(&prefixes_are_counted, word_is(what, "on"));
+    connection_say(connection, "OK");
+  } else {
+    connection_say(connection, "CLIENT_ERROR usage: stats detail on|off|dump");
+  }
+}
+
+static void enable_sizes(struct connection *connection) {
+  bool counted = sizes_begin();
+  tell_word(connection, "sizes_status", counted ? "enabled" : "error");
+  if (!counted) tell_word(connection, "sizes_error", "no_memory");
+}
+
+static void disable_sizes(struct connection *connection) {
+  sizes_end();
+  tell_word(connection, "sizes_status", "disabled");
+}
+
 /* What is told at once, and then END. false: it is something else. */
 static bool is_told(struct connection *connection, const struct words *words) {
   if (words->count == 1) tell_general(connection);
   else if (word_is(&words->word[1], "settings")) tell_settings(connection);
-  else if (word_is(&words->word[1], "sizes")) tell_word(connection, "sizes_status", "disabled");
+  else if (word_is(&words->word[1], "sizes_enable")) enable_sizes(connection);
+  else if (word_is(&words->word[1], "sizes_disable")) disable_sizes(connection);
+  else if (word_is(&words->word[1], "sizes") && atomic_load(&sizes_round) == 0)
+    tell_word(connection, "sizes_status", "disabled");
   else return false;
   connection_say(connection, "END");
   return true;
@@ -512,6 +543,7 @@ void statistics(struct connection *connection, struct words *words) {
   else if (word_is(what, "conns")) connection_walk(connection, network_tell, "END");
   else if (word_is(what, "cachedump")) dump(connection, words);
   else if (word_is(what, "reset")) reset(), connection_say(connection, "RESET");
-  else if (word_is(what, "detail")) connection_say(connection, "CLIENT_ERROR usage: stats detail on|off|dump");
+  else if (word_is(what, "sizes")) connection_walk(connection, sizes_tell, "END");
+  else if (word_is(what, "detail")) detail(connection, words);
   else connection_say(connection, "ERROR");
 }

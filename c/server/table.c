@@ -7,6 +7,7 @@
 #include <sys/random.h>
 #include <time.h>
 #include "memory.h"
+#include "sizes.h"
 
 /* The lower bits of a hash choose the stripe, those above the bucket. */
 enum { STRIPE_BITS = 12, STRIPES = 1 << STRIPE_BITS, BUCKETS_FIRST = 4 };
@@ -125,20 +126,21 @@ void table_name(struct item *item) {
   struct item **at = bucket_of(of, item->hash);
   item->next = *at;
   *at = item;
-  item->named = true;
+  item->named = (uint8_t)(1 + sizes_take_in(item));
   of->items++;
 }
 
 void table_take_out(struct item **at) {
   struct item *item = *at;
   *at = item->next;
-  item->named = false;
+  sizes_take_out(item, (uint8_t)(item->named - 1));
+  item->named = 0;
   stripe_of(item->hash)->items--;
 }
 
 bool table_forget(struct item *item) {
   table_lock(item->hash);
-  bool named = item->named;
+  bool named = item->named != 0;
   if (named) {
     struct item **at = bucket_of(stripe_of(item->hash), item->hash);
     while (*at != item) at = &(*at)->next;

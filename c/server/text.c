@@ -5,6 +5,7 @@
 #include <string.h>
 #include "clock.h"
 #include "keys.h"
+#include "prefixes.h"
 #include "protocol.h"
 #include "table.h"
 #include "values.h"
@@ -45,6 +46,7 @@ static bool put_item(struct connection *connection, struct item *item, bool tell
 static bool answer_key(struct connection *connection, const struct key *key, uint32_t now) {
   const struct asked_keys *keys = &connection->keys;
   struct item *item = key_fetch(connection->thread, key, now, keys->sets_expiry ? &keys->expires : NULL);
+  prefixes_count_get(key, item != NULL);
   if (item == NULL) return true;
   bool is_put = put_item(connection, item, keys->tells_unique);
   cache_release(connection->thread, item);
@@ -192,6 +194,7 @@ static void update(struct connection *connection, struct words *words, enum stor
   connection->storing.speaker = &SPEAKER;
   connection->storing.outdates = how == STORE_SET;
   struct key key = table_key(word[1].at, word[1].bytes);
+  prefixes_count(&key, PREFIX_SET);
   value_begin(connection, &key, flags, clock_expiry(expires, connection->thread->now), bytes);
 }
 
@@ -250,6 +253,7 @@ static void delete_key(struct connection *connection, struct words *words) {
     return;
   }
   struct key key = table_key(word[1].at, word[1].bytes);
+  prefixes_count(&key, PREFIX_DELETE);
   enum end_answer answer = key_end(connection->thread, &key, &(struct end_terms){ .command = "delete" });
   connection_say(connection, answer == END_DONE ? "DELETED" : "NOT_FOUND");
 }

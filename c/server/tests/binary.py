@@ -212,6 +212,9 @@ class BinaryChecks:
             names = [answer[3].decode() for answer in asked]
             if names != [*text.stats(what.decode()), ""] or any(answer[1] for answer in asked) or asked[-1][2:5] != (b"", b"", b""):
                 return f"stats {what}: {names[:5]} .. {names[-2:]}"
+        asked = [client.ask(request(STAT, b"detail " + what)) for what in (b"on", b"off", b"dump")]
+        if [[answer[1] for answer in answers] for answers in asked] != [[0], [0], [0] * len(asked[2])] or asked[2][-1][2:5] != (b"", b"", b""):
+            return f"stats detail: {asked}"
         for what in (b"conns", b"cachedump 1 1", b"detail"):
             if client.ask(request(STAT, what))[0][1:] != (*MISSED, 0, 7):
                 return f"stats {what} is told"

@@ -2,6 +2,7 @@
 import re
 import time
 
+from binary import DELETE, GET, SET, STAT, BinaryClient, flagged, request
 from c_checks import tell
 from client import Client
 from started import Server
@@ -68,6 +69,8 @@ class Told:
         self.check_dropped()
         self.check_connections()
         self.check_settings()
+        self.check_prefixes()
+        self.check_sizes()
 
     @staticmethod
     def counts(client):
@@ -185,13 +188,61 @@ class Told:
             tell("and none that ended", "" if sum(name.endswith(":addr") for name in client.stats("conns")) == 2 else "some are told still")
             tell("then it ends with nothing left", server.end())
 
+    def check_prefixes(self):
+        """stats detail: gets, hits, stores and deletions of each prefix, by each protocol; and the memory for them has a bound."""
+        with Server(self.program, "-m", 64, "-D", "/") as server:
+            client, wrong = Client(server.port), []
+            client.ask(b"set a/1 0 0 1\r\n1\r\nget a/1 a/2 b\r\ndelete a/3\r\nms b/1 1\r\n1\r\nmg b/1 v\r\nmd b/1\r\ntouch a/1 5\r\n")
+            BinaryClient(server.port).ask(request(SET, b"c/1", flagged(1), b"1"), request(GET, b"c/1"), request(DELETE, b"c/1"))
+            BinaryClient(server.port).ask(request(SET, b"c c/1", flagged(1), b"1"))
+            told = sorted(client.ask(b"stats detail dump\r\n").split(b"\r\n"))
+            if told != [b"", b"END", b"PREFIX a get 2 hit 1 set 1 del 1", b"PREFIX b get 1 hit 1 set 1 del 1", b"PREFIX c get 1 hit 1 set 1 del 1"]:
+                wrong.append(str(told))
+            binary = BinaryClient(server.port).ask(request(STAT, b"detail dump"))
+            if sorted(answer[4] for answer in binary) != [b"", *(line + b"\r\n" for line in told[2:])]:
+                wrong.append(f"by the binary protocol {binary}")
+            table = int(client.stats("bump")["bytes_of_table"])
+            for begin in range(0, 40_000, 1000):
+                client.ask(b"get" + b"".join(b" p%d/1" % i for i in range(begin, begin + 1000)) + b"\r\n")
+            lines, more = client.ask(b"stats detail dump\r\n").count(b"PREFIX p"), int(client.stats("bump")["bytes_of_table"]) - table
+            if not 10_000 < lines < 20_000 or not 900_000 < more <= 1 << 20:
+                wrong.append(f"{lines} of 40,000 prefixes are counted, by {more} bytes")
+            client.ask(b"stats reset\r\n")
+            if client.ask(b"stats detail dump\r\n") != b"END\r\n" or int(client.stats("bump")["bytes_of_table"]) >= table:
+                wrong.append("they aren't forgotten")
+            tell("stats detail tells what is asked of each prefix, up to a bound", "; ".join(wrong)[:600])
+            tell("then it ends with nothing left", server.end())
+
+    def check_sizes(self):
+        """stats sizes: items that are there, by steps of 32 bytes, of those that came since it counts."""
+        with Server(self.program, "-m", 64) as server:
+            client, steps = Client(server.port), []
+            def tell_sizes(request):
+                client.ask(request)
+                told = client.stats("sizes")
+                steps.append({int(size): int(count) for size, count in told.items()} if told.get("sizes_status") is None else told["sizes_status"])
+            tell_sizes(b"set before 0 0 100\r\n%s\r\n" % bytes(100))
+            tell_sizes(b"stats sizes_enable\r\n")
+            tell_sizes(b"".join(b"set k%d 0 0 %d\r\n%s\r\n" % (i, n, bytes(n)) for i, n in enumerate((1, 2, 100, 100, 5000, 900_000))))
+            tell_sizes(b"delete k2\r\ndelete before\r\nset k0 0 0 100\r\n%s\r\nmd k4 I\r\n" % bytes(100))
+            tell_sizes(b"stats sizes_disable\r\ndelete k1\r\n")
+            tell_sizes(b"stats sizes_enable\r\ndelete k3\r\nset k0 0 0 1\r\n1\r\n")
+            tell_sizes(b"flush_all\r\nlru_crawler crawl all\r\n")
+            wanted = ["disabled", {}, {64: 2, 192: 2, 5088: 1, 900064: 1}, {64: 1, 192: 2, 5088: 1, 900064: 1}, "disabled", {64: 1}, {}]
+            tell("stats sizes tells how many items have each size", "" if steps == wanted else str(steps))
+            tell("then it ends with nothing left", server.end())
+        with Server(self.program, "-o", "track_sizes") as server:
+            client = Client(server.port)
+            client.set(b"k", b"1")
+            tell("-o track_sizes counts from the start on", "" if client.stats("sizes") == {"64": "1"} else str(client.stats("sizes")))
+
     def check_settings(self):
         options = "-m 33 -c 99 -t 3 -b 55 -R 7 -I 2m -f 1.5 -n 56 -M -C -F -A -o".split() + ["hot_lru_pct=11,warm_lru_pct=22,hot_max_factor=0.3,warm_max_factor=1.5,"
                    "temporary_ttl=44,idle_timeout=66,slab_automove_ratio=0.7,slab_chunk_max=100000,no_lru_crawler,no_lru_maintainer"]
         with Server(self.program, *options) as server:
             told = Client(server.port).stats("settings")
             wanted = dict(maxbytes=33 << 20, maxconns=99, tcpport=server.port, udpport=0, inter="127.0.0.1", evictions="off", domain_socket="NULL", umask=700,
-                          shutdown_command="yes", growth_factor="1.50", chunk_size=56, num_threads=3, detail_enabled="no", reqs_per_event=7, cas_enabled="no",
+                          shutdown_command="yes", growth_factor="1.50", chunk_size=56, num_threads=3, detail_enabled="no", stat_key_prefix=":", reqs_per_event=7, cas_enabled="no",
                           tcp_backlog=55, item_size_max=2 << 20, slab_automove_ratio="0.70", slab_chunk_max=100000, lru_crawler="no", tail_repair_time=0,
                           flush_enabled="no", dump_enabled="yes", lru_maintainer_thread="no", hot_lru_pct=11, warm_lru_pct=22, hot_max_factor="0.30",
                           warm_max_factor="1.50", temp_lru="yes", temporary_ttl=44, idle_timeout=66, read_buf_mem_limit=0, track_sizes="no", ssl_enabled="no",
