@@ -9,7 +9,7 @@
  * items are evicted in one turn, unless more than an OWED_MOST-th of the memory would be owed then. */
 enum {
   PULLS_MOST = 500,
-  PULLS_WITH_LOCK = 50,
+  PULLS_WITH_LOCK = 10,
   TRIES = 5,
   EVICTIONS_MOST = 100000,
   EVICTED_WITH_LOCK = 10,
@@ -178,10 +178,10 @@ bool room_is_owed(void) { return settings.evicts && is_over(0); }
 static bool relieve(struct shelf *shelf, struct counters *counters, uint32_t now) {
   if (!shelf_is_open(shelf)) return false;
   int evicted = 0;
-  pthread_mutex_lock(&shelf->lock);
+  shelf_lock(shelf);
   shelf_reap(shelf);
   while (room_is_owed() && evicted < EVICTED_WITH_LOCK && shelf_evict(shelf, counters, now)) evicted++;
-  pthread_mutex_unlock(&shelf->lock);
+  shelf_unlock(shelf);
   return evicted > 0 || !is_over(0);
 }
 
@@ -226,12 +226,13 @@ static void note_age(struct shelf *shelf, uint32_t now) {
 uint32_t shelf_juggle(struct shelf *shelf, struct counters *counters, uint32_t now) {
   uint32_t moves = 0, more = PULLS_WITH_LOCK;
   while (more == PULLS_WITH_LOCK && moves < PULLS_MOST) {
-    pthread_mutex_lock(&shelf->lock);
+    shelf_lock(shelf);
     more = juggle(shelf, counters, now);
     moves += more;
     shelf_reap(shelf);
     note_age(shelf, now);
-    pthread_mutex_unlock(&shelf->lock);
+    shelf_unlock(shelf);
+    shelf_make_way(shelf);
   }
   return moves;
 }
@@ -258,10 +259,11 @@ uint32_t shelf_drain(struct shelf *shelf, uint32_t now) {
     struct shelf_lane *lane = &shelf->lane[thread];
     uint32_t before = applied;
     while (bump_lane_class(&lane->lane) != BUMP_NONE) {
-      pthread_mutex_lock(&shelf->lock);
+      shelf_lock(shelf);
       bump_ran_told ran = bump_apply_run_told(&shelf->book, &lane->lane, now, BUMP_MOST_CHUNKS);
       shelf_give_back(shelf, ran.chunks, ran.freed);
-      pthread_mutex_unlock(&shelf->lock);
+      shelf_unlock(shelf);
+      shelf_make_way(shelf);
       applied += ran.applied;
       if (ran.applied == 0) break;
     }
@@ -271,7 +273,7 @@ uint32_t shelf_drain(struct shelf *shelf, uint32_t now) {
 }
 
 uint32_t shelf_crawl(struct shelf *shelf, struct counters *counters, uint32_t from, uint32_t most, uint32_t now) {
-  pthread_mutex_lock(&shelf->lock);
+  shelf_lock(shelf);
   uint32_t chunk = from;
   for (; chunk < shelf->used && chunk - from < most; chunk++) {
     shelf->counts.crawler_items_checked++;
@@ -282,6 +284,7 @@ uint32_t shelf_crawl(struct shelf *shelf, struct counters *counters, uint32_t fr
     count(counters, COUNT_crawler_reclaimed, 1);
   }
   bool more = chunk < shelf->used;
-  pthread_mutex_unlock(&shelf->lock);
+  shelf_unlock(shelf);
+  shelf_make_way(shelf);
   return more ? chunk : BUMP_NONE;
 }

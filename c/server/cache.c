@@ -128,9 +128,9 @@ void cache_let_go(struct thread *thread, struct item *item, uint32_t number) {
 }
 
 static bool lacks_memory(struct shelf *shelf) {
-  pthread_mutex_lock(&shelf->lock);
+  shelf_lock(shelf);
   shelf->counts.outofmemory++;
-  pthread_mutex_unlock(&shelf->lock);
+  shelf_unlock(shelf);
   return false;
 }
 
@@ -271,7 +271,7 @@ enum store_answer cache_store(struct thread *thread, struct item *item, const st
   struct shelf *shelf = shelf_lock_for(item);
   if (!link_item(&thread->counters, shelf, item, now)) {
     shelf->counts.outofmemory++;
-    pthread_mutex_unlock(&shelf->lock);
+    shelf_unlock(shelf);
     item_free(item);
     return STORE_NO_MEMORY;
   }
@@ -280,7 +280,7 @@ enum store_answer cache_store(struct thread *thread, struct item *item, const st
   if (named.answer != STORE_DONE) shelf_end(shelf, linked);
   bool ends_here = named.old.generation != 0 && named.old.shelf == linked.shelf;
   if (ends_here) shelf_end(shelf, named.old);
-  pthread_mutex_unlock(&shelf->lock);
+  shelf_unlock(shelf);
   if (named.old.generation != 0 && !ends_here) shelf_end_item(named.old);
   return named.answer;
 }

@@ -13,7 +13,7 @@
 enum { PAUSE_LEAST = 1000000, PAUSE_FEW = 8000000, PAUSE_MOST = 100000000, MUCH = 64 };
 
 /* Chunks of a shelf that are looked at in one go, and in one round of a second. */
-enum { CRAWLED_WITH_LOCK = 200, CRAWLED_AT_ONCE = 5000 };
+enum { CRAWLED_WITH_LOCK = 50, CRAWLED_AT_ONCE = 5000 };
 
 /* How often it makes room in one round, before it looks at the rings again. */
 enum { PAYS_AT_ONCE = 20 };

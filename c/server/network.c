@@ -29,7 +29,8 @@ enum {
   ACCEPTS_AT_ONCE = 16,
   FAREWELL_MILLISECONDS = 1000,
   FILES_BESIDE = 1024, /* connections have numbers below theirs and that, or aren't told of */
-  TOLD_WITH_LOCK = 16
+  TOLD_WITH_LOCK = 16,
+  IDLE_AT_ONCE = 16
 };
 
 struct thread threads[THREADS_MOST + 2];
@@ -440,23 +441,26 @@ bool network_tell(struct connection *connection) {
   return walk->number == (uint32_t)seats;
 }
 
-/* A connection that did nothing for too long, and doesn't watch; NULL: there is none. */
-static struct connection *find_idle(struct thread *thread, uint32_t now) {
-  pthread_mutex_lock(&thread->lock);
-  struct connection *connection = thread->connections;
-  while (connection != NULL && (connection->is_yielded || connection->state == WATCHES ||
-                                clock_since(connection->active, now) <= (uint32_t)settings.idle_most))
-    connection = connection->next;
-  pthread_mutex_unlock(&thread->lock);
-  return connection;
+/* Whether it did nothing for too long, and doesn't watch. */
+static bool is_idle(const struct connection *connection, uint32_t now) {
+  return !connection->is_yielded && connection->state != WATCHES &&
+         clock_since(connection->active, now) > (uint32_t)settings.idle_most;
 }
 
-static void end_idle(struct thread *thread, uint32_t now) {
-  for (struct connection *connection; (connection = find_idle(thread, now)) != NULL;) {
+/* Ends some of those that are idle. Whether there may be more: others are served between. */
+static bool end_idle(struct thread *thread, uint32_t now) {
+  struct connection *idle[IDLE_AT_ONCE];
+  int found = 0;
+  pthread_mutex_lock(&thread->lock);
+  for (struct connection *at = thread->connections; at != NULL && found < IDLE_AT_ONCE; at = at->next)
+    if (is_idle(at, now)) idle[found++] = at;
+  pthread_mutex_unlock(&thread->lock);
+  for (int i = 0; i < found; i++) {
     count(&thread->counters, COUNT_idle_kicks, 1);
-    connection->closing = CLOSED_BY_IDLING;
-    end_connection(connection);
+    idle[i]->closing = CLOSED_BY_IDLING;
+    end_connection(idle[i]);
   }
+  return found == IDLE_AT_ONCE;
 }
 
 static int64_t milliseconds(void) {
@@ -485,9 +489,10 @@ void *network_serve(void *given) {
   struct epoll_event event[EVENTS_MOST];
   const int patience = settings.idle_most > 0 ? 1000 : -1;
   uint32_t looked = thread->now = clock_now();
+  bool are_idle = false;
   while (!atomic_load(&is_ending)) {
     bool is_woken = false;
-    int events = call_wait(thread->events, event, EVENTS_MOST, thread->yielded != NULL ? 0 : patience);
+    int events = call_wait(thread->events, event, EVENTS_MOST, thread->yielded != NULL || are_idle ? 0 : patience);
     thread->now = clock_now();
     for (int i = 0; i < events; i++) {
       struct connection *connection = event[i].data.ptr;
@@ -496,7 +501,7 @@ void *network_serve(void *given) {
     }
     if (is_woken) attend_watchers(thread);
     attend_yielded(thread);
-    if (settings.idle_most > 0 && thread->now != looked) end_idle(thread, looked = thread->now);
+    if (settings.idle_most > 0 && (are_idle || thread->now != looked)) are_idle = end_idle(thread, looked = thread->now);
   }
   farewell(thread);
   return NULL;

@@ -1,6 +1,8 @@
+#define _GNU_SOURCE
 #include "shelf.h"
 #include <stdlib.h>
 #include <string.h>
+#include <time.h>
 #include "clock.h"
 #include "memory.h"
 #include "network.h"
@@ -14,6 +16,7 @@ enum {
   RING = 1024,
   FREE_PART = 8, /* the next shelf is opened where less of all chunks is free */
   REFS_MOST = 65535,
+  RESTS_MOST = 10,
   CHUNK_BYTES = 48,
   PLACE_BYTES = 16 /* of a ring */
 };
@@ -139,15 +142,21 @@ static bool make(struct shelf *shelf) {
 /* Its own lock is all that whoever opens it has, and nobody else takes that before: so none of the others waits. */
 bool shelf_open(struct shelf *shelf) {
   if (shelf_is_open(shelf)) return true;
-  pthread_mutex_lock(&shelf->lock);
+  shelf_lock(shelf);
   bool open = shelf_is_open(shelf);
   if (!open && make(shelf)) {
     atomic_store(&shelf->is_open, true);
     atomic_store(&open_of[shelf->class], shelf->number + 1 - first_of[shelf->class]);
     open = true;
   }
-  pthread_mutex_unlock(&shelf->lock);
+  shelf_unlock(shelf);
   return open;
+}
+
+void shelf_make_way(const struct shelf *shelf) {
+  static const struct timespec WAY = { 0, 20000 };
+  for (int i = 0; i < RESTS_MOST && atomic_load_explicit(&shelf->waiting, memory_order_relaxed) > 0; i++)
+    nanosleep(&WAY, NULL);
 }
 
 uint64_t shelf_class_charged(uint32_t class) {
@@ -175,9 +184,9 @@ static struct shelf *unopened(uint32_t class) {
 static bool is_nearly_full(struct shelf *last) {
   uint64_t unused = 0;
   for (uint32_t number = first_of[last->class]; number <= last->number; number++) {
-    pthread_mutex_lock(&shelves[number].lock);
+    shelf_lock(&shelves[number]);
     unused += bump_size(&shelves[number].book, BUMP_PLACE_UNUSED);
-    pthread_mutex_unlock(&shelves[number].lock);
+    shelf_unlock(&shelves[number]);
   }
   return unused < (last->before + last->chunks) / FREE_PART;
 }
@@ -199,9 +208,9 @@ static bool has_chunk(struct shelf *shelf) {
 
 /* Locks a shelf if it has a free chunk. */
 static bool lock_with_chunk(struct shelf *shelf) {
-  pthread_mutex_lock(&shelf->lock);
+  shelf_lock(shelf);
   if (has_chunk(shelf)) return true;
-  pthread_mutex_unlock(&shelf->lock);
+  shelf_unlock(shelf);
   return false;
 }
 
@@ -264,9 +273,9 @@ void shelf_end(struct shelf *shelf, struct item_name name) {
 
 void shelf_end_item(struct item_name name) {
   struct shelf *shelf = shelf_at(name.shelf);
-  pthread_mutex_lock(&shelf->lock);
+  shelf_lock(shelf);
   shelf_end(shelf, name);
-  pthread_mutex_unlock(&shelf->lock);
+  shelf_unlock(shelf);
 }
 
 void shelf_reap(struct shelf *shelf) {

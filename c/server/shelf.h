@@ -68,6 +68,7 @@ struct shelf {
   struct shelf_reader *reader;
   struct shelf_lane *lane;
   alignas(64) pthread_mutex_t lock; /* of the book, and of what stands below it: a get needs none of it */
+  _Atomic uint32_t waiting;         /* for the lock */
   bump_book book;
   uint32_t used;      /* chunks from this one on were never linked */
   uint32_t crawled;   /* up to here, in this round */
@@ -120,6 +121,19 @@ static inline void reader_count_event(struct shelf_reader *reader, enum shelf_ev
 static inline void shelf_count_event(uint32_t number, uint32_t thread, enum shelf_event event) {
   reader_count_event(&shelf_at(number)->reader[thread], event);
 }
+
+/* Takes a shelf's lock, and gives it back. */
+static inline void shelf_lock(struct shelf *shelf) {
+  if (pthread_mutex_trylock(&shelf->lock) == 0) return;
+  atomic_fetch_add_explicit(&shelf->waiting, 1, memory_order_relaxed);
+  pthread_mutex_lock(&shelf->lock);
+  atomic_fetch_sub_explicit(&shelf->waiting, 1, memory_order_relaxed);
+}
+
+static inline void shelf_unlock(struct shelf *shelf) { pthread_mutex_unlock(&shelf->lock); }
+
+/* Rests while others wait for the lock: for who takes it again and again, since a mutex is nobody's in turn. */
+void shelf_make_way(const struct shelf *shelf);
 
 /* How often it was counted, by all threads; and how many items bumps brought to WARM, with the shelf's lock. */
 uint64_t shelf_counted(const struct shelf *shelf, enum shelf_event event);

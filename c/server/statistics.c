@@ -60,12 +60,12 @@ static void reset(void) {
   for (uint32_t number = 0; number < shelf_count(); number++) {
     struct shelf *shelf = shelf_at(number);
     if (!shelf_is_open(shelf)) continue;
-    pthread_mutex_lock(&shelf->lock);
+    shelf_lock(shelf);
     shelf->counts = (struct shelf_counts){ 0 };
     for (enum shelf_event event = 0; event < SHELF_EVENT_COUNT; event++)
       shelf->forgotten[event] = shelf_counted(shelf, event);
     shelf->forgotten_moves = shelf_moves(shelf);
-    pthread_mutex_unlock(&shelf->lock);
+    shelf_unlock(shelf);
   }
 }
 
@@ -102,11 +102,11 @@ static struct general_measure measure_all(void) {
   for (uint32_t number = 0; number < shelf_count(); number++) {
     struct shelf *shelf = shelf_at(number);
     if (!shelf_is_open(shelf)) continue;
-    pthread_mutex_lock(&shelf->lock);
+    shelf_lock(shelf);
     all.requested += shelf->requested;
     add_counts(&all.counts, &shelf->counts);
     all.counts.moves_to_warm += shelf_moves(shelf) - shelf->forgotten_moves;
-    pthread_mutex_unlock(&shelf->lock);
+    shelf_unlock(shelf);
     for (uint32_t thread = 0; thread < (uint32_t)settings.threads; thread++) {
       const struct shelf_reader *reader = &shelf->reader[thread];
       all.dropped += read_count(&reader->full) + read_count(&reader->busy) + read_count(&reader->refs);
@@ -292,7 +292,7 @@ static void add_ages(struct class_measure *to, struct shelf *shelf, uint32_t now
 
 static void add_shelf(struct class_measure *to, struct shelf *shelf) {
   to->is_open = true;
-  pthread_mutex_lock(&shelf->lock);
+  shelf_lock(shelf);
   for (uint32_t place = 0; place <= BUMP_PLACE_RETIRED; place++) to->size[place] += bump_size(&shelf->book, place);
   add_ages(to, shelf, clock_now());
   to->chunks += shelf->chunks;
@@ -301,7 +301,7 @@ static void add_shelf(struct class_measure *to, struct shelf *shelf) {
   to->counts.moves_to_warm += shelf_moves(shelf) - shelf->forgotten_moves;
   for (enum shelf_event event = 0; event < SHELF_EVENT_COUNT; event++)
     to->of[event] += shelf_counted(shelf, event) - shelf->forgotten[event];
-  pthread_mutex_unlock(&shelf->lock);
+  shelf_unlock(shelf);
   to->charged += atomic_load(&shelf->charged);
 }
 
@@ -420,9 +420,9 @@ static void add_bumps(struct bump_measure *to, struct shelf *shelf, uint32_t thr
   to->busy += read_count(&reader->busy);
   to->refs += read_count(&reader->refs);
   to->applied += read_count(&shelf->lane[thread].applied);
-  pthread_mutex_lock(&shelf->lock);
+  shelf_lock(shelf);
   to->moves += bump_moves(&shelf->book, thread);
-  pthread_mutex_unlock(&shelf->lock);
+  shelf_unlock(shelf);
 }
 
 static void tell_bumps_of_thread(struct connection *connection, uint32_t class, uint32_t thread) {

@@ -9,7 +9,7 @@
 #include "protocol.h"
 
 /* LISTED_MOST: memcached tells two megabytes at most. */
-enum { CRAWLED_WITH_LOCK = 100, DUMPED_WITH_LOCK = 50, LISTED_MOST = 20000 };
+enum { CRAWLED_WITH_LOCK = 25, DUMPED_WITH_LOCK = 50, LISTED_MOST = 20000 };
 
 /* The open shelf that a walk has come to, of a class that it is about; NULL: it is over. */
 static struct shelf *walked_shelf(struct walk *walk) {
@@ -65,14 +65,14 @@ static bool step_dump(struct connection *connection) {
   struct walk *walk = &connection->walk;
   struct shelf *shelf = walked_shelf(walk);
   if (shelf == NULL) return true;
-  pthread_mutex_lock(&shelf->lock);
+  shelf_lock(shelf);
   for (int i = 0; i < DUMPED_WITH_LOCK && walk->chunk < shelf->used; i++, walk->chunk++) {
     bump_seen seen = bump_see(&shelf->book, walk->chunk);
     if (seen.linked) dump_item(connection, shelf->class, &seen);
     connection->work -= WORK_LOOKED;
   }
   bool is_more = walk->chunk < shelf->used;
-  pthread_mutex_unlock(&shelf->lock);
+  shelf_unlock(shelf);
   if (!is_more) leave_shelf(walk);
   return false;
 }
@@ -126,9 +126,9 @@ static bool step_list(struct connection *connection) {
   struct walk *walk = &connection->walk;
   struct shelf *shelf = walked_shelf(walk);
   if (shelf == NULL || walk->left == 0) return true;
-  pthread_mutex_lock(&shelf->lock);
+  shelf_lock(shelf);
   bool is_more = list_some(connection, shelf, LISTS[walk->part]);
-  pthread_mutex_unlock(&shelf->lock);
+  shelf_unlock(shelf);
   connection->work -= WORK_KEY;
   if (is_more) return false;
   walk->count = 0;

@@ -10,11 +10,10 @@ from started import Server
 
 HERE = Path(__file__).resolve().parent
 ITEMS, HOLES = 500_000, 35_000
-# Milliseconds that the server works while a get waits: one that waits for the end of a long command lets it work for ten times that, and one
-# that waits for its turn for less than one. What a busy machine adds to the time of a get isn't the server's work; MOST_TIME is for a server
-# that sleeps. What is slow once isn't slow three times; what can be done once alone, in each of three servers, may take longer. MOST_STEP is for
-# what would take 24 of them at once.
-MOST, MOST_STEP, TRIES, MOST_ONCE, MOST_TIME = 25.0, 20.0, 3, 250.0, 2000.0
+# Milliseconds that the server works while a get waits: about one, where it waits for its turn, and hundreds, where it waits for the end of a
+# long command. What a busy machine adds to the time of a get isn't the server's work; MOST_TIME is for a server that sleeps. What is slow once
+# isn't slow three times; what can be done once alone is tried in each of three servers.
+MOST, TRIES, MOST_TIME = 3.0, 3, 2000.0
 
 
 class Watched:
@@ -34,8 +33,8 @@ class Watched:
         told = self.process.communicate()[0].split()
         self.count, self.slowest, self.work = (int(told[0]), int(told[1]) / 1000, int(told[2]) / 1000) if len(told) == 3 else (0, float("inf"), float("inf"))
 
-    def is_slow(self, most):
-        return self.work > most or self.slowest > MOST_TIME
+    def is_slow(self):
+        return self.work > MOST or self.slowest > MOST_TIME
 
 
 def ask_much(client, request):
@@ -58,15 +57,16 @@ class Turns:
                 first = self.watched(server, lambda: self.store_each_class(client))
                 small = self.memory(server)
                 many = self.watched(server, lambda: self.store_many(client))
-                if left > 0 and (first.is_slow(MOST_ONCE) or many.is_slow(MOST_ONCE)):
+                if left > 0 and (first.is_slow() or many.is_slow()):
                     continue
-                self.tell_watched("each class has its first item", first, MOST_ONCE)
+                self.tell_watched("each class has its first item", first)
                 tell("then the process takes less than 50 megabytes", "" if small < 50 else f"{small:.0f}")
-                self.tell_watched(f"{ITEMS} items are stored", many, MOST_ONCE)
+                self.tell_watched(f"{ITEMS} items are stored", many)
                 self.check_further(server, client)
                 break
         self.check_room()
-        self.check_pages()
+        for megabytes, holes in ((400, HOLES), (48, 4000)):
+            self.check_pages(megabytes, holes)
 
     def check_further(self, server, client):
         """Of a server that has many items."""
@@ -76,7 +76,13 @@ class Turns:
         tell("then it ends with nothing left", server.end())
 
     def served(self, *options):
-        return Server(self.program, "-t", 1, *options, before=["nice", "-n", "-10"], environment={"BUMP_SERVER_DEBUGTIME": "1"})
+        """One that has the processors before others, as far as the system lets: what else that does isn't what is measured."""
+        server = Server(self.program, "-t", 1, *options, before=["setsid", "nice", "-n", "-10"], environment={"BUMP_SERVER_DEBUGTIME": "1"})
+        try:
+            Path(f"/proc/{server.process.pid}/autogroup").write_text("-20")
+        except OSError:
+            pass
+        return server
 
     @staticmethod
     def memory(server):
@@ -106,16 +112,16 @@ class Turns:
             watched.wrong = do()
         return watched
 
-    def watch(self, server, name, do, *length, most=MOST):
+    def watch(self, server, name, do, *length):
         for _ in range(TRIES):
             watched = self.watched(server, do, *length)
-            if watched.wrong or not watched.is_slow(most):
+            if watched.wrong or not watched.is_slow():
                 break
-        self.tell_watched(name, watched, most)
+        self.tell_watched(name, watched)
 
     @staticmethod
-    def tell_watched(name, watched, most):
-        wrong = watched.wrong or (f"more than {most:.0f} ms of work" if watched.is_slow(most) else "")
+    def tell_watched(name, watched):
+        wrong = watched.wrong or (f"more than {MOST:.0f} ms of work" if watched.is_slow() else "")
         tell(f"{name}: meanwhile the server worked {watched.work:.1f} ms at most in one of {watched.count} requests of another client, the slowest took "
              f"{watched.slowest:.1f} ms", wrong)
 
@@ -180,17 +186,21 @@ class Turns:
             tell("then memory isn't exceeded", "" if int(stats["bytes"]) <= 32 << 20 and stats["evictions"] != "0" else f"{stats['bytes']} bytes")
             tell("then it ends with nothing left", server.end())
 
-    def check_pages(self):
+    def check_pages(self, megabytes, holes):
         """Values that go leave free pages between others that stay. They go back: a store that wants memory doesn't wait for all of them."""
-        with self.served("-m", 400) as server:
+        with self.served("-m", megabytes) as server:
             client = Client(server.port, 300)
-            for begin in range(0, HOLES, 1000):
+            for begin in range(0, holes, 1000):
                 client.socket.sendall(b"".join(b"set h%d 0 0 9000 noreply\r\n%s\r\nset s%d 0 0 1000 noreply\r\n%s\r\n" %
                                                (i, bytes(9000), i, bytes(1000)) for i in range(begin, begin + 1000)))
-            client.ask(b"".join(b"delete h%d noreply\r\n" % i for i in range(HOLES)))
-            self.watch(server, f"pages go back from {HOLES} places", lambda: self.room_faults(client, 300), 500, most=MOST_STEP)
+            client.ask(b"".join(b"delete h%d noreply\r\n" % i for i in range(holes)))
+            self.watch(server, f"pages go back from {holes} places", lambda: self.room_faults(client, 300), 500)
+            most = megabytes * 1.049 * 1.15
+            for _ in range(40):  # where small values stay between the places, they go, too: half as much as is still too much, again and again
+                if self.memory(server) > most:
+                    self.room_faults(client, 100)
             has = self.memory(server)
-            tell("then the process takes no more than that", "" if has < 400 * 1.05 * 1.3 else f"{has:.0f} megabytes")
+            tell("then the process takes no more than that", "" if has < most else f"{has:.0f} megabytes")
             tell("then it ends with nothing left", server.end())
 
     @staticmethod
