@@ -41,6 +41,17 @@ bool buffer_make_more_room(struct buffer *buffer, size_t bytes) {
   return buffer->end + bytes <= buffer->room || widen(buffer, buffer->end + bytes);
 }
 
+bool buffer_shrink(struct buffer *buffer) {
+  if (buffer->room <= BUFFER_PART) return false;
+  char *less = realloc(buffer->at, block_bytes(buffer->room - BUFFER_PART));
+  if (less == NULL) return false;
+  memory_give(MEMORY_connections, BUFFER_PART);
+  buffer->at = less;
+  buffer->room -= BUFFER_PART;
+  buffer->begin = buffer->end = 0;
+  return true;
+}
+
 void buffer_free(struct buffer *buffer) { free_block(buffer->at, buffer->room); }
 
 void buffers_free(struct thread *thread) {

@@ -18,6 +18,9 @@ struct buffer {
  * there is a bound for all of them together. */
 enum { BUFFER_FIRST = 1 << 14, BUFFER_SMALL_MOST = 1 << 16 };
 
+/* What goes back of a larger one at once: the system takes a millisecond for ten of these. */
+enum { BUFFER_PART = 1 << 20 };
+
 static inline size_t buffer_size(const struct buffer *buffer) { return buffer->end - buffer->begin; }
 
 /* Room for so many bytes behind what is in it, and for a 0 behind them. false: no memory, or all buffers together have
@@ -31,6 +34,9 @@ static inline bool buffer_make_room(struct thread *thread, struct buffer *buffer
   buffer->room = BUFFER_FIRST;
   return true;
 }
+
+/* Gives back a part of a large block in which nothing is. false: it isn't large. */
+bool buffer_shrink(struct buffer *buffer);
 
 /* Gives back the memory, with what is in it: to the thread, or where that has enough to the system. */
 void buffer_free(struct buffer *buffer);
