@@ -40,7 +40,7 @@ char *block_new(size_t bytes) {
   return begin(malloc(bytes), bytes, false);
 }
 
-/* A block of another kind, or of the heap: what is in it is copied, which is less than MEMORY_MAPPED_LEAST mostly. */
+/* From the heap to a mapping: what is in it is copied. */
 static char *replace(char *block, size_t bytes) {
   char *other = block_new(bytes);
   size_t had = head_of(block)->bytes - sizeof(struct head);
@@ -52,8 +52,9 @@ static char *replace(char *block, size_t bytes) {
 
 char *block_grow(char *block, size_t bytes) {
   struct head *head = head_of(block);
+  size_t all = bytes + sizeof *head, pages = whole_pages(all);
+  if (!head->is_mapped && all < MEMORY_MAPPED_LEAST) return begin(realloc(head, all), all, false);
   if (!head->is_mapped) return replace(block, bytes);
-  size_t pages = whole_pages(bytes + sizeof *head);
   void *at = mremap(head, head->bytes, pages, MREMAP_MAYMOVE);
   return at != MAP_FAILED ? begin(at, pages, true) : NULL;
 }

@@ -40,8 +40,8 @@ static enum received receive_to(struct connection *connection, char *at, size_t 
 /* Room behind what was received. false: no memory, or too long a line. */
 static bool make_room(struct connection *connection) {
   struct buffer *in = &connection->in;
-  if (buffer_size(in) == 0 && in->room > BUFFER_SMALL_MOST && !buffer_shrink(in))
-    buffer_give_back(connection->thread, in);
+  bool is_large = buffer_size(in) == 0 && in->room > BUFFER_SMALL_MOST;
+  if (is_large && !buffer_shrink(in)) buffer_give_back(connection->thread, in);
   if (buffer_size(in) == 0) in->begin = in->end = 0;
   return buffer_size(in) <= LINE_MOST && buffer_make_room(connection->thread, in, RECEIVE_LEAST);
 }
@@ -182,9 +182,10 @@ static bool step_on(struct connection *connection, int *requests) {
 /* It waits for its client: what it doesn't need meanwhile goes back. Keys that are to be answered stand in what was
  * received, though it is done with. Whether there is more, of so large a block that others have their turn before. */
 static bool give_back(struct connection *connection) {
-  if (connection->state >= CHECKS_KEYS || buffer_size(&connection->in) > 0) return false;
-  if (buffer_shrink(&connection->in)) return true;
-  buffer_give_back(connection->thread, &connection->in);
+  struct buffer *in = &connection->in;
+  if (connection->state >= CHECKS_KEYS || buffer_size(in) > 0) return false;
+  if (in->room > BUFFER_PART && buffer_shrink(in)) return true;
+  buffer_give_back(connection->thread, in);
   return false;
 }
 

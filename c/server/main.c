@@ -124,6 +124,7 @@ int main(int count, char **words) {
     shelves_free();
     table_free();
     network_free();
+    prefixes_forget();
   }
   process_forget_number();
   return status;

@@ -16,8 +16,9 @@ static inline void prefixes_count(const struct key *key, enum prefix_event event
 }
 
 static inline void prefixes_count_get(const struct key *key, bool is_hit) {
-  prefixes_count(key, PREFIX_GET);
-  if (is_hit) prefixes_count(key, PREFIX_HIT);
+  if (!atomic_load_explicit(&prefixes_are_counted, memory_order_relaxed)) return;
+  prefixes_note(key, PREFIX_GET);
+  if (is_hit) prefixes_note(key, PREFIX_HIT);
 }
 
 /* Forgets all of them. */
