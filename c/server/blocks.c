@@ -15,6 +15,14 @@ struct head {
   bool is_mapped;
 };
 
+/* The sanitizer of threads doesn't see mremap: it would take what another thread has at the old place later for this
+ * block. So there it is copied. */
+#ifdef __SANITIZE_THREAD__
+enum { MAPPINGS_GROW = false };
+#else
+enum { MAPPINGS_GROW = true };
+#endif
+
 static struct head *head_of(char *block) { return (struct head *)(void *)block - 1; }
 
 static size_t whole_pages(size_t bytes) {
@@ -40,7 +48,7 @@ char *block_new(size_t bytes) {
   return begin(malloc(bytes), bytes, false);
 }
 
-/* From the heap to a mapping: what is in it is copied. */
+/* To another mapping, mostly from the heap: what is in it is copied. */
 static char *replace(char *block, size_t bytes) {
   char *other = block_new(bytes);
   size_t had = head_of(block)->bytes - sizeof(struct head);
@@ -54,7 +62,7 @@ char *block_grow(char *block, size_t bytes) {
   struct head *head = head_of(block);
   size_t all = bytes + sizeof *head, pages = whole_pages(all);
   if (!head->is_mapped && all < MEMORY_MAPPED_LEAST) return begin(realloc(head, all), all, false);
-  if (!head->is_mapped) return replace(block, bytes);
+  if (!head->is_mapped || !MAPPINGS_GROW) return replace(block, bytes);
   void *at = mremap(head, head->bytes, pages, MREMAP_MAYMOVE);
   return at != MAP_FAILED ? begin(at, pages, true) : NULL;
 }

@@ -37,6 +37,25 @@ def store(client, name, sizes, amount):
     client.ask(b"")
 
 
+def ask_three_sizes(client, keys, rounds):
+    """Which part of a hundred gets hits, by the size of values, in the second half of rounds of 50 gets: of keys as many are of each size whatever
+    their share of the gets is, and what misses is stored."""
+    sizes, draw = [100, 10_000, 100, 10_000, 900_000], random.Random(5)
+    shares = list(itertools.accumulate((i + 1) ** -0.9 for i in range(keys)))
+    order, hits, gets = draw.sample(range(keys), keys), dict.fromkeys(sizes, 0), dict.fromkeys(sizes, 0)
+    for number in range(rounds):
+        asked = [order[bisect.bisect(shares, draw.random() * shares[-1])] for _ in range(50)]
+        answers = client.ask(b"".join(b"mg k%d s\r\n" % key for key in asked)).split(b"\r\n")
+        for key, answer in zip(asked, answers):
+            size = sizes[key % len(sizes)]
+            if number >= rounds // 2:
+                gets[size] += 1
+                hits[size] += answer.startswith(b"HD")
+            if not answer.startswith(b"HD"):
+                client.socket.sendall(b"set k%d 0 0 %d noreply\r\n%s\r\n" % (key, size, bytes(size)))
+    return {size: 100 * hits[size] / gets[size] for size in hits}
+
+
 class Memory:
     def check_memory(self):
         self.check_mixes()
@@ -73,22 +92,8 @@ class Memory:
 
     def check_three_sizes(self):
         """Keys of three sizes that are asked for as often: large values don't take the room of all small ones."""
-        sizes, keys, draw = [100, 10_000, 100, 10_000, 900_000], 4000, random.Random(5)
-        shares = list(itertools.accumulate((i + 1) ** -0.9 for i in range(keys)))
-        order, hits, gets = draw.sample(range(keys), keys), dict.fromkeys(sizes, 0), dict.fromkeys(sizes, 0)
         with Server(self.program, "-m", 64) as server:
-            client = Client(server.port)
-            for round_of in range(160):
-                asked = [order[bisect.bisect(shares, draw.random() * shares[-1])] for _ in range(50)]
-                answers = client.ask(b"".join(b"mg k%d s\r\n" % key for key in asked)).split(b"\r\n")
-                for key, answer in zip(asked, answers):
-                    size = sizes[key % len(sizes)]
-                    if round_of >= 80:
-                        gets[size] += 1
-                        hits[size] += answer.startswith(b"HD")
-                    if not answer.startswith(b"HD"):
-                        client.socket.sendall(b"set k%d 0 0 %d noreply\r\n%s\r\n" % (key, size, bytes(size)))
-            rates = {size: 100 * hits[size] / gets[size] for size in hits}
+            rates = ask_three_sizes(Client(server.port), 4000, 160)
             told = ", ".join(f"{size} bytes {rate:.0f} %" for size, rate in rates.items())
             right = rates[100] > 60 and rates[10_000] > 40 and rates[900_000] > 20
             tell(f"three sizes in one load hit: {told}", "" if right else "too few")
