@@ -76,7 +76,7 @@ def binary_session(chance):
                                chance.getrandbits(16), chance.choice([0, 1, 5, 12, 28, 300, 2**31, 2**32 - 1]), chance.getrandbits(32), chance.getrandbits(64))
             session.append(head + chance.randbytes(chance.choice([0, 5, 40, 300])))
         elif chance.randrange(30) == 0:
-            session.append(request(binary.STAT, chance.choice([b"", b"settings", b"items", b"slabs", b"conns", b"detail on", b"\0\0"])))
+            session.append(request(binary.STAT, chance.choice([b"", b"settings", b"items", b"slabs", b"conns", b"detail on", b"detail dump", b"sizes_enable", b"sizes_disable", b"sizes", b"\0\0"])))
         else:
             session.append(right_request(chance))
     return b"".join(session)
