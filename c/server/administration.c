@@ -179,6 +179,7 @@ static uint32_t kind_named(const struct word *word) {
   if (word_is(word, "mutations")) return WATCHED_MUTATIONS;
   if (word_is(word, "connevents")) return WATCHED_CONNECTIONS;
   if (word_is(word, "rawcmds")) return WATCHED_RAW_COMMANDS;
+  if (word_is(word, "sysevents")) return WATCHED_SYSTEM;
   return word_is(word, "deletions") ? WATCHED_DELETIONS : 0;
 }
 

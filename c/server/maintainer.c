@@ -7,6 +7,7 @@
 #include "clock.h"
 #include "memory.h"
 #include "thread.h"
+#include "watchers.h"
 
 /* It sleeps for a millisecond while there is MUCH to do: bumps, moves of items. While there is less it sleeps longer
  * and longer, up to PAUSE_FEW, and while there is nothing up to PAUSE_MOST. */
@@ -25,12 +26,25 @@ struct maintainer_rounds maintainer_rounds(void) {
   return (struct maintainer_rounds){ atomic_load(&juggles), atomic_load(&crawls) };
 }
 
+/* Looks at some chunks. Whether a round is over. */
+static bool crawl_some(struct shelf *shelf, struct counters *counters, uint32_t now) {
+  struct crawled *crawled = &shelf->crawled;
+  uint64_t examined = counted(counters, COUNT_crawler_items_checked);
+  uint64_t reclaimed = counted(counters, COUNT_crawler_reclaimed);
+  if (crawled->begins == 0) *crawled = (struct crawled){ .begins = now };
+  uint32_t next = shelf_crawl(shelf, counters, shelf->crawled_to, CRAWLED_WITH_LOCK, now);
+  shelf->crawled_to = next == BUMP_NONE ? 0 : next;
+  crawled->examined += counted(counters, COUNT_crawler_items_checked) - examined;
+  crawled->reclaimed += counted(counters, COUNT_crawler_reclaimed) - reclaimed;
+  return next == BUMP_NONE;
+}
+
 /* Goes on with looking for expired items, from where it stopped in the second before. */
 static void crawl(struct shelf *shelf, struct counters *counters, uint32_t now) {
   for (uint32_t looked = 0; looked < CRAWLED_AT_ONCE; looked += CRAWLED_WITH_LOCK) {
-    uint32_t next = shelf_crawl(shelf, counters, shelf->crawled, CRAWLED_WITH_LOCK, now);
-    shelf->crawled = next == BUMP_NONE ? 0 : next;
-    if (next != BUMP_NONE) continue;
+    if (!crawl_some(shelf, counters, now)) continue;
+    watchers_tell_crawl(shelf->class, &shelf->crawled, now);
+    shelf->crawled.begins = 0;
     atomic_fetch_add(&crawls, 1);
     return;
   }

@@ -19,6 +19,12 @@
 #include "counters.h"
 #include "item.h"
 
+/* What the maintainer found in all chunks of a shelf, as it looked for expired items: since when, and how many. */
+struct crawled {
+  uint32_t begins; /* a tick; 0: it begins with the next one */
+  uint64_t examined, reclaimed;
+};
+
 /* What `stats items` tells, by its names. */
 struct shelf_counts {
   uint64_t evicted, evicted_nonzero, evicted_time, evicted_unfetched, evicted_active, outofmemory, reclaimed;
@@ -71,7 +77,8 @@ struct shelf {
   _Atomic uint32_t waiting;         /* for the lock */
   bump_book book;
   uint32_t used;      /* chunks from this one on were never linked */
-  uint32_t crawled;   /* up to here, in this round */
+  uint32_t crawled_to; /* up to here, in this round of the maintainer's */
+  struct crawled crawled;
   uint64_t requested; /* bytes of items that aren't given back, as memcached reckons them */
   struct shelf_counts counts;
   uint64_t forgotten[SHELF_EVENT_COUNT]; /* what was counted when `stats reset` was asked for last */

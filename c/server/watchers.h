@@ -1,11 +1,12 @@
-/* Who watches: connections that asked by `watch` to be told of evictions, look-ups, stores, deletions, or of other
- * connections that come and go, as memcached tells of them. Whoever does one of these writes a line for each that
+/* Who watches: connections that asked by `watch` to be told of evictions, look-ups, stores, deletions, of other
+ * connections that come and go, or of looking for expired items, as memcached tells of them. Whoever does one of these writes a line for each that
  * watches it, and waits for nobody: who reads slowly loses lines, and is told how many. */
 #ifndef WATCHERS_H
 #define WATCHERS_H
 
 #include "cache.h"
 #include "connection.h"
+#include "shelf.h"
 
 /* What can be watched. Of raw commands nothing is told: in memcached neither. */
 enum watched {
@@ -14,7 +15,8 @@ enum watched {
   WATCHED_MUTATIONS = 4,
   WATCHED_DELETIONS = 8,
   WATCHED_CONNECTIONS = 16,
-  WATCHED_RAW_COMMANDS = 32
+  WATCHED_RAW_COMMANDS = 32,
+  WATCHED_SYSTEM = 64
 };
 
 /* All that somebody watches now. */
@@ -65,6 +67,9 @@ struct watched_store {
   uint32_t bytes;
 };
 void watchers_tell_store(const struct thread *thread, const struct watched_store *store, const char *status);
+
+/* All of a shelf's chunks were looked at for expired items. */
+void watchers_tell_crawl(uint32_t class, const struct crawled *crawled, uint32_t now);
 
 /* A connection that comes, or goes: then with why. */
 struct watched_connection {

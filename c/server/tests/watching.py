@@ -1,6 +1,7 @@
 """watch: what who watches is told, and that nobody waits for one that doesn't read."""
 import re
 import socket
+import time
 
 from c_checks import tell
 from client import Client
@@ -64,6 +65,7 @@ class WatchChecks:
             tell("then it ends with nothing left, while somebody watches", server.end())
         self.check_evictions()
         self.check_comings()
+        self.check_crawls()
         self.check_slow_watcher()
         with Server(self.program, "-W") as server:
             answer = Client(server.port).ask(b"watch\r\n")
@@ -76,7 +78,7 @@ class WatchChecks:
 
     def check_who_watches(self, server):
         client = Client(server.port)
-        answers = [client.ask(asked) for asked in (b"watch nothing\r\n", b"watch fetchers sysevents\r\n", b"mn\r\nwatch\r\n")]
+        answers = [client.ask(asked) for asked in (b"watch nothing\r\n", b"watch fetchers proxyevents\r\n", b"mn\r\nwatch\r\n")]
         watchers = [Watcher(server.port) for _ in range(20)]
         answers += [one.watch(b" evictions") for one in watchers]
         wanted = [b"ERROR\r\n"] * 2 + [b"MN\r\nERROR\r\n"] + [b"OK"] * 19 + [b"WATCHER_TOO_MANY log watcher limit reached"]
@@ -99,6 +101,25 @@ class WatchChecks:
             like = re.compile(HEAD + r"eviction key=e\d+ fetch=(no|yes) ttl=(-1|\d+) la=\d+ clsid=\d+ size=100000")
             right = 0 < before <= len(lines) <= after and all(like.fullmatch(line) for line in lines)
             tell(f"{len(lines)} evictions are told", "" if right else f"{before} to {after}: {lines[:3]}")
+            tell("then it ends with nothing left", server.end())
+
+    def check_crawls(self):
+        """A round of looking for expired items, by how many there were. The maintainer, which finds some at lists' ends before, is off."""
+        with Server(self.program, "-o", "no_lru_maintainer", environment={"BUMP_SERVER_DEBUGTIME": "1"}) as server:
+            client, watcher = Client(server.port), Watcher(server.port)
+            watcher.watch(b" sysevents fetchers")
+            for i in range(100):
+                client.set(b"k%d" % i, b"1", 30 if i < 70 else 0)
+            time.sleep(1.5)  # a round begins before they expire, or none began yet
+            client.ask(b"debugtime 31\r\n")
+            gone = self.wait_for(lambda: client.stats()["curr_items"] == "30")
+            time.sleep(0.5)
+            client.ask(b"get end\r\n")
+            lines = [line for line in watcher.lines_until("end") if "type=lru_crawler" in line]
+            like = re.compile(HEAD + r"lru_crawler crawler=1 lru=all low_mark=0 next_reclaims=0 since_run=\d+ next_run=1 elapsed=\d+ examined=\d+ reclaimed=(\d+)")
+            found = [like.fullmatch(line) for line in lines]
+            right = gone and all(found) and sum(int(one.group(1)) for one in found) == 70
+            tell(f"{len(lines)} rounds of looking for expired items are told", "" if right else f"{lines[:4]}")
             tell("then it ends with nothing left", server.end())
 
     def check_comings(self):
