@@ -140,6 +140,14 @@ def shown(answer):
 NUMBER = re.compile(rb"(VALUE \S+ \d+|VA) \d+( \S+)*\r\n(\d+) *\r\n")
 
 
+LONG_KEY = re.compile(rb"^ *(gets?|gats?|bget) [^\n]*[^ \n]{251}", re.M)
+
+
+def leveled(answer):
+    """Without what differs from server to server, or by when it is asked."""
+    return NUMBER.sub(rb"\1\2\r\n\3\r\n", re.sub(rb"(c)\d+|(VALUE \S+ \d+ \d+) \d+|\b(t|l)\d+", rb"\1\2\3", answer))
+
+
 class Beside:
     """The same requests to two servers."""
 
@@ -165,11 +173,41 @@ class Beside:
         for _ in range(rows):
             row = self.chance.choice(COMPARED)
             self.requests += 1
-            answers = [re.sub(rb"(c)\d+|(VALUE \S+ \d+ \d+) \d+|\b(t|l)\d+", rb"\1\2\3", client.ask(row.encode() + b"\r\n")) for client in clients]
-            answers = [NUMBER.sub(rb"\1\2\r\n\3\r\n", answer) for answer in answers]
+            answers = [leveled(client.ask(row.encode() + b"\r\n")) for client in clients]
             if answers[0] != answers[1]:
                 wrong.append(f"{row[:60]!r}: {answers[0][:80]} beside {answers[1][:80]}")
         return wrong
+
+    def compare_mutated(self, sessions):
+        """Sessions of such rows with faults in them, each by a connection of its own. Behind each come lines enough to end a value that isn't whole:
+        for memcached forgets answers where a connection ends in the midst of one. It does, too, where a key of a get is too long."""
+        wrong = []
+        for _ in range(sessions):
+            rows = self.chance.choices(COMPARED, k=self.chance.randrange(1, 20))
+            session = mutated(b"".join(row.encode() + b"\r\n" for row in rows), self.chance)
+            if LONG_KEY.search(session):
+                continue
+            self.requests += session.count(b"\n")
+            answers = [leveled(self.talk(port, session + b"\r\n" + b"mn\r\n" * 1500)) for port in self.ports]
+            if answers[0] != answers[1]:
+                at = next((i for i, (one, other) in enumerate(zip(*answers)) if one != other), min(map(len, answers)))
+                wrong.append(f"{session[:60]}..: {answers[0][at:at + 60]} beside {answers[1][at:at + 60]}")
+        return wrong
+
+    @staticmethod
+    def talk(port, session):
+        """All answers, up to the connection's end."""
+        parts = []
+        Client(port).ask(b"flush_all\r\n")
+        with socket.create_connection(("127.0.0.1", port), timeout=120) as link:
+            try:
+                link.sendall(session)
+                link.shutdown(socket.SHUT_WR)
+                while not parts or parts[-1]:
+                    parts.append(link.recv(1 << 16))
+            except (ConnectionResetError, BrokenPipeError):
+                pass  # the server closed it first
+        return b"".join(parts)
 
 
 # Without what differs by name in c/server/README.md, and what is asked of the server itself. Where a value is blanks alone, as z may be,
