@@ -501,7 +501,8 @@ void *network_serve(void *given) {
     }
     if (is_woken) attend_watchers(thread);
     attend_yielded(thread);
-    if (settings.idle_most > 0 && (are_idle || thread->now != looked)) are_idle = end_idle(thread, looked = thread->now);
+    if (settings.idle_most > 0 && (are_idle || thread->now != looked))
+      are_idle = end_idle(thread, looked = thread->now);
   }
   farewell(thread);
   return NULL;

@@ -229,6 +229,11 @@ static void tell_lists(struct connection *connection) {
 /* As memcached names them. */
 static const char *const PROTOCOLS[] = { "auto-negotiate", "ascii", "binary" };
 
+static void tell_details(struct connection *connection) {
+  connection_print(connection, "STAT stat_key_prefix %c\r\n", settings.prefix_delimiter);
+  tell_word(connection, "detail_enabled", yes_or_no(atomic_load(&prefixes_are_counted)));
+}
+
 static void tell_settings(struct connection *connection) {
   tell(connection, "maxbytes", atomic_load(&settings.memory));
   tell(connection, "maxconns", (uint64_t)settings.connections);
@@ -244,8 +249,7 @@ static void tell_settings(struct connection *connection) {
   connection_print(connection, "STAT growth_factor %.2f\r\n", settings.growth_factor);
   tell(connection, "chunk_size", settings.chunk_least);
   tell(connection, "num_threads", (uint64_t)settings.threads);
-  connection_print(connection, "STAT stat_key_prefix %c\r\n", settings.prefix_delimiter);
-  tell_word(connection, "detail_enabled", yes_or_no(atomic_load(&prefixes_are_counted)));
+  tell_details(connection);
   tell(connection, "reqs_per_event", (uint64_t)settings.requests_at_once);
   tell_word(connection, "cas_enabled", yes_or_no(settings.has_unique));
   tell(connection, "tcp_backlog", (uint64_t)settings.backlog);
