@@ -26,10 +26,12 @@ enum { NOT_ITEMS_PART = 2, CONNECTIONS_PART = 4, EXCEEDED_PART = 2, ITEMS_PART =
 
 /* Free pages are given back where at least a FREE_PART-th of -m is free. That takes at most one of PAUSE_TIMES parts of
  * the time, or of PRESSED_TIMES where it wasn't enough. */
-enum { FREE_PART = 16, PAUSE_TIMES = 32, PRESSED_TIMES = 8, PAUSE_LEAST = 100000000, SECOND = 1000000000 };
+enum { FREE_PART = 16, PASSED_PART = 32, PAUSE_TIMES = 32, PRESSED_TIMES = 8, PAUSE_LEAST = 100000000, SECOND = 1000000000 };
 
-/* Of what was counted since that wasn't enough, so much is let go in a look where it is. */
-enum { PRESSED_PART = 256 };
+/* What the process may have beyond -m, a BEYOND_PART-th of it, before items go though all was given back that could be;
+ * what of that is let go in a look where it has less; and where it was of no use, how many rounds pass before it is
+ * tried again, twice as many each time. */
+enum { BEYOND_PART = 8, STEEP_PART = 12, STEEP_TIMES = 2, PRESSED_PART = 256, SKIPS_MOST = 64 };
 
 /* Nanoseconds from one look to the next, which takes as long as some requests. */
 enum { LOOK_PAUSE = 5000000 };
@@ -40,7 +42,12 @@ static struct {
 } taken[MEMORY_KIND_COUNT];
 static _Atomic uint64_t now_resident, exceeded;
 static uint64_t at_start; /* what the process had before it had any of these */
-static uint64_t pressed;  /* the maintainer's */
+
+/* The maintainer's: what counts so that more items go, of that what came last, and what the process had before. */
+static struct {
+  uint64_t bytes, last, before;
+  uint32_t skips, skips_next;
+} pressed;
 
 static uint64_t least_of(uint64_t one, uint64_t other) { return one < other ? one : other; }
 
@@ -109,13 +116,29 @@ static bool has_free_pages(uint64_t all) {
   return memory_resident() >= known + all / FREE_PART;
 }
 
-/* What came free of large pages can't go back where something small stays in each of them. So where the process has too
- * much though all was given back that could be, items go, too: for half of it, as others come free with them. Whether
- * that is so. */
+static uint64_t most_pressed(uint64_t all) { return all + all / BEYOND_PART; }
+
+/* Whether what went since the last round was of no use: where small values lie in all pages, few of them free none. */
+static bool was_useless(uint64_t has) {
+  uint64_t fell = pressed.before > has ? pressed.before - has : 0;
+  return pressed.last > 0 && fell < pressed.last / 4;
+}
+
+/* Pages can't go back where something small stays in each of them. So where the process has too much though all was
+ * given back that could be, items go, too: for half of it, as others come free with them. Whether that is so. */
 static bool press(uint64_t all) {
-  uint64_t most = all + all / FREE_PART + at_start, has = memory_resident();
-  if (has <= most) return false;
-  pressed = least_of(pressed + (has - most) / 2, all / EXCEEDED_PART);
+  uint64_t has = memory_resident(), last = pressed.last;
+  bool is_useless = was_useless(has);
+  pressed.last = 0;
+  if (is_useless) {
+    pressed.bytes -= least_of(pressed.bytes, last);
+    pressed.skips = pressed.skips_next = (uint32_t)least_of(pressed.skips_next * 2 + 1, SKIPS_MOST);
+  }
+  if (pressed.skips > 0) return pressed.skips--, false;
+  if (has <= most_pressed(all)) return pressed.skips_next = 0, false;
+  pressed.last = (has - most_pressed(all)) / 2;
+  pressed.before = has;
+  pressed.bytes = least_of(pressed.bytes + pressed.last, all / EXCEEDED_PART);
   return true;
 }
 
@@ -141,7 +164,14 @@ static enum giving give_back_pages(uint64_t all, bool is_enough) {
   return GIVING_DONE;
 }
 
-/* How much is exceeded is known once free pages were given back. Until then a FREE_PART-th of -m is let pass, beside
+/* What the process has beyond a STEEP_PART-th counts STEEP_TIMES more: so it stays below that where values of one size
+ * come in place of others, and small ones don't fill the places of large ones. */
+static uint64_t steep(uint64_t all) {
+  uint64_t most = all + all / STEEP_PART;
+  return memory_resident() > most ? (memory_resident() - most) * STEEP_TIMES : 0;
+}
+
+/* How much is exceeded is known once free pages were given back. Until then a PASSED_PART-th of -m is let pass, beside
  * what was known before. */
 bool memory_look(void) {
   static uint64_t known;
@@ -155,9 +185,10 @@ bool memory_look(void) {
   giving = give_back_pages(all, memory_resident() <= may);
   uint64_t over = memory_resident() > may ? memory_resident() - may : 0;
   known = giving == GIVING_DONE ? over : least_of(known, over);
-  uint64_t counts = over > known + all / FREE_PART ? over - all / FREE_PART : known;
-  if (over == 0) pressed -= pressed / PRESSED_PART;
-  atomic_store_explicit(&exceeded, least_of(counts + pressed, all / EXCEEDED_PART), memory_order_relaxed);
+  uint64_t counts = over > known + all / PASSED_PART ? over - all / PASSED_PART : known;
+  if (memory_resident() < most_pressed(all)) pressed.bytes -= pressed.bytes / PRESSED_PART;
+  counts += pressed.bytes + steep(all);
+  atomic_store_explicit(&exceeded, least_of(counts, all / EXCEEDED_PART), memory_order_relaxed);
   return giving == GIVING_NOW;
 }
 
