@@ -22,16 +22,17 @@ enum { UNSORTED_MOST = 16, SORTING_BYTES = 60008 };
  * always stays for items. What is exceeded is what the process has beyond -m, a SPARE_PART-th of it, and what it had at
  * its start: since some memory always lies free between pieces. It doesn't grow less by itself when items are evicted.
  * But those that come take the places of those that went, and so it grows no more. */
-enum { NOT_ITEMS_PART = 2, CONNECTIONS_PART = 4, EXCEEDED_PART = 2, ITEMS_PART = 4, SPARE_PART = 50 };
+enum { NOT_ITEMS_PART = 2, CONNECTIONS_PART = 4, EXCEEDED_PART = 4, ITEMS_PART = 4, SPARE_PART = 50 };
 
 /* Free pages are given back where at least a FREE_PART-th of -m is free. That takes at most one of PAUSE_TIMES parts of
  * the time, or of PRESSED_TIMES where it wasn't enough. */
-enum { FREE_PART = 16, PASSED_PART = 32, PAUSE_TIMES = 32, PRESSED_TIMES = 8, PAUSE_LEAST = 100000000, SECOND = 1000000000 };
+enum { FREE_PART = 16, PASSED_PART = 32, PAUSE_TIMES = 32, PRESSED_TIMES = 8 };
+enum { PAUSE_LEAST = 100000000, SECOND = 1000000000 };
 
-/* What the process may have beyond -m, a BEYOND_PART-th of it, before items go though all was given back that could be;
- * what of that is let go in a look where it has less; and where it was of no use, how many rounds pass before it is
- * tried again, twice as many each time. */
-enum { BEYOND_PART = 8, STEEP_PART = 12, STEEP_TIMES = 2, PRESSED_PART = 256, SKIPS_MOST = 64 };
+/* Where the process has more than a BEYOND_PART-th beyond -m and what it began with, though all was given back that
+ * could be, items go. Of what counts for that, a part is let go in each look where it has less. And where it was of no
+ * use, some rounds pass before it is tried again, twice as many each time. */
+enum { BEYOND_PART = 12, PRESSED_PART = 256, SKIPS_MOST = 64 };
 
 /* Nanoseconds from one look to the next, which takes as long as some requests. */
 enum { LOOK_PAUSE = 5000000 };
@@ -116,7 +117,7 @@ static bool has_free_pages(uint64_t all) {
   return memory_resident() >= known + all / FREE_PART;
 }
 
-static uint64_t most_pressed(uint64_t all) { return all + all / BEYOND_PART; }
+static uint64_t most_pressed(uint64_t all) { return all + all / BEYOND_PART + at_start; }
 
 /* Whether what went since the last round was of no use: where small values lie in all pages, few of them free none. */
 static bool was_useless(uint64_t has) {
@@ -164,13 +165,6 @@ static enum giving give_back_pages(uint64_t all, bool is_enough) {
   return GIVING_DONE;
 }
 
-/* What the process has beyond a STEEP_PART-th counts STEEP_TIMES more: so it stays below that where values of one size
- * come in place of others, and small ones don't fill the places of large ones. */
-static uint64_t steep(uint64_t all) {
-  uint64_t most = all + all / STEEP_PART;
-  return memory_resident() > most ? (memory_resident() - most) * STEEP_TIMES : 0;
-}
-
 /* How much is exceeded is known once free pages were given back. Until then a PASSED_PART-th of -m is let pass, beside
  * what was known before. */
 bool memory_look(void) {
@@ -187,8 +181,8 @@ bool memory_look(void) {
   known = giving == GIVING_DONE ? over : least_of(known, over);
   uint64_t counts = over > known + all / PASSED_PART ? over - all / PASSED_PART : known;
   if (memory_resident() < most_pressed(all)) pressed.bytes -= pressed.bytes / PRESSED_PART;
-  counts += pressed.bytes + steep(all);
-  atomic_store_explicit(&exceeded, least_of(counts, all / EXCEEDED_PART), memory_order_relaxed);
+  counts = least_of(counts, all / EXCEEDED_PART) + pressed.bytes;
+  atomic_store_explicit(&exceeded, counts, memory_order_relaxed);
   return giving == GIVING_NOW;
 }
 

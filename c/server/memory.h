@@ -35,8 +35,8 @@ bool memory_look(void);
 uint64_t memory_resident(void);
 
 /* All that counts against -m: items; what else is taken, up to half of -m, and of that what connections take up to a
- * quarter; and what the process has beyond -m, up to half. Both together count up to three quarters: so there is always
- * room for items. */
+ * quarter; and what the process has beyond -m, up to a quarter, or half where nothing else helps. All but items counts
+ * up to three quarters: so there is always room for items. */
 uint64_t memory_used(void);
 
 /* Whether connections may take so much more for what they could do without: all together have a part of -m for that. */

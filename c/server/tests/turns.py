@@ -197,7 +197,7 @@ class Turns:
                                                (i, bytes(9000), i, bytes(1000)) for i in range(begin, begin + 1000)))
             client.ask(b"".join(b"delete h%d noreply\r\n" % i for i in range(holes)))
             self.watch(server, f"pages go back from {holes} places", lambda: self.room_faults(client, 300), 500)
-            most = megabytes * 1.049 * 1.15
+            most = megabytes * 1.049 * 1.2
             for _ in range(40):  # where small values stay between the places, they go, too: half as much as is still too much, again and again
                 if self.memory(server) > most:
                     self.room_faults(client, 100)
