@@ -292,7 +292,8 @@ static void read_environment(void) {
 void settings_read(int count, char **words) {
   int option;
   opterr = 0;
-  while ((option = getopt_long(count, words, "p:l:s:a:u:P:kdrLvU:B:SY:ZVhm:t:c:b:R:I:f:n:MCFAWXD:o:", LONG, NULL)) != -1)
+  const char *const letters = "p:l:s:a:u:P:kdrLvU:B:SY:ZVhm:t:c:b:R:I:f:n:MCFAWXD:o:";
+  while ((option = getopt_long(count, words, letters, LONG, NULL)) != -1)
     if (!read_place(option)) read_measure(option);
   if (optind < count) wrong(words[optind], "not an option");
   if (settings.hot_percent + settings.warm_percent > 80)

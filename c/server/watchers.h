@@ -1,6 +1,6 @@
 /* Who watches: connections that asked by `watch` to be told of evictions, look-ups, stores, deletions, of other
- * connections that come and go, or of looking for expired items, as memcached tells of them. Whoever does one of these writes a line for each that
- * watches it, and waits for nobody: who reads slowly loses lines, and is told how many. */
+ * connections that come and go, or of looks for expired items, as memcached tells of them. Whoever does one of these
+ * writes a line for each that watches it, and waits for nobody: who reads slowly loses lines, and is told how many. */
 #ifndef WATCHERS_H
 #define WATCHERS_H
 
