@@ -14,8 +14,8 @@ from started import Server
 
 MEGABYTE = 1 << 20
 # What the process may have: so much more than -m, and so much for each connection that is busy. With most loads it has a tenth more; where values
-# of 20 bytes come in place of larger ones, among which they lie, a sixth.
-FACTOR, BUSY = 1.2, 64 << 10
+# of 20 bytes come in place of larger ones, among which they lie, a sixth. Where the maintainer waits for a processor there is more for a moment.
+FACTOR, BUSY = 1.25, 64 << 10
 IDLE = 10_000
 
 

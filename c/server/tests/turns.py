@@ -11,9 +11,9 @@ from started import Server
 HERE = Path(__file__).resolve().parent
 ITEMS, HOLES = 500_000, 35_000
 # Milliseconds that the server works while a get waits: about one, where it waits for its turn, and hundreds, where it waits for the end of a
-# long command. What a busy machine adds to the time of a get isn't the server's work; MOST_TIME is for a server that sleeps. What is slow once
-# isn't slow three times; what can be done once alone is tried in each of three servers.
-MOST, TRIES, MOST_TIME = 4.0, 3, 2000.0
+# long command: MOST tells these two apart on a busy machine, too. What that adds to the time of a get isn't the server's work; MOST_TIME is for
+# a server that sleeps. What is slow once isn't slow three times; what can be done once alone is tried in each of three servers.
+MOST, TRIES, MOST_TIME = 12.0, 3, 2000.0
 
 
 class Watched:
