@@ -29,6 +29,28 @@ pub fn time_of(clock: &AtomicU64, stop: &AtomicBool) -> Option<u64> {
     }
 }
 
+/// Puts a value under a key, by whoever changes a cache: a loop that passes a changer on needs no invariant.
+pub fn put<N: Name + LogName, K: Packed, V: Packed, W: Wait>(
+    rt: &W,
+    cache: &Cache<N, K, V>,
+    changer: &mut Changer<N>,
+    entry: &Entry<K, V>,
+    now: u64,
+) -> Result<Put<K, V>, NoRoom<K, V>> {
+    cache.put(rt, &mut changer.me, &entry.key, &entry.value, now)
+}
+
+/// Ends the item of a key, so too.
+pub fn remove<N: Name + LogName, K: Packed, V: Packed, W: Wait>(
+    rt: &W,
+    cache: &Cache<N, K, V>,
+    changer: &mut Changer<N>,
+    key: &K,
+    now: u64,
+) -> Option<V> {
+    cache.remove(rt, &mut changer.me, key, now)
+}
+
 /// A cache that one thread has, with its readers.
 #[derive(Drop)]
 pub struct Stand<N: Name + LogName, K: Packed, V: Packed> {

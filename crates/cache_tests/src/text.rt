@@ -2,7 +2,7 @@
 
 ghost use Rattle.bump_cache.specs.Opening.{IsNamed};
 
-use crate::stands::{config_of, time_of};
+use crate::stands::{Entry, config_of, put, time_of};
 use bump_cache::{
     Bytes, Cache, CacheBlank, CacheReader, Changer, LogName, Name, Opened, ReaderCounts, open,
 };
@@ -113,7 +113,8 @@ fn run<N: Name + LogName + Send + Sync, R: Threads + Wait + Clock + Abort + Sync
     let mut changer = Changer::new(me);
     for (key, value) in [("fourteen bytes".as_bytes(), 14), (&[0, 255, 0], 3)] {
         let key = Bytes::new(key)?;
-        assert!(rt; cache.put(rt, &mut changer.me, &key, &value, 0).is_ok());
+        let entry = Entry { key, value };
+        assert!(rt; put(rt, &cache, &mut changer, &entry, 0).is_ok());
     }
     let Some(reader) = readers.first_mut() else {
         panic!(rt; "there is a reader")

@@ -3,7 +3,7 @@
 ghost use Rattle.bump_cache.specs.Opening.{IsNamed};
 
 use crate::model::adds_up;
-use crate::stands::{config_of, next, time_of};
+use crate::stands::{Entry, config_of, next, put, remove, time_of};
 use bump_cache::{
     Cache, CacheBlank, CacheConfig, CacheReader, Changer, LogName, Name, Opened, open,
 };
@@ -119,8 +119,11 @@ fn put_staying<N: Name + LogName, W: Wait>(
 ) -> u64 {
     let mut refused = 0u64;
     for key in 0..STAYING {
-        let put = cache.put(rt, &mut changer.me, &key, &value_of(key, 1), 0);
-        count(&mut refused, put.is_err());
+        let entry = Entry {
+            key,
+            value: value_of(key, 1),
+        };
+        count(&mut refused, put(rt, cache, changer, &entry, 0).is_err());
     }
     refused
 }
@@ -147,8 +150,11 @@ fn write<N: Name + LogName, W: Wait>(
         turn = turn.saturating_add(1);
         for key in [turn % STAYING, next_other(&mut seed)] {
             number = number.saturating_add(1);
-            let value = value_of(key, number);
-            match cache.put(rt, &mut changer.me, &key, &value, number) {
+            let entry = Entry {
+                key,
+                value: value_of(key, number),
+            };
+            match put(rt, cache, &mut changer, &entry, number) {
                 Ok(did) => {
                     let evicted = did.evicted.map(|lost| lost.key);
                     count(&mut wrote.evicted, evicted.is_some_and(|key| key < STAYING));
@@ -157,7 +163,7 @@ fn write<N: Name + LogName, W: Wait>(
             }
         }
         if turn % 3 == 0 {
-            cache.remove(rt, &mut changer.me, &next_other(&mut seed), number);
+            remove(rt, cache, &mut changer, &next_other(&mut seed), number);
         }
     }
     unreachable!()

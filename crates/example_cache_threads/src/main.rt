@@ -45,6 +45,16 @@ fn read<N: Name + LogName>(mut reader: CacheReader<N, u64, u64>) -> Gets {
     Gets { wrong, counted }
 }
 
+// Puts the key whose turn it is.
+fn put_next<N: Name + LogName, R: Wait>(
+    rt: &R,
+    cache: &Cache<N, u64, u64>,
+    changer: &mut Changer<N>,
+    now: u64,
+) {
+    let _ = cache.put(rt, &mut changer.me, &(now % KEYS), &now, now);
+}
+
 // The thread that puts: it puts the keys in turn, and tells the time, until the readers are done.
 fn write<N: Name + LogName, R: Wait>(
     rt: &R,
@@ -58,7 +68,7 @@ fn write<N: Name + LogName, R: Wait>(
         if done.load(Ordering::SeqCst) {
             return;
         }
-        let _ = cache.put(rt, &mut changer.me, &(now % KEYS), &now, now);
+        put_next(rt, cache, &mut changer, now);
         now = now.saturating_add(1);
         clock.store(now, Ordering::SeqCst);
     }
