@@ -208,10 +208,13 @@ class BinaryChecks:
         """The same names as by text, and an empty answer behind them."""
         text = Client(server.port)
         for what in (b"", b"settings", b"items", b"slabs", b"sizes", b"bump"):
-            asked = client.ask(request(STAT, what))
-            names = [answer[3].decode() for answer in asked]
-            if names != [*text.stats(what.decode()), ""] or any(answer[1] for answer in asked) or asked[-1][2:5] != (b"", b"", b""):
-                return f"stats {what}: {names[:5]} .. {names[-2:]}"
+            for _ in range(3):  # a class may come or go between the two
+                asked, by_text = client.ask(request(STAT, what)), [*text.stats(what.decode()), ""]
+                names = [answer[3].decode() for answer in asked]
+                if names == by_text:
+                    break
+            if names != by_text or any(answer[1] for answer in asked) or asked[-1][2:5] != (b"", b"", b""):
+                return f"stats {what}: {names[:5]} .. {names[-2:]}, by text {by_text[-2:]}"
         asked = [client.ask(request(STAT, b"detail " + what)) for what in (b"on", b"off", b"dump")]
         if [[answer[1] for answer in answers] for answers in asked] != [[0], [0], [0] * len(asked[2])] or asked[2][-1][2:5] != (b"", b"", b""):
             return f"stats detail: {asked}"
