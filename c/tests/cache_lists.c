@@ -31,7 +31,7 @@ static bool only_looks(bump_cache_part *p, const char *key, const char *value, u
 }
 
 /* What is evicted: of three items in COLD the first one; unless it is hit twice there, which a look doesn't do. What is
- * hit so is brought to WARM by the next put. */
+ * hit so is brought to WARM by the put, if it is COLD's last item, and else by the next tend. */
 static void evicts(const char *is_hit, const char *gone, const char *stays) {
   bump_cache_config config = config_of(3, 2, 1);
   config.hot = 0;
@@ -47,6 +47,7 @@ static void evicts(const char *is_hit, const char *gone, const char *stays) {
   HOLDS_THAT(bump_cache_put, put(p, "d", "v", 0, 5).evicted && has(p, "d", "v", 5) && has(p, "b", "v", 5));
   HOLDS_THAT(bump_cache_put, has(p, gone, NULL, 5) && has(p, stays, "v", 5));
   HOLDS_THAT(bump_cache_reader_counts, counted(r, is_hit ? 2 : 0, 0, 0));
+  bump_cache_tend(p, 6);
   bump_cache_stats_of s = bump_cache_stats(p);
   HOLDS_THAT(bump_cache_stats, s.evicted == 1 && s.evicted_unfetched == 1 && s.number_warm == (is_hit != NULL));
   HOLDS_THAT(bump_cache_get, gets_text(r, gone, NULL, 5) && gets_text(r, stays, "v", 5));
