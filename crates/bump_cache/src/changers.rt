@@ -5,8 +5,9 @@ use crate::states::CacheState;
 use bump_heads::Name;
 use call_log::{Caller, LogName};
 
-/// A caller that has a part, as who changes a cache needs one: the type says so. So a function that has a `Changer` states
-/// no `requires { 0 < me.parts }`, and a loop no invariant. A call takes its field: `cache.put(rt, &mut changer.me, ..)`.
+/// A caller that has a part, as who changes a cache needs one: the type says so. So a function that takes a `Changer`
+/// states no `requires { 0 < me.parts }`, and a loop that passes one on to it needs no invariant. A call takes its
+/// field: `cache.put(rt, &mut changer.me, ..)`.
 #[derive(Drop)]
 pub struct Changer<N: Name + LogName> {
     /// The caller.
