@@ -72,15 +72,27 @@ fn remove_all<N: Name + LogName, R: Wait>(
     ]
 }
 
+// Tends and sleeps until a flag is set.
+fn tend<N: Name + LogName, R: Wait + Clock>(
+    rt: &R,
+    cache: &Cache<N, Bytes<2>, u64>,
+    mut changer: Changer<N>,
+    done: &AtomicBool,
+) {
+    let clock = AtomicU64::new(2);
+    cache.tend_each(rt, &mut changer.me, rt, Duration::from_millis(1), || {
+        time_of(&clock, done)
+    });
+}
+
 // One thread tends and sleeps until the other, which removes, says that it is done.
 fn remove_beside_tends<N: Name + LogName + Send + Sync, R: Threads + Wait + Clock + Sync>(
     rt: &R,
     cache: &Cache<N, Bytes<2>, u64>,
     changer: Changer<N>,
-    mut tender: Changer<N>,
+    tender: Changer<N>,
 ) -> [Option<u64>; 5] {
     let done = AtomicBool::new(false);
-    let clock = AtomicU64::new(2);
     let (removed, ()) = thread::join(
         rt,
         || {
@@ -88,11 +100,7 @@ fn remove_beside_tends<N: Name + LogName + Send + Sync, R: Threads + Wait + Cloc
             done.store(true, Ordering::SeqCst);
             removed
         },
-        || {
-            cache.tend_each(rt, &mut tender.me, rt, Duration::from_millis(1), || {
-                time_of(&clock, &done)
-            });
-        },
+        || tend(rt, cache, tender, &done),
     );
     removed
 }
