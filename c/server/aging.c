@@ -174,15 +174,20 @@ static bool is_over(uint64_t part) {
 
 bool room_is_owed(void) { return settings.evicts && is_over(0); }
 
-/* Gives back what ended items still had, and where that isn't enough evicts some. Whether something came of it. */
+/* Gives back what ended items still had, and where that isn't enough evicts some. Whether something came of it: also
+ * where nothing was to be evicted then, though others may have taken since what came free. */
 static bool relieve(struct shelf *shelf, struct counters *counters, uint32_t now) {
   if (!shelf_is_open(shelf)) return false;
   int evicted = 0;
+  bool has_more = settings.evicts;
   shelf_lock(shelf);
   shelf_reap(shelf);
-  while (room_is_owed() && evicted < EVICTED_WITH_LOCK && shelf_evict(shelf, counters, now)) evicted++;
+  while (has_more && room_is_owed() && evicted < EVICTED_WITH_LOCK) {
+    has_more = shelf_evict(shelf, counters, now);
+    if (has_more) evicted++;
+  }
   shelf_unlock(shelf);
-  return evicted > 0 || !is_over(0);
+  return has_more || evicted > 0 || !is_over(0);
 }
 
 /* What speaks for evicting a shelf's next item: its age, and its size by the cube root. By ages alone a large value
