@@ -165,7 +165,7 @@ struct item *cache_begin_item(struct thread *thread, const struct key *key, uint
     count(&thread->counters, COUNT_malloc_fails, 1);
     return NULL;
   }
-  if (item_may_have(item, room) && has_room(thread, item)) return item;
+  if (item_may_begin(item, room) && has_room(thread, item)) return item;
   item_drop(item);
   return NULL;
 }
@@ -174,11 +174,12 @@ bool cache_waits_for_room(struct thread *thread, const struct item *item) {
   return room_is_owed() && room_make(&thread->counters, shelf_at(item->shelf), thread->now) && room_is_owed();
 }
 
-bool cache_grow_item(struct thread *thread, struct item *item, size_t room) {
-  if (!item_may_have(item, room) || !has_room(thread, item)) return false;
-  if (item_grow(item, room)) return true;
+enum grow_answer cache_grow_item(struct thread *thread, struct item *item, size_t room) {
+  if (!item_may_grow(item, room)) return GROW_LATER;
+  if (!has_room(thread, item)) return GROW_NO_MEMORY;
+  if (item_grow(item, room)) return GROW_DONE;
   count(&thread->counters, COUNT_malloc_fails, 1);
-  return false;
+  return GROW_NO_MEMORY;
 }
 
 bool cache_complete_item(struct thread *thread, struct item *item) {

@@ -56,8 +56,9 @@ struct item *cache_begin_item(struct thread *thread, const struct key *key, uint
 /* Whether room for more of its value is made later, in another turn: since others that were charged have none yet. */
 bool cache_waits_for_room(struct thread *thread, const struct item *item);
 
-/* Memory for more of its value. false: there is none. */
-bool cache_grow_item(struct thread *thread, struct item *item, size_t room);
+/* Memory for more of its value; or it waits for other values that are under way. */
+enum grow_answer { GROW_DONE, GROW_LATER, GROW_NO_MEMORY };
+enum grow_answer cache_grow_item(struct thread *thread, struct item *item, size_t room);
 
 /* Its value is all there, and it is an item as any other from now on. false: there is no room for it as that. */
 bool cache_complete_item(struct thread *thread, struct item *item);

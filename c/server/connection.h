@@ -46,6 +46,8 @@ struct storing {
   size_t received;   /* with the \r\n behind it, where that comes */
   size_t room;       /* for so much of it there is memory, with a \r\n behind */
   bool is_under_way; /* its item isn't complete */
+  bool waits;        /* for others under way to end: since this tick, or 0 */
+  uint32_t waits_since;
   bool outdates;     /* where it isn't stored, what the key has is out of date */
   struct store_terms terms;
   bool tells_unique;       /* of a meta set's answer: whether the number for cas is told, */
@@ -89,12 +91,12 @@ struct connection {
   struct thread *thread;
   struct connection *next, **previous; /* in the thread's list */
   struct connection *next_yielded;
+  uint32_t awaits; /* which events of its file, beside those of faults */
   enum connection_state state;
   enum closing closing; /* once it ends */
   bool ends;     /* once what is to be sent was sent */
   bool is_quiet; /* the command wants no reply */
-  bool waits_to_send;
-  bool is_yielded;
+  bool is_yielded; /* or parked */
   bool has_begun; /* something was received */
   bool is_binary; /* it speaks the binary protocol */
   struct buffer in;

@@ -198,7 +198,7 @@ static enum driven go_on(struct connection *connection, int *requests) {
     if (sent != SENT_ALL) return sent == SENT_SOME ? DRIVE_YIELDS : DRIVE_SENDS;
     if (connection->ends) return DRIVE_ENDS;
     if (!could_go_on || !has_more(connection)) return DRIVE_RECEIVES;
-    if (*requests <= 0 || connection->work <= 0) return DRIVE_YIELDS;
+    if (*requests <= 0 || connection->work <= 0) return connection->storing.waits ? DRIVE_PARKS : DRIVE_YIELDS;
   }
 }
 

@@ -9,6 +9,7 @@ enum driven {
   DRIVE_RECEIVES,
   DRIVE_SENDS,
   DRIVE_YIELDS, /* for nothing: it goes on when others had their turn */
+  DRIVE_PARKS,  /* for other values that are under way */
   DRIVE_ENDS
 };
 

@@ -15,10 +15,16 @@ static uint32_t size_of[CLASSES_MOST];
 static double weight_of[CLASSES_MOST];
 static uint32_t classes;
 
-/* What those are charged whose values are still to come; and the last number for cas. In a line of the processor's
- * cache of their own, as each store changes it, and each get reads what stands below. */
+/* Parts of the memory: as long as all values under way take no more than the one, each may grow; and new ones begin as
+ * long as they take no more than the other. */
+enum { GROWING_PART = 16, BEGINNING_PART = 8 };
+
+/* What those are charged whose values are still to come, the one of them that may grow whatever the others take, NULL
+ * for none, and the last number for cas. In a line of the processor's cache of their own, as each store changes it, and
+ * each get reads what stands below. */
 static struct {
   alignas(64) _Atomic uint64_t bytes;
+  _Atomic(struct item *) favoured;
   _Atomic uint64_t unique;
 } stored;
 
@@ -118,10 +124,12 @@ void item_free(struct item *item) {
   memory_free(item);
 }
 
-/* The share is a quarter of the memory, and one value of the greatest size: so that there is room for one whatever -I
- * says. */
-bool item_may_have(struct item *item, size_t room) {
-  uint64_t most = atomic_load_explicit(&settings.memory, memory_order_relaxed) / 4 + settings.item_most;
+static uint64_t part_of_memory(int part) {
+  return atomic_load_explicit(&settings.memory, memory_order_relaxed) / (uint64_t)part;
+}
+
+/* Charges an item that is under way for so much of its value, where all together are charged so much at most. */
+static bool charge_up_to(struct item *item, size_t room, uint64_t most) {
   uint32_t more = (uint32_t)(memory_of_block(item) + (item_is_apart(item) ? room : 0)) - item->charge;
   if (atomic_fetch_add_explicit(&stored.bytes, more, memory_order_relaxed) + more > most) {
     atomic_fetch_sub_explicit(&stored.bytes, more, memory_order_relaxed);
@@ -131,6 +139,28 @@ bool item_may_have(struct item *item, size_t room) {
   return true;
 }
 
+bool item_may_begin(struct item *item, size_t room) {
+  return charge_up_to(item, room, part_of_memory(BEGINNING_PART));
+}
+
+bool items_have_share(uint64_t bytes) { return items_under_way() + bytes <= part_of_memory(GROWING_PART); }
+
+bool items_may_grow(void) { return items_have_share(1) || atomic_load(&stored.favoured) == NULL; }
+
+/* Without the favoured one, values that have a part of the share each could wait for one another for ever. */
+bool item_may_grow(struct item *item, size_t room) {
+  if (charge_up_to(item, room, part_of_memory(GROWING_PART))) return true;
+  struct item *favoured = NULL;
+  bool is_favoured = atomic_compare_exchange_strong(&stored.favoured, &favoured, item) || favoured == item;
+  return is_favoured && charge_up_to(item, room, UINT64_MAX);
+}
+
+/* It isn't under way any more. */
+static void leave_share(struct item *item) {
+  atomic_fetch_sub_explicit(&stored.bytes, item->charge, memory_order_relaxed);
+  if (atomic_load(&stored.favoured) == item) atomic_store(&stored.favoured, NULL);
+}
+
 bool item_grow(struct item *item, size_t room) {
   char *value = block_grow(item->value, room);
   if (value != NULL) item->value = value;
@@ -138,12 +168,12 @@ bool item_grow(struct item *item, size_t room) {
 }
 
 void item_complete(struct item *item) {
-  atomic_fetch_sub_explicit(&stored.bytes, item->charge, memory_order_relaxed);
+  leave_share(item);
   charge(item, whole_charge(item) - item->charge);
 }
 
 void item_drop(struct item *item) {
-  atomic_fetch_sub_explicit(&stored.bytes, item->charge, memory_order_relaxed);
+  leave_share(item);
   item_free(item);
 }
 

@@ -78,8 +78,16 @@ void item_free(struct item *item);
 struct item *item_begin(const struct key *key, uint32_t flags, uint32_t expires, size_t bytes, size_t room);
 
 /* Charges such an item for so much of its value, and no more: so who says that much will come, and sends little, takes
- * little from the others. false: all that are under way have a share of the memory together, which is used up. */
-bool item_may_have(struct item *item, size_t room);
+ * little from the others. All that are under way have an eighth of the memory together. false: it is used up. */
+bool item_may_begin(struct item *item, size_t room);
+
+/* The same for more of its value: for that all have a sixteenth of the memory together, and one of them as much as it
+ * needs. false: it is to wait until others end. */
+bool item_may_grow(struct item *item, size_t room);
+
+/* Whether that sixteenth has so much left; and whether one that waits may go on by now. */
+bool items_have_share(uint64_t bytes);
+bool items_may_grow(void);
 
 /* Memory for more of its value, which it is charged for already. false: there is none. */
 bool item_grow(struct item *item, size_t room);

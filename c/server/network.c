@@ -20,6 +20,7 @@
 #include "connection.h"
 #include "drive.h"
 #include "memory.h"
+#include "values.h"
 #include "watchers.h"
 #include "words.h"
 
@@ -30,7 +31,8 @@ enum {
   FAREWELL_MILLISECONDS = 1000,
   FILES_BESIDE = 1024, /* connections have numbers below theirs and that, or aren't told of */
   TOLD_WITH_LOCK = 16,
-  IDLE_AT_ONCE = 16
+  IDLE_AT_ONCE = 16,
+  PARKED_MILLISECONDS = 2 /* from one look at those that are parked to the next */
 };
 
 struct thread threads[THREADS_MOST + 2];
@@ -228,6 +230,7 @@ static bool add_connection(struct connection *connection) {
   connection->next = thread->connections;
   if (connection->next != NULL) connection->next->previous = &connection->next;
   thread->connections = connection;
+  connection->awaits = event.events;
   bool added = epoll_ctl(thread->events, EPOLL_CTL_ADD, connection->file, &event) == 0;
   pthread_mutex_unlock(&thread->lock);
   return added;
@@ -321,26 +324,37 @@ bool network_prepare(struct thread *thread) {
 
 void network_wake(struct thread *thread) { eventfd_write(thread->wake, 1); }
 
-static void wait_for(struct connection *connection, bool to_send) {
-  if (connection->waits_to_send == to_send) return;
-  connection->waits_to_send = to_send;
-  struct epoll_event event = { .events = to_send ? EPOLLOUT : EPOLLIN, .data.ptr = connection };
+static void wait_for(struct connection *connection, uint32_t events) {
+  if (connection->awaits == events) return;
+  connection->awaits = events;
+  struct epoll_event event = { .events = events, .data.ptr = connection };
   epoll_ctl(connection->thread->events, EPOLL_CTL_MOD, connection->file, &event);
 }
 
-/* Puts a connection behind the others that have more to do. The ring is named by its last one. */
+/* Puts a connection behind the others of a ring, which is named by its last one. */
+static void put_behind(struct connection **last, struct connection *connection) {
+  connection->is_yielded = true;
+  if (*last == NULL) {
+    connection->next_yielded = connection;
+  } else {
+    connection->next_yielded = (*last)->next_yielded;
+    (*last)->next_yielded = connection;
+  }
+  *last = connection;
+}
+
+/* Others that have more to do go on before it. */
 static void yield_to_others(struct connection *connection) {
   struct thread *thread = connection->thread;
   count(&thread->counters, COUNT_conn_yields, 1);
   thread->now = clock_now(); /* turns take time */
-  connection->is_yielded = true;
-  if (thread->yielded == NULL) {
-    connection->next_yielded = connection;
-  } else {
-    connection->next_yielded = thread->yielded->next_yielded;
-    thread->yielded->next_yielded = connection;
-  }
-  thread->yielded = connection;
+  put_behind(&thread->yielded, connection);
+}
+
+/* What comes of its value stays in the socket meanwhile. */
+static void park(struct connection *connection) {
+  wait_for(connection, 0);
+  put_behind(&connection->thread->parked, connection);
 }
 
 static void note(struct connection *connection, int does) {
@@ -350,19 +364,20 @@ static void note(struct connection *connection, int does) {
 static void attend(struct connection *connection) {
   atomic_store_explicit(&connection->active, connection->thread->now, memory_order_relaxed);
   switch (drive(connection)) {
-    case DRIVE_RECEIVES: note(connection, DOES_WAIT), wait_for(connection, false); break;
-    case DRIVE_SENDS: note(connection, DOES_SEND), wait_for(connection, true); break;
+    case DRIVE_RECEIVES: note(connection, DOES_WAIT), wait_for(connection, EPOLLIN); break;
+    case DRIVE_SENDS: note(connection, DOES_SEND), wait_for(connection, EPOLLOUT); break;
     case DRIVE_YIELDS: note(connection, DOES_STEPS), yield_to_others(connection); break;
+    case DRIVE_PARKS: note(connection, DOES_WAIT), park(connection); break;
     case DRIVE_ENDS: end_connection(connection); break;
   }
 }
 
-/* Each that yielded goes on once. */
-static void attend_yielded(struct thread *thread) {
-  struct connection *last = thread->yielded;
+/* Each of a ring goes on once. */
+static void attend_each(struct connection **ring) {
+  struct connection *last = *ring;
   if (last == NULL) return;
   struct connection *next = last->next_yielded;
-  thread->yielded = NULL;
+  *ring = NULL;
   for (bool more = true; more;) {
     struct connection *connection = next;
     more = connection != last;
@@ -370,6 +385,13 @@ static void attend_yielded(struct thread *thread) {
     connection->is_yielded = false;
     attend(connection);
   }
+}
+
+/* Of one that is parked nothing is told but faults. Whether it is to end for one. */
+static bool attend_event(struct connection *connection) {
+  if (!connection->is_yielded) return attend(connection), false;
+  if (!connection->storing.waits) return false;
+  return connection->ends = true;
 }
 
 /* Some of the connections that watch have lines to take. */
@@ -463,6 +485,23 @@ static bool end_idle(struct thread *thread, uint32_t now) {
   return found == IDLE_AT_ONCE;
 }
 
+/* Where values wait for others, those of which nothing comes give up what they have: some of them in each second. Other
+ * threads' connections may have it, too. */
+static void end_stalled(struct thread *thread) {
+  struct connection *stalled[IDLE_AT_ONCE];
+  int found = 0;
+  for (int i = 0; i < settings.threads && thread->parked != NULL; i++)
+    if (&threads[i] != thread) network_wake(&threads[i]);
+  pthread_mutex_lock(&thread->lock);
+  for (struct connection *at = thread->connections; at != NULL && found < IDLE_AT_ONCE; at = at->next)
+    if (value_is_stalled(at, thread->now)) stalled[found++] = at;
+  pthread_mutex_unlock(&thread->lock);
+  for (int i = 0; i < found; i++) {
+    value_give_up(stalled[i]);
+    attend(stalled[i]);
+  }
+}
+
 static int64_t milliseconds(void) {
   struct timespec time;
   clock_gettime(CLOCK_MONOTONIC, &time);
@@ -473,7 +512,7 @@ static int64_t milliseconds(void) {
  * by reading a little at a time. */
 static void farewell(struct thread *thread) {
   const int64_t end = milliseconds() + FAREWELL_MILLISECONDS;
-  while (thread->yielded != NULL && milliseconds() < end) attend_yielded(thread);
+  while (thread->yielded != NULL && milliseconds() < end) attend_each(&thread->yielded);
   while (thread->connections != NULL) {
     struct connection *connection = thread->connections;
     struct pollfd wait = { .fd = connection->file, .events = POLLOUT };
@@ -484,25 +523,34 @@ static void farewell(struct thread *thread) {
   buffers_free(thread);
 }
 
+/* For how long a thread waits for events, in milliseconds. */
+static int patience(const struct thread *thread, bool are_idle) {
+  if (thread->yielded != NULL || are_idle) return 0;
+  if (thread->parked != NULL) return PARKED_MILLISECONDS;
+  return settings.idle_most > 0 ? 1000 : -1;
+}
+
 void *network_serve(void *given) {
   struct thread *thread = given;
   struct epoll_event event[EVENTS_MOST];
-  const int patience = settings.idle_most > 0 ? 1000 : -1;
   uint32_t looked = thread->now = clock_now();
   bool are_idle = false;
   while (!atomic_load(&is_ending)) {
-    bool is_woken = false;
-    int events = call_wait(thread->events, event, EVENTS_MOST, thread->yielded != NULL || are_idle ? 0 : patience);
+    bool is_woken = false, are_due = false; /* those that watch, and those that are parked */
+    int events = call_wait(thread->events, event, EVENTS_MOST, patience(thread, are_idle));
     thread->now = clock_now();
+    bool is_another_tick = thread->now != looked;
+    are_due = is_another_tick; /* since they don't wait for ever */
+    looked = thread->now;
     for (int i = 0; i < events; i++) {
-      struct connection *connection = event[i].data.ptr;
-      if (connection == NULL) is_woken = true;
-      else if (!connection->is_yielded) attend(connection);
+      if (event[i].data.ptr == NULL) is_woken = true;
+      else are_due |= attend_event(event[i].data.ptr);
     }
     if (is_woken) attend_watchers(thread);
-    attend_yielded(thread);
-    if (settings.idle_most > 0 && (are_idle || thread->now != looked))
-      are_idle = end_idle(thread, looked = thread->now);
+    attend_each(&thread->yielded);
+    if (thread->parked != NULL && (are_due || items_may_grow())) attend_each(&thread->parked);
+    if (is_another_tick && values_wait(thread->now)) end_stalled(thread);
+    if (settings.idle_most > 0 && (are_idle || is_another_tick)) are_idle = end_idle(thread, thread->now);
   }
   farewell(thread);
   return NULL;

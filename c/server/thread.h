@@ -23,6 +23,7 @@ struct thread {
   pthread_mutex_t lock;           /* of the list */
   struct connection *connections; /* its own */
   struct connection *yielded;     /* those that have more to do, in a ring: the last one */
+  struct connection *parked;      /* those whose values wait for others to end, in another ring */
   int file;                       /* of the connection that it serves now */
   uint32_t now;                   /* the tick at which it began to serve those that have something to do */
   char *spare_block[SPARE_BLOCKS_MOST]; /* of buffers: buffer.h */

@@ -6,8 +6,12 @@
 #include "shelf.h"
 #include "watchers.h"
 
-/* For a value that is under way. */
-enum { ROOM_LEAST = ROW_VALUE_MOST + 2 };
+/* For a value that is under way: the room that it has at least, for how many seconds it waits for others, and for how
+ * many nothing may come of it while others wait. */
+enum { ROOM_LEAST = ROW_VALUE_MOST + 2, WAIT_MOST = 5, STALL_MOST = 2 };
+
+/* The tick at which a value waited for others last. */
+static _Atomic uint32_t waited;
 
 /* The key's value with another one behind it or before it, as a new item; NULL: no memory, or too large for an item. */
 static struct item *joined(struct connection *connection, const struct key *key, const struct item *old,
@@ -88,11 +92,11 @@ static void refuse(struct connection *connection, const struct key *key, enum re
   value_skip(connection, left);
 }
 
-/* The same, of one that was under way. */
-static void give_up(struct connection *connection, uint64_t left) {
-  const struct item *item = connection->storing.item;
+void value_give_up(struct connection *connection) {
+  const struct storing *storing = &connection->storing;
+  const struct item *item = storing->item;
   const struct key key = { item->key, item->key_bytes, item->hash };
-  refuse(connection, &key, REFUSED_NO_MEMORY, left);
+  refuse(connection, &key, REFUSED_NO_MEMORY, item->bytes + storing->speaker->behind - storing->received);
   connection_drop_value(connection);
 }
 
@@ -115,7 +119,7 @@ void value_end(struct connection *connection) {
   struct item *item = storing->item;
   uint64_t unique = 0;
   if (!complete(connection)) {
-    give_up(connection, 0);
+    value_give_up(connection);
     return;
   }
   bool is_right = has_right_end(storing);
@@ -149,7 +153,11 @@ void value_begin(struct connection *connection, const struct key *key, uint32_t 
   bool fits = class_for(item_reckoned(key->bytes, flags, bytes)) != 0;
   storing->received = 0;
   storing->is_under_way = came < comes;
+  storing->waits = false;
+  storing->waits_since = 0;
   storing->room = storing->is_under_way ? room_for(connection, all, came) : all;
+  bool is_short = storing->is_under_way && !items_have_share(storing->room);
+  if (is_short && storing->room > ROOM_LEAST) storing->room = ROOM_LEAST;
   if (!fits) storing->item = NULL;
   else if (!storing->is_under_way) storing->item = cache_new_item(thread, key, flags, expires, bytes);
   else storing->item = cache_begin_item(thread, key, flags, expires, bytes, storing->room);
@@ -157,14 +165,40 @@ void value_begin(struct connection *connection, const struct key *key, uint32_t 
   else refuse(connection, key, fits ? REFUSED_NO_MEMORY : REFUSED_TOO_LARGE, comes);
 }
 
+/* The value waits for others, which have the share of those that are under way; for long it is refused. */
+static bool waits(struct connection *connection) {
+  struct storing *storing = &connection->storing;
+  uint32_t now = connection->thread->now;
+  if (storing->waits_since == 0) storing->waits_since = now;
+  storing->waits = clock_since(storing->waits_since, now) <= WAIT_MOST;
+  if (!storing->waits) return false;
+  connection->work = 0;
+  if (atomic_load_explicit(&waited, memory_order_relaxed) != now) atomic_store(&waited, now);
+  return true;
+}
+
+bool values_wait(uint32_t now) { return clock_since(atomic_load(&waited), now) <= 1; }
+
+bool value_is_stalled(const struct connection *connection, uint32_t now) {
+  const struct storing *storing = &connection->storing;
+  return connection->state == READS_VALUE && storing->is_under_way && storing->room > ROOM_LEAST && !storing->waits &&
+         !connection->is_yielded && clock_since(connection->active, now) > STALL_MOST;
+}
+
 void value_grow(struct connection *connection) {
   struct storing *storing = &connection->storing;
+  storing->waits = false;
   if (cache_waits_for_room(connection->thread, storing->item)) {
     connection->work = 0;
     return;
   }
   size_t all = (size_t)storing->item->bytes + 2;
   size_t room = room_for(connection, all, storing->received + buffer_size(&connection->in));
-  if (cache_grow_item(connection->thread, storing->item, room)) storing->room = room;
-  else give_up(connection, storing->item->bytes + storing->speaker->behind - storing->received);
+  enum grow_answer answer = cache_grow_item(connection->thread, storing->item, room);
+  if (answer == GROW_DONE) {
+    storing->room = room;
+    storing->waits_since = 0;
+  } else if (answer == GROW_NO_MEMORY || !waits(connection)) {
+    value_give_up(connection);
+  }
 }
