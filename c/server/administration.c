@@ -88,8 +88,12 @@ void administer_lists(struct connection *connection, struct words *words) {
   } else if (words->count >= 3 && word_is(&word[1], "temp_ttl") && number_i32(word[2].at, &seconds)) {
     atomic_store(&settings.temporary_ttl, seconds < 0 ? -1 : seconds);
     answer = "OK";
-  } else if (words->count >= 3 && word_is(&word[1], "mode") && word_is(&word[2], "segmented")) {
-    answer = "OK"; /* there is no other */
+  } else if (words->count >= 3 && word_is(&word[1], "mode") && settings.maintains) {
+    bool is_flat = word_is(&word[2], "flat");
+    if (is_flat || word_is(&word[2], "segmented")) {
+      atomic_store(&settings.is_flat, is_flat);
+      answer = "OK";
+    }
   }
   connection_say(connection, answer);
 }

@@ -98,15 +98,17 @@ static struct measure measure(struct shelf *shelf, int percent, double factor, u
 /* Some looks at the end of each list; answers how many rounds changed something. Under the shelf's lock. */
 static uint32_t juggle(struct shelf *shelf, struct counters *counters, uint32_t now) {
   static const struct measure ANY = { UINT64_MAX, 1e18 }; /* only what is ACTIVE leaves COLD */
+  static const struct measure NOTHING = { 0, 0 };
+  const bool is_flat = atomic_load(&settings.is_flat);
   const struct measure hot = measure(shelf, atomic_load(&settings.hot_percent), atomic_load(&settings.hot_factor), now);
   const struct measure warm =
       measure(shelf, atomic_load(&settings.warm_percent), atomic_load(&settings.warm_factor), now);
   /* A list whose last item stays isn't looked at again: what moves comes to the fronts of lists. */
-  bool temp_moves = true, hot_moves = true, warm_moves = true, cold_moves = true;
+  bool temp_moves = true, hot_moves = true, warm_moves = true, cold_moves = !is_flat;
   for (uint32_t moves = 0; moves < PULLS_WITH_LOCK; moves++) {
     temp_moves = temp_moves && shorten_temp(shelf, counters, now);
-    hot_moves = hot_moves && shorten(shelf, counters, BUMP_TAIL_HOT, hot, now);
-    warm_moves = warm_moves && shorten(shelf, counters, BUMP_TAIL_WARM, warm, now);
+    hot_moves = hot_moves && shorten(shelf, counters, BUMP_TAIL_HOT, is_flat ? NOTHING : hot, now);
+    warm_moves = warm_moves && shorten(shelf, counters, BUMP_TAIL_WARM, is_flat ? NOTHING : warm, now);
     cold_moves = cold_moves && shorten(shelf, counters, BUMP_TAIL_COLD, ANY, now);
     if (!temp_moves && !hot_moves && !warm_moves && !cold_moves) return moves;
   }
@@ -258,6 +260,18 @@ void shelves_compare(void) {
   atomic_store(&heaviest, found);
 }
 
+/* Applies some bumps of a ring. Where all items are in one list, nobody sees that they were in WARM. */
+static bump_ran_told apply_some(struct shelf *shelf, struct shelf_lane *lane, uint32_t now) {
+  const bool is_flat = atomic_load(&settings.is_flat);
+  uint64_t moves = is_flat ? shelf_moves(shelf) : 0;
+  bump_ran_told ran = bump_apply_run_told(&shelf->book, &lane->lane, now, BUMP_MOST_CHUNKS);
+  shelf_give_back(shelf, ran.chunks, ran.freed);
+  if (!is_flat) return ran;
+  shelf_flatten(shelf);
+  shelf->forgotten_moves += shelf_moves(shelf) - moves;
+  return ran;
+}
+
 uint32_t shelf_drain(struct shelf *shelf, uint32_t now) {
   uint32_t applied = 0;
   for (uint32_t thread = 0; thread < (uint32_t)settings.threads; thread++) {
@@ -265,8 +279,7 @@ uint32_t shelf_drain(struct shelf *shelf, uint32_t now) {
     uint32_t before = applied;
     while (bump_lane_class(&lane->lane) != BUMP_NONE) {
       shelf_lock(shelf);
-      bump_ran_told ran = bump_apply_run_told(&shelf->book, &lane->lane, now, BUMP_MOST_CHUNKS);
-      shelf_give_back(shelf, ran.chunks, ran.freed);
+      bump_ran_told ran = apply_some(shelf, lane, now);
       shelf_unlock(shelf);
       shelf_make_way(shelf);
       applied += ran.applied;

@@ -11,6 +11,9 @@
 
 enum { THE_HOLD = 0, LINK_TRIES = 50, NUMBER_MOST = 63 };
 
+/* In one list an item is brought to the front at most once in so many seconds, as in memcached. */
+enum { FLAT_PAUSE = 60 };
+
 /* The part of -m that may be kept: so the rest can be evicted. */
 enum { KEPT_PART = 2 };
 
@@ -61,12 +64,22 @@ struct held cache_hold(struct thread *thread, const struct key *key, uint32_t no
   return held;
 }
 
+static bool is_flat(void) { return atomic_load_explicit(&settings.is_flat, memory_order_relaxed); }
+
+/* Leaves a hit's mark. In one list also the first hit brings an item to the front, which to bump is the second one. */
+static enum bump_touch_answer leave_mark(struct shelf_reader *reader, bool is_fetched, uint32_t now) {
+  if (!is_flat()) return bump_touch(&reader->worker, THE_HOLD, now).answer;
+  enum bump_touch_answer first = is_fetched ? BUMP_TOUCH_ALREADY : bump_touch(&reader->worker, THE_HOLD, now).answer;
+  uint32_t time = (uint32_t)bump_time(&reader->worker, THE_HOLD).time;
+  return clock_since(time, now) > FLAT_PAUSE ? bump_touch(&reader->worker, THE_HOLD, now).answer : first;
+}
+
 void cache_hit(struct thread *thread, struct item *item, uint32_t now, enum hit hit) {
   struct shelf_reader *reader = reader_of(thread, item);
   bump_marks_of marks = bump_marks(&reader->worker, THE_HOLD);
   if (hit != HIT_UNCOUNTED) reader_count_event(reader, (enum shelf_event)(SHELF_hits_to_hot + marks.segment));
   if (hit == HIT_UNMARKED || (marks.fetched && marks.active)) return; /* most hits: no locked step is needed */
-  enum bump_touch_answer touched = bump_touch(&reader->worker, THE_HOLD, now).answer;
+  enum bump_touch_answer touched = leave_mark(reader, marks.fetched, now);
   if (touched >= BUMP_TOUCH_QUEUED && touched <= BUMP_TOUCH_DROPPED_REFS_FULL) shelf_tell_counts(reader);
 }
 
@@ -224,7 +237,7 @@ static enum store_answer judge(struct thread *thread, const struct store_terms *
 static bool link_item(struct counters *counters, struct shelf *shelf, struct item *item, uint32_t now) {
   int most = atomic_load(&settings.temporary_ttl);
   uint32_t expires = atomic_load_explicit(&item->expires, memory_order_relaxed);
-  bool temporary = most >= 0 && expires != 0 && expires - now <= (uint32_t)most;
+  bool temporary = most >= 0 && expires != 0 && expires - now <= (uint32_t)most && !is_flat();
   for (int tries = 0; tries < LINK_TRIES; tries++) {
     if (shelf_link(shelf, item, temporary, now)) return true;
     shelf_reap(shelf);

@@ -61,6 +61,7 @@ struct settings {
   _Atomic double balance;    /* a class whose oldest item is younger than that part of another's takes its memory */
   _Atomic int temporary_ttl; /* -1: none */
   _Atomic bool crawls;
+  _Atomic bool is_flat; /* items are in one list, and not in HOT, WARM and TEMP */
 };
 
 extern struct settings settings;

@@ -17,6 +17,7 @@ enum {
   FREE_PART = 8, /* the next shelf is opened where less of all chunks is free */
   REFS_MOST = 65535,
   RESTS_MOST = 10,
+  FLATTENED_MOST = 2 * BUMP_MOST_CHUNKS,
   CHUNK_BYTES = 48,
   PLACE_BYTES = 16 /* of a ring */
 };
@@ -256,6 +257,7 @@ bool shelf_link(struct shelf *shelf, struct item *item, bool temporary, uint32_t
   uint64_t label = (uintptr_t)item;
   bump_linked linked = temporary ? bump_link_temp(&shelf->book, label, now) : bump_link(&shelf->book, label, now);
   if (linked.answer != BUMP_LINK_DONE) return false;
+  if (atomic_load_explicit(&settings.is_flat, memory_order_relaxed)) shelf_flatten(shelf);
   item->chunk = linked.chunk;
   item->generation = linked.generation;
   item->born = now;
@@ -264,6 +266,15 @@ bool shelf_link(struct shelf *shelf, struct item *item, bool temporary, uint32_t
   atomic_fetch_add_explicit(&shelf->charged, item->charge, memory_order_relaxed);
   if (!atomic_load_explicit(&shelf->is_nearly_full, memory_order_relaxed)) note_nearly_full(shelf);
   return true;
+}
+
+/* What comes here stood at the front last: so each list is emptied from its end on. An item that was hit meanwhile is
+ * brought to WARM's front once more. */
+void shelf_flatten(struct shelf *shelf) {
+  static const uint32_t TAILS[] = { BUMP_TAIL_HOT, BUMP_TAIL_WARM };
+  for (int i = 0; i < 2; i++)
+    for (int pulls = 0; pulls < FLATTENED_MOST && bump_size(&shelf->book, TAILS[i]) > 0; pulls++)
+      bump_pull(&shelf->book, TAILS[i], 0);
 }
 
 void shelf_end(struct shelf *shelf, struct item_name name) {

@@ -82,7 +82,7 @@ struct shelf {
   uint64_t requested; /* bytes of items that aren't given back, as memcached reckons them */
   struct shelf_counts counts;
   uint64_t forgotten[SHELF_EVENT_COUNT]; /* what was counted when `stats reset` was asked for last */
-  uint64_t forgotten_moves;              /* and of what bump counts, how many items bumps brought to WARM */
+  uint64_t forgotten_moves;              /* and of what bump counts, how many items bumps brought to WARM, to stay */
   _Atomic uint64_t charged; /* the same as they are charged */
   _Atomic uint32_t age;     /* of the item that would be evicted next, when the maintainer looked last */
 };
@@ -153,6 +153,10 @@ struct item *shelf_item(struct shelf *shelf, uint32_t chunk);
 
 /* Links an item, which nobody knows of yet. false: no chunk is free; the item stays the caller's. */
 bool shelf_link(struct shelf *shelf, struct item *item, bool temporary, uint32_t now);
+
+/* Moves what is in HOT and WARM to COLD's front: all of it, where that is little. For the mode in which all items are in
+ * one list, as bump links items in HOT, and brings to WARM those that are hit. */
+void shelf_flatten(struct shelf *shelf);
 
 /* Ends an item that is no longer in the table; or does nothing where another thread did meanwhile. */
 void shelf_end(struct shelf *shelf, struct item_name name);

@@ -217,7 +217,7 @@ static void tell_general(struct connection *connection) {
 static void tell_lists(struct connection *connection) {
   int ttl = atomic_load(&settings.temporary_ttl);
   tell_word(connection, "lru_maintainer_thread", yes_or_no(settings.maintains));
-  tell_word(connection, "lru_segmented", "yes");
+  tell_word(connection, "lru_segmented", yes_or_no(!atomic_load(&settings.is_flat)));
   tell(connection, "hot_lru_pct", (uint64_t)atomic_load(&settings.hot_percent));
   tell(connection, "warm_lru_pct", (uint64_t)atomic_load(&settings.warm_percent));
   connection_print(connection, "STAT hot_max_factor %.2f\r\n", atomic_load(&settings.hot_factor));

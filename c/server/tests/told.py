@@ -66,6 +66,7 @@ class Told:
             tell("stats reset makes them 0", str(left) if left else "")
             tell("moves, hits and ages of each list are told", "; ".join(self.list_faults(client)))
             tell("then it ends with nothing left", server.end())
+        self.check_flat()
         self.check_dropped()
         self.check_connections()
         self.check_settings()
@@ -133,6 +134,47 @@ class Told:
         if not all(100 <= age <= 130 for age in ages):
             wrong.append(f"after 100 seconds the ages are {ages}")
         return wrong
+
+    def check_flat(self):
+        """One list of all items: a hit brings an item to its front, at most once a minute."""
+        with Server(self.program, "-o", "temporary_ttl=61", environment={"BUMP_SERVER_DEBUGTIME": "1"}) as server:
+            client = Client(server.port)
+            wrong = self.flat_faults(client)
+            tell("in lru mode flat a hit brings an item to the front of one list", "; ".join(wrong[:3]))
+            client.ask(b"lru mode segmented\r\nset t 0 50 1\r\n1\r\nset h 0 0 1\r\n1\r\n")
+            items = client.stats("items")
+            right = items["items:1:number_temp"] == "1" and client.stats("settings")["lru_segmented"] == "yes"
+            tell("then in lru mode segmented there are lists again", "" if right else str(items))
+            tell("then it ends with nothing left", server.end())
+        with Server(self.program, "-o", "no_lru_maintainer") as server:
+            answers = Client(server.port).ask(b"lru mode flat\r\nlru mode segmented\r\n")
+            tell("without the maintainer lru mode is refused", "" if answers == b"ERROR\r\nERROR\r\n" else str(answers))
+
+    @staticmethod
+    def flat_order(client, wanted):
+        """The keys of class 1 from the list's front on, once they are these; or after half a minute."""
+        for _ in range(300):
+            found = b"".join(line.split()[1] for line in client.ask(b"stats cachedump 1 0\r\n").split(b"\r\n") if line.startswith(b"ITEM"))
+            if found == wanted:
+                break
+            time.sleep(0.1)
+        return found
+
+    def flat_faults(self, client):
+        client.ask(b"".join(b"set %c 0 0 1\r\n1\r\n" % key for key in b"abc"))  # in HOT: they go to the one list soon
+        wrong = [] if client.ask(b"lru mode flat\r\n") == b"OK\r\n" and client.stats("settings")["lru_segmented"] == "no" else ["it is refused"]
+        client.ask(b"".join(b"set %c 0 %d 1\r\n1\r\n" % (key, 50 if key == ord("e") else 0) for key in b"def"))
+        # What is asked for, after so many seconds, and the order then. Within a minute a hit changes nothing.
+        for seconds, keys, order in ((0, b"a", b"fedcba"), (61, b"a", b"afdcb"), (0, b"a", b"afdcb"), (30, b"ab", b"bafdc"), (31, b"ab", b"abfdc"), (61, b"fd", b"dfabc")):
+            if seconds:
+                client.ask(b"debugtime %d\r\n" % seconds)
+            client.ask(b"".join(b"get %c\r\n" % key for key in keys))
+            found = self.flat_order(client, order)
+            lists = {name: client.stats("items")[f"items:1:number_{name}"] for name in ("hot", "warm", "cold", "temp")}
+            if found != order or lists != {"hot": "0", "warm": "0", "cold": str(len(order)), "temp": "0"}:
+                wrong.append(f"{seconds} seconds later, by {keys}: {found} and not {order}, {lists}")
+        stats = client.stats()
+        return wrong if stats["moves_to_warm"] == "0" else wrong + [f"{stats['moves_to_warm']} moves to WARM are told"]
 
     def check_dropped(self):
         """Full memory, where whoever stores evicts; and more hits in COLD than a ring has room for."""
