@@ -98,8 +98,8 @@ class Told:
 
     @staticmethod
     def settled(client, name, wanted):
-        """What stats items tells, once a name of class 1 has this value; or after ten seconds."""
-        for _ in range(100):
+        """What stats items tells, once a name of class 1 has this value; or after a minute."""
+        for _ in range(600):
             items = {key.split(":", 2)[2]: int(number) for key, number in client.stats("items").items() if key.startswith("items:1:")}
             if items.get(name) == wanted:
                 break
@@ -107,8 +107,8 @@ class Told:
         return items
 
     def list_faults(self, client):
-        """Items grow old, are hit in each list, and are moved by their hits."""
-        wrong = []
+        """Items grow old, are hit in each list, and are moved by their hits. A slow machine needs its time for that: ages are judged by it."""
+        wrong, begins = [], time.monotonic()
         client.ask(b"flush_all\r\nlru_crawler crawl all\r\nstats reset\r\n")
         for i in range(1000):
             client.set(b"i%d" % i, b"1")
@@ -126,12 +126,12 @@ class Told:
         stats = client.stats()
         if (stats["moves_to_cold"], stats["moves_to_warm"], stats["lru_bumps_dropped"]) != ("800", "1", "0"):
             wrong.append(f"stats: {[stats[name] for name in ('moves_to_cold', 'moves_to_warm', 'lru_bumps_dropped')]}")
-        if int(stats["cmd_touch"]) or items["age"] > 5:
+        if int(stats["cmd_touch"]) or items["age"] > 3 + time.monotonic() - begins:
             wrong.append(f"age {items['age']}")
         client.ask(b"debugtime 100\r\n")
         items = self.settled(client, "number_temp", 0)
         ages = [items[name] for name in ("age_hot", "age_warm", "age")]
-        if not all(100 <= age <= 130 for age in ages):
+        if not all(100 <= age <= 103 + time.monotonic() - begins for age in ages):
             wrong.append(f"after 100 seconds the ages are {ages}")
         return wrong
 
@@ -181,20 +181,34 @@ class Told:
         with Server(self.program, "-m", 32, "-t", 1) as server:
             client = Client(server.port)
             client.ask(b"".join(b"set i%d 0 0 400 noreply\r\n%s\r\n" % (i, b"x" * 400) for i in range(200_000)))
-            for _ in range(10):
-                client.ask(b"get " + b" ".join(b"i%d" % i for i in range(160_000, 200_000)) + b"\r\n")
-            items, stats, bump = client.stats("items"), client.stats(), client.stats("bump")
-            dropped = sum(int(number) for name, number in bump.items() if ":dropped_" in name)
-            reclaimed = sum(int(number) for name, number in items.items() if name.endswith(":direct_reclaims"))
-            wrong = []
-            if int(stats["evictions"]) == 0 or not int(stats["direct_reclaims"]) == reclaimed == int(stats["evictions"]):
-                wrong.append(f"{stats['evictions']} evictions, direct_reclaims {stats['direct_reclaims']} and {reclaimed}")
-            if int(stats["lru_bumps_dropped"]) != dropped or dropped == 0:
-                wrong.append(f"{dropped} bumps are dropped, lru_bumps_dropped {stats['lru_bumps_dropped']}")
-            if not 0 < int(stats["moves_within_lru"]) == sum(int(number) for name, number in items.items() if name.endswith(":moves_within_lru")):
-                wrong.append(f"moves_within_lru {stats['moves_within_lru']}")
-            tell(f"{stats['direct_reclaims']} evictions, {dropped} dropped bumps and {stats['moves_within_lru']} moves within WARM are told", "; ".join(wrong))
+            # Which of them are in COLD, and how soon the maintainer is there, differs by what else the machine does: so it is asked again and again.
+            for _ in range(100):
+                for _ in range(10):
+                    client.ask(b"get " + b" ".join(b"i%d" % i for i in range(160_000, 200_000)) + b"\r\n")
+                told, wrong = self.dropped_faults(client)
+                if not wrong:
+                    break
+            tell(f"{told[0]} evictions, {told[1]} dropped bumps and {told[2]} moves within WARM are told", "; ".join(wrong))
             tell("then it ends with nothing left", server.end())
+
+    def dropped_faults(self, client):
+        """How many evictions, dropped bumps and moves within WARM are told, once nothing moves any more; and what is wrong with that."""
+        names, before, wrong = ("evicted", "direct_reclaims", "moves_within_lru", "moves_to_warm", "moves_to_cold"), None, []
+        for _ in range(600):
+            stats, bump, items = client.stats(), client.stats("bump"), client.stats("items")
+            sums = [sum(int(number) for name, number in items.items() if name.endswith(f":{what}")) for what in names]
+            if sums == before:
+                break
+            before = sums
+            time.sleep(0.1)
+        dropped = sum(int(number) for name, number in bump.items() if ":dropped_" in name)
+        if not 0 < int(stats["evictions"]) == int(stats["direct_reclaims"]) == sums[0] == sums[1]:
+            wrong.append(f"{stats['evictions']} evictions, direct_reclaims {stats['direct_reclaims']} and {sums[1]}")
+        if not 0 < int(stats["lru_bumps_dropped"]) == dropped:
+            wrong.append(f"{dropped} bumps are dropped, lru_bumps_dropped {stats['lru_bumps_dropped']}")
+        if not 0 < int(stats["moves_within_lru"]) == sums[2]:
+            wrong.append(f"moves_within_lru {stats['moves_within_lru']}")
+        return (sums[1], dropped, sums[2]), wrong
 
     def check_connections(self):
         """stats conns: each connection by its address, what it does and since when."""
