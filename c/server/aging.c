@@ -192,7 +192,7 @@ static bool relieve(struct shelf *shelf, struct counters *counters, uint32_t now
   return has_more || evicted > 0 || !is_over(0);
 }
 
-/* What speaks for evicting a shelf's next item: its age, and its size by the cube root. By ages alone a large value
+/* What speaks for evicting a shelf's next item: its age, and its size by a root. By ages alone a large value
  * takes the room of thousands of small ones that are asked for as often; by bytes alone small ones that nobody asks for
  * any more would keep the room for days. */
 static double weight(struct shelf *shelf) {

@@ -35,10 +35,15 @@ static _Atomic uint32_t flushed_until;                       /* 0: never */
 static _Atomic uint64_t flushed_unique;
 static _Atomic uint32_t flush_to_come; /* 0: none; once it came it counts as the other */
 
-static double cube_root(double number) {
-  double root = 1;
-  while (root * root * root < number) root *= 1.01;
-  return root;
+/* Small values take so little that they may grow much older than others. Of larger ones not many are there anyway. */
+enum { SMALL_MOST = 4096 };
+
+/* Up to SMALL_MOST the power of two thirds, and from there on the fifth root. */
+static double weight_for(double size) {
+  double small = size < SMALL_MOST ? size : SMALL_MOST, cubed = 1, fifth = 1;
+  while (cubed * cubed * cubed < small * small) cubed *= 1.01;
+  while (fifth * fifth * fifth * fifth * fifth < size / small) fifth *= 1.01;
+  return cubed * fifth;
 }
 
 void classes_make(void) {
@@ -51,7 +56,7 @@ void classes_make(void) {
   }
   size_of[class] = settings.chunk_most;
   classes = class;
-  for (class = 1; class <= classes; class++) weight_of[class] = cube_root(size_of[class]);
+  for (class = 1; class <= classes; class++) weight_of[class] = weight_for(size_of[class]);
 }
 
 uint32_t class_count(void) { return classes; }

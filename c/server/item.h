@@ -59,7 +59,7 @@ void classes_make(void);
 uint32_t class_count(void);
 uint32_t class_size(uint32_t class);
 
-/* The cube root of its size. */
+/* What its size speaks for evicting an item of it. */
 double class_weight(uint32_t class);
 
 /* An item's bytes as memcached reckons them, and the class of so many; 0: that is too large for an item. */

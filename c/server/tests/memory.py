@@ -96,7 +96,7 @@ class Memory:
         with Server(self.program, "-m", 64) as server:
             rates = ask_three_sizes(Client(server.port), 4000, 160)
             told = ", ".join(f"{size} bytes {rate:.0f} %" for size, rate in rates.items())
-            right = rates[100] > 60 and rates[10_000] > 40 and rates[900_000] > 20
+            right = rates[100] > 70 and rates[10_000] > 55 and rates[900_000] > 25
             tell(f"three sizes in one load hit: {told}", "" if right else "too few")
             self.tell_resident("-m 64, three sizes", server, most_for(64))
             tell("then it ends with nothing left", server.end())
