@@ -154,8 +154,8 @@ struct item *shelf_item(struct shelf *shelf, uint32_t chunk);
 /* Links an item, which nobody knows of yet. false: no chunk is free; the item stays the caller's. */
 bool shelf_link(struct shelf *shelf, struct item *item, bool temporary, uint32_t now);
 
-/* Moves what is in HOT and WARM to COLD's front: all of it, where that is little. For the mode in which all items are in
- * one list, as bump links items in HOT, and brings to WARM those that are hit. */
+/* Moves what is in HOT and WARM to COLD's front: all of it, where that is little. For the mode in which all items are
+ * in one list, as bump links items in HOT, and brings to WARM those that are hit. */
 void shelf_flatten(struct shelf *shelf);
 
 /* Ends an item that is no longer in the table; or does nothing where another thread did meanwhile. */
