@@ -104,7 +104,7 @@ def crates():
           "bump_trace": (200, 300), "worked_traces": (150, 225), "store_trace": (330, 180), "bumpsim": (330, 110), "cache_lists": (900, 320),
           "cache_part": (900, 268), "cache_shelf": (900, 216), "cache_config": (900, 164), "cache_readers": (1080, 240), "cache_index": (1080, 300),
           "call_log": (900, 400), "packed_words": (900, 460),
-          "keyed_hash": (1080, 460), "bump_cache": (900, 112), "replay_runs": (900, 60), "bump_replay": (1080, 60),
+          "seen_words": (1080, 360), "keyed_hash": (1080, 460), "bump_cache": (900, 112), "replay_runs": (900, 60), "bump_replay": (1080, 60),
           "access_logs": (1080, 120), "replay_policies": (1080, 180), "cache_handles": (760, 60)}
     down = [("bump_rules", "bump_links"), ("model_state", "bump_rules"), ("bump_core", "model_state"),
             ("bump_word", "bump_rules"), ("bump_steps", "bump_word"), ("bump_readers", "bump_steps"),
@@ -113,7 +113,7 @@ def crates():
             ("bump_handles", "bump_unlocked"), ("bump_c", "bump_handles"), ("trace_lines", "bump_rules"),
             ("bump_trace", "trace_lines"), ("bump_trace", "bump_core"), ("worked_traces", "bump_trace"), ("store_trace", "bump_trace"), ("bumpsim", "store_trace"),
             ("cache_shelf", "cache_part"), ("cache_part", "cache_lists"),
-            ("cache_readers", "cache_index"), ("cache_config", "cache_shelf"), ("bump_cache", "cache_config"),
+            ("cache_readers", "cache_index"), ("cache_index", "seen_words"), ("cache_config", "cache_shelf"), ("bump_cache", "cache_config"),
             ("replay_runs", "bump_cache"),
             ("bump_replay", "access_logs"), ("cache_handles", "bump_cache"), ("cache_handles", "bump_handles")]
     used = {"bump_core", "bump_store", "bump_c", "bumpsim", "bump_links", "bump_cache", "bump_replay"}

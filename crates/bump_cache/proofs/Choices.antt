@@ -11,7 +11,7 @@ use Rattle.keyed_hash.specs.Hashes.{hash_of}
 use Rattle.bump_ring.specs.Ends.{Ring}
 use Rattle.cache_readers.specs.Readers.{KeepsRing, ReaderView}
 use Rattle.cache_config.specs.Choosing.{part_of}
-use Rattle.bump_cache.specs.Readers.{CacheReaderView, InPart, KeepsRings, readers_by}
+use Rattle.bump_cache.specs.Readers.{CacheReaderView, InPart, KeepsRings, MissesKey, readers_by}
 
 -- The reader at this place is that of the key's part, and another one stands in its place now.
 pub record IsChosen (seed : Seed) (key : List ℕ) (befores afters : List ReaderView) (from to : ReaderView) : Type 0
@@ -74,6 +74,13 @@ pub in_same : (Does : ReaderView → ReaderView → Type 0) (key : List ℕ) (be
     → from ≡ before → to ≡ after → InPart Does key from to → InPart Does key before after
 in_same Does key before from to after same end did =
     subst (λ view. InPart Does key view after) same (subst (λ view. InPart Does key from view) end did)
+
+-- so is a miss, which names the seed
+pub missed_same : (key : List ℕ) (now : ℕ) (before from to after : CacheReaderView) → from ≡ before → to ≡ after
+    → InPart (MissesKey from.seed key now) key from to → InPart (MissesKey before.seed key now) key before after
+missed_same key now before from to after same end did =
+    subst (λ (view : CacheReaderView). InPart (MissesKey view.seed key now) key view after) same
+    (subst (λ view. InPart (MissesKey from.seed key now) key from view) end did)
 
 -- readers that were written into a vector are those that it has
 pub written : {Z : Type 0} (seed : Seed) (held : Vec ReaderView Z) (parts : List ReaderView) → length parts ≡ held.len

@@ -9,7 +9,7 @@ use Rattle.bump_unlocked.specs.Workers.{WorkerState, worker_sheets_of, worker_ri
 use Rattle.bump_ring.specs.Ends.{Ring}
 use Rattle.bump_steps.specs.Rule.{worker_sheets}
 use Rattle.call_log.specs.Calls.{CallerView}
-use Rattle.cache_readers.specs.Readers.{ReaderView, new_reader}
+use Rattle.cache_readers.specs.Readers.{CountsView, ReaderView, counts_of, no_counts}
 use Rattle.cache_shelf.specs.Shelves.{ShelfView}
 use Rattle.cache_config.specs.declared.config.CacheConfig.{CacheConfig}
 use Rattle.cache_config.specs.Configs.{IsStoreOf}
@@ -20,10 +20,16 @@ use Rattle.bump_cache.specs.States.{PartState}
 
 -- a new reader of a worker sends into the worker's ring
 ring_of_reader : (store : Config) (chunk : ℕ) (worker : Option WorkerState)
-    → option_map (λ (part : ReaderView). part.worker.sender.ring) (option_map (new_reader store chunk) worker)
+    → option_map (λ (counts : CountsView). counts.worker.sender.ring) (option_map (no_counts store chunk) worker)
     ≡ option_map (λ (w : WorkerState). w.sender.ring) worker
 ring_of_reader store chunk None = refl
 ring_of_reader store chunk (Some worker) = refl
+
+ring_of_counts : (part : Option ReaderView)
+    → option_map (λ (counts : CountsView). counts.worker.sender.ring) (option_map counts_of part)
+    ≡ option_map (λ (p : ReaderView). p.worker.sender.ring) part
+ring_of_counts None = refl
+ring_of_counts (Some part) = refl
 
 module _ (config : CacheConfig) (store : Config) (workers : List WorkerState) (lanes : List LaneView)
     (readers : List CacheReaderView) (rings : worker_rings workers ≡ raw_rings lanes)
@@ -38,6 +44,7 @@ module _ (config : CacheConfig) (store : Config) (workers : List WorkerState) (l
       let ring_of_lane = λ (lane : LaneView). lane.ring in
       let ring_of_worker = λ (w : WorkerState). w.sender.ring in
       let ring_of_part = λ (p : ReaderView). p.worker.sender.ring in
+      let ring_of_count = λ (counts : CountsView). counts.worker.sender.ring in
       let within : number < length readers = slice_get_within readers number reader had in
       let place : slice_get is.own number ≡ slice_get lanes (part * config.readers + number) =
       is.each number (omega (arith, within, count)) in
@@ -47,8 +54,8 @@ module _ (config : CacheConfig) (store : Config) (workers : List WorkerState) (l
       ∙ (ap (λ (rs : List Ring). slice_get rs (part * config.readers + number)) (sym rings)
       ∙ (slice_get-map ring_of_worker workers (part * config.readers + number)
       ∙ (sym (ring_of_reader store (chunks_before config part) (slice_get workers (part * config.readers + number)))
-      ∙ (ap (option_map ring_of_part) (sym ((made number reader had).each part low))
-      ∙ sym (slice_get-map ring_of_part reader.parts part)))))))
+      ∙ (ap (option_map ring_of_count) (sym ((made number reader had).each part low))
+      ∙ (ring_of_counts (slice_get reader.parts part) ∙ sym (slice_get-map ring_of_part reader.parts part))))))))
 
   -- the shelf of a part is new
   pub new_of_made : (part : ℕ) (shelf : ShelfView) → IsMadeShelf config part key_width value_width lanes shelf

@@ -53,6 +53,11 @@ pub record OnlyFinds (key : List ℕ) (value : Option (List ℕ)) (now : ℕ) (b
   pub had : HadValue key value now before.part
   pub reads : ReadsShelf before after
 
+-- a look told what it found under the key, or that there was nothing, and no more was done
+abbrev pub TellsFound : {V : Type 0} → (V → List ℕ) → List ℕ → ℕ → Option V → ShelfView → ShelfView → Type 0
+TellsFound value_words key now told before after =
+    MatchOption told (OnlyFinds key None now before after) (λ value. OnlyFinds key (Some (value_words value)) now before after)
+
 -- A look found nothing under the key, and a value was put there: the key has it, what was evicted is told, and under
 -- each other key stays what was there.
 pub record PutsNew {K V : Type 0} (key_words : K → List ℕ) (value_words : V → List ℕ) (key value : List ℕ)

@@ -2,7 +2,7 @@
 use Rattle.std.specs.Prelude.{◌≡◌, ℕ, List, [], ◌∷◌, Option, IfSome, IfNone}
 use Rattle.bump_steps.specs.Rule.{RowPredicate}
 use Rattle.cache_readers.specs.Readers.{CountsHit, Misses}
-use Rattle.bump_cache.specs.Readers.{CacheReaderView, FindsValue, InPart, KeepsRings}
+use Rattle.bump_cache.specs.Readers.{CacheReaderView, FindsValue, InPart, KeepsRings, MissesKey}
 
 -- A get of a key has this answer: a value, found in the key's part and counted there as a hit; or None, and the miss is
 -- counted.
@@ -12,6 +12,7 @@ pub record GetsOne {K V : Type 0} (law : RowPredicate) (key_words : K → List �
       before after)
   pub counted : IfSome answer (λ value. InPart CountsHit (key_words key) before after)
   pub missed : IfNone answer (InPart (Misses (key_words key) now) (key_words key) before after)
+  pub absent : IfNone answer (InPart (MissesKey before.seed (key_words key) now) (key_words key) before after)
   pub ring : KeepsRings before after
 
 -- each key is got, one after the other, and has the answer in its place; there are as many answers as keys

@@ -11,7 +11,7 @@ use Rattle.bump_heads.specs.Making.{BlankView}
 use Rattle.call_log.specs.Blanks.{BlankView as LogBlankView}
 use Rattle.call_log.specs.Calls.{CallerView}
 use Rattle.call_log.specs.Logs.{calls_of, state_of}
-use Rattle.cache_readers.specs.Readers.{new_reader}
+use Rattle.cache_readers.specs.Readers.{counts_of, no_counts}
 use Rattle.cache_lists.specs.Counts.{no_evictions, no_flow}
 use Rattle.cache_shelf.specs.Shelves.{ShelfView}
 use Rattle.cache_config.specs.declared.config.CacheConfig.{CacheConfig}
@@ -53,8 +53,8 @@ pub record IsNewReader (config : CacheConfig) (store : Config) (workers : List W
   pub seed : reader.seed ≡ config.seed
   pub parts : length reader.parts ≡ config.parts
   pub each : (part : ℕ) → part < config.parts
-      → slice_get reader.parts part ≡ option_map (new_reader store (chunks_before config part))
-      (slice_get workers (part * config.readers + number))
+      → option_map counts_of (slice_get reader.parts part)
+      ≡ option_map (no_counts store (chunks_before config part)) (slice_get workers (part * config.readers + number))
 
 -- These are the readers of a cache of this configuration that was just opened, whose store's workers made no step.
 pub record AreNewReaders (config : CacheConfig) (readers : List CacheReaderView) : Type 0 where

@@ -4,7 +4,8 @@ use Rattle.bump_steps.specs.declared.views.HoldSheet.{HoldSheet}
 use Rattle.bump_steps.specs.Rule.{RowPredicate}
 use Rattle.bump_ring.specs.Ends.{Ring}
 use Rattle.cache_readers.specs.Looks.{Finds, HasWords, Hits, Peeks, Sees}
-use Rattle.cache_readers.specs.Readers.{ReaderView}
+use Rattle.cache_readers.specs.declared.misses.Miss.{Miss}
+use Rattle.cache_readers.specs.Readers.{ReadsMissed, ReaderView}
 use Rattle.keyed_hash.specs.declared.seed.Seed.{Seed}
 use Rattle.keyed_hash.specs.Hashes.{hash_of}
 use Rattle.cache_config.specs.Choosing.{part_of}
@@ -30,6 +31,16 @@ pub record InPart (Does : ReaderView → ReaderView → Type 0) (key : List ℕ)
     pub was : slice_get before.parts (part_for key before) ≡ Some from
     pub does : Does from to
     pub others : after ≡ record before { parts = slice_set before.parts (part_for key before) to }
+
+-- The reader of the key's part found nothing, by the key's hash with this seed, for what it tells of its last miss: of each
+-- lane, that at some moment it had no item of the key; or that its item was held, and had expired; or that a thousand
+-- searches ended at lives that had ended.
+abbrev pub MissesKey : Seed → List ℕ → ℕ → ReaderView → ReaderView → Type 0
+MissesKey seed key now = ReadsMissed (hash_of seed key) key now
+
+-- why a part's reader found nothing when it last did
+abbrev pub missed_of : ReaderView → Miss
+missed_of reader = reader.missed
 
 -- the rings into which it sends, by part
 abbrev pub rings_of : CacheReaderView → List Ring

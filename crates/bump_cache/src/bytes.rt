@@ -7,7 +7,7 @@ ghost use Rattle.bump_cache.specs.Bytes.{IfRoom, IfTooLong};
 ghost use Rattle.bump_cache.specs.Caches.{part_in};
 ghost use Rattle.bump_cache.specs.Pairs.{IsPair};
 ghost use Rattle.bump_cache.specs.Putting.{RemovesValue};
-ghost use Rattle.bump_cache.specs.Readers.{FindsValue, InPart, KeepsRings, SeesItem};
+ghost use Rattle.bump_cache.specs.Readers.{FindsValue, InPart, KeepsRings, MissesKey, SeesItem};
 ghost use Rattle.bump_cache.specs.States.{from_of, part_called, to_of};
 
 use crate::caches::Cache;
@@ -28,6 +28,8 @@ impl<N: Name, V: Packed, const W: usize> CacheReader<N, Bytes<W>, V> {
         ensures counted { IfSome result (λ value. InPart CountsHit (string_words W key.now) self.old self.new) }
         ensures missed { IfNone result (IfRoom W key.now (InPart (Misses (string_words W key.now) now)
             (string_words W key.now) self.old self.new)) }
+        ensures absent { IfNone result (IfRoom W key.now (InPart (MissesKey self.old.seed (string_words W key.now) now)
+            (string_words W key.now) self.old self.new)) }
         ensures too_long { IfTooLong W key.now (result ≡ None) }
         ensures unchanged { IfTooLong W key.now (self.new ≡ self.old) }
         ensures ring { KeepsRings self.old self.new }
@@ -46,6 +48,8 @@ impl<N: Name, V: Packed, const W: usize> CacheReader<N, Bytes<W>, V> {
         ensures counted { IfSome result (λ value. InPart CountsHit (string_words W key.now) self.old self.new) }
         ensures missed { IfNone result (IfRoom W key.now (InPart (Misses (string_words W key.now) now)
             (string_words W key.now) self.old self.new)) }
+        ensures absent { IfNone result (IfRoom W key.now (InPart (MissesKey self.old.seed (string_words W key.now) now)
+            (string_words W key.now) self.old self.new)) }
         ensures too_long { IfTooLong W key.now (result ≡ None) }
         ensures unchanged { IfTooLong W key.now (self.new ≡ self.old) }
         ensures ring { KeepsRings self.old self.new }
@@ -62,9 +66,11 @@ impl<N: Name, V: Packed, const W: usize> CacheReader<N, Bytes<W>, V> {
             (string_words W key.now) now) (string_words W key.now) self.old self.new }
         ensures nothing { result ≡ false → IfRoom W key.now (InPart (ReadsNothing (string_words W key.now) now)
             (string_words W key.now) self.old self.new) }
+        ensures absent { result ≡ false → IfRoom W key.now (InPart (MissesKey self.old.seed (string_words W key.now) now)
+            (string_words W key.now) self.old self.new) }
         ensures too_long { IfTooLong W key.now (result ≡ false) }
         ensures unchanged { IfTooLong W key.now (self.new ≡ self.old) }
-        ensures uncounted { IfRoom W key.now (InPart CountsNothing (string_words W key.now) self.old self.new) }
+        ensures uncounted { IfRoom W key.now (InPart (CountsNothing result) (string_words W key.now) self.old self.new) }
         ensures ring { KeepsRings self.old self.new }
     {
         match Bytes::new(key) {
@@ -80,9 +86,11 @@ impl<N: Name, V: Packed, const W: usize> CacheReader<N, Bytes<W>, V> {
             (string_words W key.now) now) (string_words W key.now) self.old self.new }
         ensures nothing { result ≡ false → IfRoom W key.now (InPart (ReadsNothing (string_words W key.now) now)
             (string_words W key.now) self.old self.new) }
+        ensures absent { result ≡ false → IfRoom W key.now (InPart (MissesKey self.old.seed (string_words W key.now) now)
+            (string_words W key.now) self.old self.new) }
         ensures too_long { IfTooLong W key.now (result ≡ false) }
         ensures unchanged { IfTooLong W key.now (self.new ≡ self.old) }
-        ensures uncounted { IfRoom W key.now (InPart CountsNothing (string_words W key.now) self.old self.new) }
+        ensures uncounted { IfRoom W key.now (InPart (CountsNothing result) (string_words W key.now) self.old self.new) }
         ensures ring { KeepsRings self.old self.new }
     {
         self.contains_bytes(key.as_bytes(), now)

@@ -4,7 +4,7 @@ ghost use Rattle.std.specs.Fn.{CalledAt};
 ghost use Rattle.cache_shelf.specs.Shelves.{with_put};
 ghost use Rattle.call_log.specs.Calls.{MakesOne};
 ghost use Rattle.bump_cache.specs.Caches.{part_in};
-ghost use Rattle.bump_cache.specs.Changing.{Adds, CallsOnHad, ChangesWhereSome, GetsOrPuts, IfGot, RefusesAnew, RefusesNew, ReplacesWhereSome, TouchesWhereSome};
+ghost use Rattle.bump_cache.specs.Changing.{Adds, CallsOnHad, ChangesWhereSome, GetsOrPuts, IfGot, RefusesAnew, RefusesNew, ReplacesWhereSome, TellsFound, TouchesWhereSome};
 ghost use Rattle.bump_cache.specs.States.{from_of, part_called, to_of};
 
 use crate::answers::{Added, GotOrPut, NoRoom, Put};
@@ -25,6 +25,16 @@ fn changed_by<V: Packed, F: FnMut(&V) -> V>(had: V, change: &mut F) -> V
 }
 
 impl<N: Name, K: Packed, V: Packed> Pairs<N, K, V> {
+    /// What a key has that hasn't expired.
+    pub(crate) fn find(&mut self, key: &K, now: u64) -> Option<V>
+        ensures { TellsFound V.as_words (K.as_words key.now) now result self.old self.new }
+    {
+        match self.look(key, now) {
+            Some((value, _)) => Some(value),
+            None => None,
+        }
+    }
+
     /// Puts a value under a key that has nothing, or what has expired.
     pub(crate) fn add(
         &mut self,
@@ -153,6 +163,29 @@ impl<N: Name, K: Packed, V: Packed> Pairs<N, K, V> {
 }
 
 impl<N: Name + LogName, K: Packed, V: Packed> Cache<N, K, V> {
+    /// What a key has that hasn't expired at `now`, in the caller's ticks; or None where it has nothing, or what has
+    /// expired. It is for who must know: a get of a reader, which waits for nobody, may give up. It looks under the lock of
+    /// the key's part, for which it waits until no other thread changes that; it is a call, and changes nothing. What it
+    /// looks at isn't touched, and no hit and no miss is counted.
+    pub fn look<W: Wait>(
+        &self,
+        rt: &W,
+        me: &mut Caller<N, CacheState>,
+        key: &K,
+        now: u64,
+    ) -> Option<V>
+        requires part { 0 < me.old.parts }
+        ensures call { MakesOne me.old me.new }
+        ensures part { part_called me.new ≡ part_in self.now (K.as_words key.now) }
+        ensures finds { TellsFound V.as_words (K.as_words key.now) now result (from_of me.new) (to_of me.new) }
+    {
+        let mut guard = self.lock_of(rt, key);
+        let logged = &mut *guard;
+        let found = logged.value.pairs.find(key, now);
+        logged.log.note(rt, me, &logged.value);
+        found
+    }
+
     /// Puts a value under a key that has nothing, or what has expired at `now`, as memcached's `add`; where it has
     /// something, it answers that, and puts nothing. It looks and puts as one call, so of many that add one key at a
     /// time one alone puts. The value expires at `expires`, and 0 is never; times are in the caller's ticks. What it

@@ -32,6 +32,7 @@ pub use bump_heads::Name;
 pub use bump_rules::{Accounts, ClassConfig, Classes, Config};
 pub use cache_config::{CacheConfig, CacheFault, CacheRefusal};
 pub use cache_lists::{Bound, Bounds, Statistic};
+pub use cache_readers::Miss;
 pub use cache_shelf::Stats;
 pub use caches::Cache;
 pub use call_log::{Caller, LogName};

@@ -1,11 +1,11 @@
 //! Gets by the reader of a key's part.
-ghost use Rattle.std.specs.Prelude.{◌≡◌, ◌+◌, ◌≤◌, true, false, length, IfSome, IfNone};
-ghost use Rattle.cache_readers.specs.Readers.{CountsHit, CountsNothing, GlancedAt, KeepsRing, Misses, ReadsNothing};
+ghost use Rattle.std.specs.Prelude.{◌≡◌, ◌+◌, ◌≤◌, true, false, is_some, length, IfSome, IfNone};
+ghost use Rattle.cache_readers.specs.Readers.{CountsHit, CountsNothing, GlancedAt, KeepsRing, Misses, ReadsMissed, ReadsNothing};
 ghost use Rattle.cache_readers.specs.Readers.{ReaderView as TheReaderView};
 ghost use Rattle.cache_config.specs.Choosing.{IsPartCount};
 ghost use Rattle.bump_cache.specs.Opening.{most_words};
 ghost use Rattle.bump_cache.specs.Pairs.{IsPair};
-ghost use Rattle.bump_cache.specs.Readers.{FindsValue, HitsItem, HoldsValue, InPart, KeepsRings, PeeksValue, SeesItem, readers_by};
+ghost use Rattle.bump_cache.specs.Readers.{FindsValue, HitsItem, HoldsValue, InPart, KeepsRings, MissesKey, PeeksValue, SeesItem, readers_by};
 
 use crate::held::PairHold;
 use crate::law::{MOST_WORDS, PairLaw};
@@ -34,6 +34,7 @@ fn get_by<N: Name, K: Packed, V: Packed>(
         (V.as_words it) now reader.old reader.new) }
     ensures counted { IfSome result (λ it. CountsHit reader.old reader.new) }
     ensures missed { IfNone result (Misses (K.as_words key.now) now reader.old reader.new) }
+    ensures absent { IfNone result (ReadsMissed hash (K.as_words key.now) now reader.old reader.new) }
     ensures ring { KeepsRing reader.old reader.new }
 {
     match reader.glance(hash, words, value, now) {
@@ -62,6 +63,8 @@ fn get_held_by<N: Name, K: Packed, V: Packed>(
     ensures counted { IfSome result (λ it. CountsHit reader.old reader.new) }
     ensures missed { IfNone result ((before : TheReaderView) → GlancedAt id before reader.old
         → Misses (K.as_words key.now) now before reader.new) }
+    ensures absent { IfNone result ((before : TheReaderView) → GlancedAt id before reader.old
+        → ReadsMissed hash (K.as_words key.now) now before reader.new) }
     ensures ring { KeepsRing reader.old reader.new }
 {
     let mut key_row = [0; MOST_WORDS];
@@ -118,7 +121,8 @@ fn peek_by<N: Name, K: Packed, V: Packed>(
     ensures found { IfSome result (λ it. PeeksValue (IsPair K.fits K.as_words V.fits V.as_words) (K.as_words _key.now)
         (V.as_words it) now reader.old reader.new) }
     ensures nothing { IfNone result (ReadsNothing (K.as_words _key.now) now reader.old reader.new) }
-    ensures uncounted { CountsNothing reader.old reader.new }
+    ensures absent { IfNone result (ReadsMissed hash (K.as_words _key.now) now reader.old reader.new) }
+    ensures uncounted { CountsNothing (is_some result) reader.old reader.new }
     ensures ring { KeepsRing reader.old reader.new }
 {
     if !reader.peek(hash, words, value, now) {
@@ -142,7 +146,8 @@ fn see_by<N: Name, K: Packed, V: Packed>(
     ensures found { result ≡ true → SeesItem (IsPair K.fits K.as_words V.fits V.as_words) (K.as_words _key.now) now
         reader.old reader.new }
     ensures nothing { result ≡ false → ReadsNothing (K.as_words _key.now) now reader.old reader.new }
-    ensures uncounted { CountsNothing reader.old reader.new }
+    ensures absent { result ≡ false → ReadsMissed hash (K.as_words _key.now) now reader.old reader.new }
+    ensures uncounted { CountsNothing result reader.old reader.new }
     ensures ring { KeepsRing reader.old reader.new }
 {
     reader.contains(hash, words, now)
@@ -169,6 +174,8 @@ pub(crate) fn get_in<N: Name, K: Packed, V: Packed>(
     ensures counted { IfSome result (λ it. InPart CountsHit (K.as_words key.now) (readers_by seed parts.old)
         (readers_by seed parts.new)) }
     ensures missed { IfNone result (InPart (Misses (K.as_words key.now) now) (K.as_words key.now)
+        (readers_by seed parts.old) (readers_by seed parts.new)) }
+    ensures absent { IfNone result (InPart (MissesKey seed (K.as_words key.now) now) (K.as_words key.now)
         (readers_by seed parts.old) (readers_by seed parts.new)) }
     ensures ring { KeepsRings (readers_by seed parts.old) (readers_by seed parts.new) }
 {
@@ -223,7 +230,9 @@ pub(crate) fn peek_in<N: Name, K: Packed, V: Packed>(
         (readers_by seed parts.new)) }
     ensures nothing { IfNone result (InPart (ReadsNothing (K.as_words key.now) now) (K.as_words key.now)
         (readers_by seed parts.old) (readers_by seed parts.new)) }
-    ensures uncounted { InPart CountsNothing (K.as_words key.now) (readers_by seed parts.old)
+    ensures absent { IfNone result (InPart (MissesKey seed (K.as_words key.now) now) (K.as_words key.now)
+        (readers_by seed parts.old) (readers_by seed parts.new)) }
+    ensures uncounted { InPart (CountsNothing (is_some result)) (K.as_words key.now) (readers_by seed parts.old)
         (readers_by seed parts.new) }
     ensures ring { KeepsRings (readers_by seed parts.old) (readers_by seed parts.new) }
 {
@@ -248,7 +257,9 @@ pub(crate) fn see_in<N: Name, K: Packed, V: Packed>(
         (K.as_words key.now) now) (K.as_words key.now) (readers_by seed parts.old) (readers_by seed parts.new) }
     ensures nothing { result ≡ false → InPart (ReadsNothing (K.as_words key.now) now) (K.as_words key.now)
         (readers_by seed parts.old) (readers_by seed parts.new) }
-    ensures uncounted { InPart CountsNothing (K.as_words key.now) (readers_by seed parts.old)
+    ensures absent { result ≡ false → InPart (MissesKey seed (K.as_words key.now) now) (K.as_words key.now)
+        (readers_by seed parts.old) (readers_by seed parts.new) }
+    ensures uncounted { InPart (CountsNothing result) (K.as_words key.now) (readers_by seed parts.old)
         (readers_by seed parts.new) }
     ensures ring { KeepsRings (readers_by seed parts.old) (readers_by seed parts.new) }
 {

@@ -65,8 +65,8 @@ pub fn open<N: Name + LogName, K: Packed, V: Packed, W: Wait>(
         workers,
         lanes,
     } = UnlockedStore::<N, PairLaw<K, V>>::open(alloc, words, &store)?;
-    let indexes = make_indexes(alloc, &config)?;
-    let rows = make_part_readers(alloc, &heads, workers, &indexes, &config)?;
+    let mut indexes = make_indexes(alloc, &config)?;
+    let rows = make_part_readers(alloc, &heads, workers, &mut indexes, &config)?;
     let readers = make_readers(alloc, rows, config.seed)?;
     let (key_words, value_words) = (K::words() as u32, V::words() as u32);
     let shelves = make_shelves(

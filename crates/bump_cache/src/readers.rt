@@ -1,10 +1,10 @@
 //! A reader of a cache.
-ghost use Rattle.std.specs.Prelude.{◌≡◌, ◌+◌, ◌≤◌, true, false, length, All, IfSome, IfNone};
+ghost use Rattle.std.specs.Prelude.{◌≡◌, ◌+◌, ◌≤◌, true, false, is_some, length, option_map, slice_get, All, IfSome, IfNone, Some};
 ghost use Rattle.cache_readers.specs.Readers.{CountsHit, CountsNothing, Misses, ReadsNothing};
 ghost use Rattle.cache_config.specs.Choosing.{IsPartCount};
 ghost use Rattle.bump_cache.specs.Opening.{most_words};
 ghost use Rattle.bump_cache.specs.Pairs.{IsPair};
-ghost use Rattle.bump_cache.specs.Readers.{FindsValue, HitsItem, HoldsValue, InPart, KeepsRings, PeeksValue, SeesItem};
+ghost use Rattle.bump_cache.specs.Readers.{FindsValue, HitsItem, HoldsValue, InPart, KeepsRings, MissesKey, PeeksValue, SeesItem, missed_of, part_for};
 ghost use Rattle.cache_config.specs.Sums.{AddsUp, bumps_of, dropped_of, hits_of, misses_of};
 
 use crate::held::HeldItem;
@@ -13,7 +13,7 @@ use crate::looking::{get_in, hold_in, peek_in, see_in};
 use bump_heads::Name;
 use bump_rules::Accounts;
 use cache_config::{bumps_in, hits_in, misses_in, part_of_hash};
-use cache_readers::WordReader;
+use cache_readers::{Miss, WordReader};
 use keyed_hash::Seed;
 use packed_words::Packed;
 use std::marker::{Model, PhantomData};
@@ -80,6 +80,11 @@ impl<N: Name, K: Packed, V: Packed> CacheReader<N, K, V> {
     /// both marks: the first get sets FETCHED, the second ACTIVE, and in COLD it queues a bump. Its value is what the
     /// put of this life stored. Where an item was ended by another thread in between, or couldn't be held, it
     /// searches anew, at most 1,000 times.
+    ///
+    /// Where it answers None, and didn't hold an item with the key that has expired, and didn't search 1,000 times in vain,
+    /// of each lane of the part's index this is true: at a moment between the last one that this reader had seen before and
+    /// the end of the call the index didn't lead to it from the key's hash, or there stood a life in it that was held then,
+    /// and has another key. So a key to which the index leads all the while, by the same lane, is found.
     #[inline(always)]
     pub fn get(&mut self, key: &K, now: u64) -> Option<V>
         ensures found { IfSome result (λ value. InPart (FindsValue (IsPair K.fits K.as_words V.fits V.as_words)
@@ -87,6 +92,8 @@ impl<N: Name, K: Packed, V: Packed> CacheReader<N, K, V> {
         ensures counted { IfSome result (λ value. InPart CountsHit (K.as_words key.now) self.old self.new) }
         ensures missed { IfNone result (InPart (Misses (K.as_words key.now) now) (K.as_words key.now) self.old
             self.new) }
+        ensures absent { IfNone result (InPart (MissesKey self.old.seed (K.as_words key.now) now) (K.as_words key.now)
+            self.old self.new) }
         ensures ring { KeepsRings self.old self.new }
     {
         let seed = self.seed;
@@ -143,7 +150,9 @@ impl<N: Name, K: Packed, V: Packed> CacheReader<N, K, V> {
             (K.as_words key.now) (V.as_words value) now) (K.as_words key.now) self.old self.new) }
         ensures nothing { IfNone result (InPart (ReadsNothing (K.as_words key.now) now) (K.as_words key.now) self.old
             self.new) }
-        ensures uncounted { InPart CountsNothing (K.as_words key.now) self.old self.new }
+        ensures absent { IfNone result (InPart (MissesKey self.old.seed (K.as_words key.now) now) (K.as_words key.now)
+            self.old self.new) }
+        ensures uncounted { InPart (CountsNothing (is_some result)) (K.as_words key.now) self.old self.new }
         ensures ring { KeepsRings self.old self.new }
     {
         let seed = self.seed;
@@ -161,13 +170,29 @@ impl<N: Name, K: Packed, V: Packed> CacheReader<N, K, V> {
             (K.as_words key.now) now) (K.as_words key.now) self.old self.new }
         ensures nothing { result ≡ false → InPart (ReadsNothing (K.as_words key.now) now) (K.as_words key.now) self.old
             self.new }
-        ensures uncounted { InPart CountsNothing (K.as_words key.now) self.old self.new }
+        ensures absent { result ≡ false → InPart (MissesKey self.old.seed (K.as_words key.now) now) (K.as_words key.now)
+            self.old self.new }
+        ensures uncounted { InPart (CountsNothing result) (K.as_words key.now) self.old self.new }
         ensures ring { KeepsRings self.old self.new }
     {
         let seed = self.seed;
         let mut key_row = [0; MOST_WORDS];
         let words = &mut key_row[..K::words()];
         see_in(&mut self.parts, seed, key, words, now)
+    }
+
+    /// Why the last get, peek or `contains` that found nothing in the key's part did so: where that was the last call of this
+    /// reader in that part, it is why this key wasn't found. `Unknown` where each found something so far. It takes no lock
+    /// and no memory, and waits for nobody.
+    pub fn last_miss(&self, key: &K) -> Miss
+        ensures { option_map missed_of (slice_get self.now.parts (part_for (K.as_words key.now) self.now)) ≡ Some result }
+    {
+        let seed = self.seed;
+        let mut key_row = [0; MOST_WORDS];
+        let words = &mut key_row[..K::words()];
+        key.pack(words);
+        let hash = seed.hash(words);
+        self.parts[part_of_hash(self.parts.len(), hash)].last_miss()
     }
 
     /// How many gets found something (memcached's `get_hits`), in all parts together, at most 2^64 - 1.

@@ -1,5 +1,5 @@
 -- What stands in a place of a list.
-use Rattle.std.proofs.Common.{◌≡◌, ℕ, zero, suc, ◌+◌, ◌<◌, ◌++◌, List, [], ◌∷◌, length, drop, set, Some, refl, sym, ap, ◌∙◌, subst, arith}
+use Rattle.std.proofs.Common.{◌≡◌, ℕ, zero, suc, ◌+◌, ◌<◌, ◌++◌, List, [], ◌∷◌, length, drop, get_or, set, Some, refl, sym, ap, ◌∙◌, subst, arith}
 use native.Mathlib.Decide.{ℕ_discrete}
 use Rattle.std.specs.List.{All, slice_get}
 use Rattle.std.proofs.lemmas.List.{length-append}
@@ -122,3 +122,9 @@ pub all_rest : {X : Type 0} (P : X → Type 0) (all : List X) (x : X) (rest : Li
     → All P rest
 all_rest P all x rest is each =
     let own : All P (x ∷ rest) = subst (All P) is each in λ k none low. own (suc k) none (omega (arith, low))
+
+-- what is put back where it stood changes nothing
+pub set_back : {A : Type 0} (xs : List A) (place : ℕ) (d : A) → set xs place (get_or xs place d) ≡ xs
+set_back [] place d = refl
+set_back (x ∷ xs) zero d = refl
+set_back (x ∷ xs) (suc place) d = ap (λ (r : List _). x ∷ r) (set_back xs place d)

@@ -3,7 +3,7 @@ use Rattle.std.proofs.Common.{◌≡◌, ℕ, ◌+◌, ◌*◌, ◌<◌, ◌≤�
 use Rattle.std.specs.List.{All, slice_get}
 use Rattle.bump_rules.specs.declared.configs.Config.{Config}
 use Rattle.bump_unlocked.specs.Workers.{WorkerState}
-use Rattle.cache_readers.specs.Readers.{ReaderView, new_reader}
+use Rattle.cache_readers.specs.Readers.{ReaderView, counts_of, no_counts}
 use native.Mathlib.Decide.{ℕ_discrete}
 use Rattle.std.proofs.lemmas.List.{length-append, length-set}
 use Rattle.std.proofs.lemmas.Option.{slice_get-get_or, slice_get_within}
@@ -17,22 +17,25 @@ pub record AddsFirst (store : Config) (chunk : ℕ) (workers : List WorkerState)
   pub count : length after ≡ length before
   pub each : (number : ℕ) (row : List ReaderView) → number < first → slice_get before number ≡ Some row
       → (worker : WorkerState) × (slice_get workers number ≡ Some worker)
-      × (slice_get after number ≡ Some (row ++ new_reader store chunk worker ∷ []))
+      × (reader : ReaderView) × (counts_of reader ≡ no_counts store chunk worker)
+      × (slice_get after number ≡ Some (row ++ reader ∷ []))
   pub others : (number : ℕ) → first ≤ number → slice_get after number ≡ slice_get before number
 
 -- what the row of one number is once the reader of another one is made
 module _ (store : Config) (chunk : ℕ) (workers : List WorkerState) (first : ℕ) (before half : List (List ReaderView))
-    (row : List ReaderView) (worker : WorkerState) (so_far : AddsFirst store chunk workers first before half)
+    (row : List ReaderView) (worker : WorkerState) (reader : ReaderView)
+    (made : counts_of reader ≡ no_counts store chunk worker) (so_far : AddsFirst store chunk workers first before half)
     (low : first < length before) (at : slice_get half first ≡ Some row)
     (next : slice_get workers first ≡ Some worker) where
   -- the rows with one reader more
   abbrev added : List (List ReaderView)
-  added = set half first (row ++ new_reader store chunk worker ∷ [])
+  added = set half first (row ++ reader ∷ [])
 
   -- each of the first ones and this one has a reader more
   each_added : (number : ℕ) (old : List ReaderView) → number < first + 1 → slice_get before number ≡ Some old
       → Dec (number ≡ first) → (other : WorkerState) × (slice_get workers number ≡ Some other)
-      × (slice_get added number ≡ Some (old ++ new_reader store chunk other ∷ []))
+      × (one : ReaderView) × (counts_of one ≡ no_counts store chunk other)
+      × (slice_get added number ≡ Some (old ++ one ∷ []))
   each_added number old below had (yes same) =
       let room : first < length half = omega (arith, low, so_far.count) in
       let both : Some row ≡ Some old =
@@ -40,25 +43,28 @@ module _ (store : Config) (chunk : ℕ) (workers : List WorkerState) (first : �
       let is : row ≡ old = cc both in (
         worker,
         ap (slice_get workers) same ∙ next,
+        reader,
+        made,
         ap (slice_get added) same
-            ∙ (get_set_same half first (row ++ new_reader store chunk worker ∷ []) room
-            ∙ ap (λ r. Some (r ++ new_reader store chunk worker ∷ [])) is),
+            ∙ (get_set_same half first (row ++ reader ∷ []) room ∙ ap (λ r. Some (r ++ reader ∷ [])) is),
       )
   each_added number old below had (no unlike) =
       let under : number < first = omega (arith, below, unlike) in
       let was = so_far.each number old under had in (
         was.0,
         was.1,
-        get_set_other half first number (row ++ new_reader store chunk worker ∷ []) unlike ∙ was.2,
+        was.2,
+        was.3,
+        get_set_other half first number (row ++ reader ∷ []) unlike ∙ was.4,
       )
 
   -- one row more has a reader more
-  pub adds_next : AddsFirst store chunk workers (first + 1) before (set half first (row ++ new_reader store chunk worker ∷ []))
+  pub adds_next : AddsFirst store chunk workers (first + 1) before (set half first (row ++ reader ∷ []))
   adds_next = record {
-    count = length-set half first (row ++ new_reader store chunk worker ∷ []) ∙ so_far.count;
+    count = length-set half first (row ++ reader ∷ []) ∙ so_far.count;
     each = λ number old below had. each_added number old below had (ℕ_discrete number first);
     others = λ number past.
-        get_set_other half first number (row ++ new_reader store chunk worker ∷ []) (λ e. omega (arith, past, e))
+        get_set_other half first number (row ++ reader ∷ []) (λ e. omega (arith, past, e))
         ∙ so_far.others number (omega (arith, past));
   }
 
@@ -105,7 +111,9 @@ module _ (store : Config) (chunks : ℕ → ℕ) (readers parts : ℕ) (workers 
     pub was : slice_get before number ≡ Some old
     pub worker : WorkerState
     pub next : slice_get workers (parts * readers + number) ≡ Some worker
-    pub is : row ≡ old ++ new_reader store (chunks parts) worker ∷ []
+    pub reader : ReaderView
+    pub made : counts_of reader ≡ no_counts store (chunks parts) worker
+    pub is : row ≡ old ++ reader ∷ []
 
   grown : (number : ℕ) (row : List ReaderView) → slice_get after number ≡ Some row → Grown number row
   grown number row had =
@@ -113,31 +121,37 @@ module _ (store : Config) (chunks : ℕ → ℕ) (readers parts : ℕ) (workers 
       let within : number < length before = omega (arith, low, adds.count) in
       let old = get_within before number within in
       let one = adds.each number old.0 old.1 in
-      let both : Some row ≡ Some (old.0 ++ new_reader store (chunks parts) one.0 ∷ []) = sym had ∙ one.2 in
+      let both : Some row ≡ Some (old.0 ++ one.2 ∷ []) = sym had ∙ one.4 in
       record {
         old = old.0;
         was = old.1;
         worker = one.0;
         next = sym (get_drop workers (parts * readers) number) ∙ one.1;
+        reader = one.2;
+        made = one.3;
         is = cc both;
       }
 
   -- each part of it is by its worker
   by_part : (number : ℕ) (row : List ReaderView) → Grown number row → (part : ℕ) → part < parts + 1
       → Dec (part ≡ parts)
-      → slice_get row part ≡ option_map (new_reader store (chunks part)) (slice_get workers (part * readers + number))
+      → option_map counts_of (slice_get row part)
+      ≡ option_map (no_counts store (chunks part)) (slice_get workers (part * readers + number))
   by_part number row one part below (yes same) =
       let long : length one.old ≡ parts = are.length_is number one.old one.was in
       let place : part ≡ length one.old = same ∙ sym long in
-      ap (slice_get row) place ∙ (ap (λ r. slice_get r (length one.old)) one.is
-      ∙ (get_end one.old (new_reader store (chunks parts) one.worker)
-      ∙ (ap (option_map (new_reader store (chunks parts))) (sym one.next)
-      ∙ ap (λ p. option_map (new_reader store (chunks p)) (slice_get workers (p * readers + number))) (sym same))))
+      let last : slice_get row part ≡ Some one.reader =
+      ap (slice_get row) place
+      ∙ (ap (λ r. slice_get r (length one.old)) one.is ∙ get_end one.old one.reader) in
+      ap (option_map counts_of) last
+      ∙ (ap Some one.made
+      ∙ (ap (option_map (no_counts store (chunks parts))) (sym one.next)
+      ∙ ap (λ p. option_map (no_counts store (chunks p)) (slice_get workers (p * readers + number))) (sym same)))
   by_part number row one part below (no unlike) =
       let long : length one.old ≡ parts = are.length_is number one.old one.was in
       let under : part < parts = omega (arith, below, unlike) in
-      ap (λ r. slice_get r part) one.is
-      ∙ (get_front one.old (new_reader store (chunks parts) one.worker ∷ []) part (omega (arith, under, long))
+      ap (λ r. option_map counts_of (slice_get r part)) one.is
+      ∙ (ap (option_map counts_of) (get_front one.old (one.reader ∷ []) part (omega (arith, under, long)))
       ∙ are.each number one.old one.was part under)
 
   -- rows of one part more
@@ -147,7 +161,7 @@ module _ (store : Config) (chunks : ℕ → ℕ) (readers parts : ℕ) (workers 
     length_is = λ number row had.
         let one = grown number row had in
         let long : length one.old ≡ parts = are.length_is number one.old one.was in
-        ap length one.is ∙ (length-append one.old (new_reader store (chunks parts) one.worker ∷ []) ∙ ap (λ n. n + 1) long);
+        ap length one.is ∙ (length-append one.old (one.reader ∷ []) ∙ ap (λ n. n + 1) long);
     each = λ number row had part below. by_part number row (grown number row had) part below (ℕ_discrete part parts);
   }
 

@@ -6,7 +6,7 @@ use Rattle.bump_class.specs.Lanes.{LaneView}
 use Rattle.bump_unlocked.specs.Workers.{WorkerState}
 use Rattle.cache_lists.specs.Counts.{no_evictions, no_flow}
 use Rattle.cache_index.specs.Views.{IndexView, Led}
-use Rattle.cache_readers.specs.Readers.{ReaderView, new_reader}
+use Rattle.cache_readers.specs.Readers.{ReaderView, counts_of, no_counts}
 use Rattle.cache_shelf.specs.Shelves.{ShelfView}
 use Rattle.cache_shelf.specs.declared.limits.Limits.{Limits}
 use Rattle.cache_config.specs.declared.config.CacheConfig.{CacheConfig}
@@ -95,7 +95,8 @@ pub record AddsPart (store : Config) (chunk : ℕ) (workers : List WorkerState) 
   pub count : length after ≡ length before
   pub each : (number : ℕ) (row : List ReaderView) → slice_get before number ≡ Some row
       → (worker : WorkerState) × (slice_get workers number ≡ Some worker)
-      × (slice_get after number ≡ Some (row ++ new_reader store chunk worker ∷ []))
+      × (reader : ReaderView) × (counts_of reader ≡ no_counts store chunk worker)
+      × (slice_get after number ≡ Some (row ++ reader ∷ []))
 
 -- The rows are those of readers of so many parts, by the first chunk of each part, and by workers that are numbered part
 -- by part.
@@ -104,4 +105,5 @@ pub record AreRows (store : Config) (chunks : ℕ → ℕ) (readers parts : ℕ)
   pub count : length rows ≡ readers
   pub length_is : (number : ℕ) (row : List ReaderView) → slice_get rows number ≡ Some row → length row ≡ parts
   pub each : (number : ℕ) (row : List ReaderView) → slice_get rows number ≡ Some row → (part : ℕ) → part < parts
-      → slice_get row part ≡ option_map (new_reader store (chunks part)) (slice_get workers (part * readers + number))
+      → option_map counts_of (slice_get row part)
+      ≡ option_map (no_counts store (chunks part)) (slice_get workers (part * readers + number))

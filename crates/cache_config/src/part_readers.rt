@@ -71,11 +71,12 @@ fn add_part<N: Name, L: RowLaw>(
     rows: &mut [PartReaders<N, L>],
     heads: &Arc<Heads<N, L>, Global>,
     workers: &mut IntoIter<Worker<N>>,
-    index: &Index,
+    index: &mut Index,
 ) -> Result<(), AllocError>
     requires { length rows.old ≤ length (into_iter_items workers.old) }
-    ensures rows { IfOk result (λ done. AddsPart (arc_value heads.now) index.now.first (into_iter_items workers.old)
+    ensures rows { IfOk result (λ done. AddsPart (arc_value heads.now) index.old.first (into_iter_items workers.old)
         rows.old rows.new) }
+    ensures index { index.new ≡ index.old }
     ensures rest { IfOk result (λ done. into_iter_items workers.new
         ≡ drop (length rows.old) (into_iter_items workers.old)) }
 {
@@ -84,31 +85,33 @@ fn add_part<N: Name, L: RowLaw>(
             unreachable!()
         };
         let heads = Arc::try_clone(heads)?;
-        let nests = index.reader()?;
-        let reader = WordReader::new(worker, heads, nests);
+        let (nests, eye) = index.reader()?;
+        let reader = WordReader::new(worker, heads, nests, eye);
         rows[number].push(reader)?;
     }
     Ok(())
 }
 
 /// What each reader of a cache reads by, by the workers of its store, which are numbered part by part, and the indexes
-/// of the parts. It is refused only for want of memory.
+/// of the parts, which stay as they are: each reader gets an eye of what its index was so far. It is refused only for want
+/// of memory.
 pub fn make_part_readers<N: Name, L: RowLaw>(
     alloc: Global,
     heads: &Arc<Heads<N, L>, Global>,
     workers: Vec<Worker<N>>,
-    indexes: &[Index],
+    indexes: &mut [Index],
     config: &CacheConfig,
 ) -> Result<Vec<PartReaders<N, L>>, AllocError>
     requires workers { length workers.items ≡ config.now.parts * config.now.readers }
-    requires indexes { AreNewIndexes config.now config.now.parts indexes.now }
-    ensures { IfOk result (λ rows. AreRows (arc_value heads.now) (chunks_before config.now) config.now.readers
+    requires indexes { AreNewIndexes config.now config.now.parts indexes.old }
+    ensures rows { IfOk result (λ rows. AreRows (arc_value heads.now) (chunks_before config.now) config.now.readers
         config.now.parts workers.items rows.items) }
+    ensures indexes { indexes.new ≡ indexes.old }
 {
     let mut rows = empty_rows(alloc, config)?;
     let mut workers = workers.into_iter();
-    for index in indexes {
-        add_part(&mut rows, heads, &mut workers, index)?;
+    for part in 0..indexes.len() {
+        add_part(&mut rows, heads, &mut workers, &mut indexes[part])?;
     }
     Ok(rows)
 }

@@ -5,13 +5,13 @@ use Rattle.std.specs.Prelude.{slice_get, slice_set, slice_index_or}
 use Rattle.bump_steps.specs.declared.views.HoldSheet.{HoldSheet}
 use Rattle.bump_handles.proofs.PlaceLemmas.{busy_there, none_of, put_back}
 use Rattle.packed_words.specs.Spelling.{long_string}
-use Rattle.cache_readers.specs.Readers.{Misses}
+use Rattle.keyed_hash.specs.declared.seed.Seed.{Seed}
 use Rattle.bump_cache.specs.Readers.{CacheReaderView, InPart}
 use Rattle.bump_cache.proofs.Choices.{in_same}
 use Rattle.cache_handles.specs.declared.reading.GetTold.{GetTold}
 use Rattle.cache_handles.specs.declared.reading.HeldTold.TheVariants as held
 use Rattle.cache_handles.specs.declared.values.ValueTold.{ValueTold}
-use Rattle.cache_handles.specs.Reading.{Gets, HitsHeld, HoldsNothing, TellsGet, TellsHold, TellsRead, TellsRelease, key_of, value_word}
+use Rattle.cache_handles.specs.Reading.{Gets, HitsHeld, HoldsNothing, MissesItem, TellsGet, TellsHold, TellsRead, TellsRelease, key_of, value_word}
 use Rattle.cache_handles.specs.Rows.{TellsValue, eight_words}
 use Rattle.cache_handles.specs.Views.{ByteReaderView}
 
@@ -35,19 +35,19 @@ rest_of v after reader holds left =
     left ∙ ap (λ (a : ByteReaderView). record v { reader = a.reader; holds = a.holds }) (sym left)
 
 -- what was done with the words of a key, which are as many as they are to be
-pub got_spelled : (bytes : List ℕ) (long width value_words now : ℕ) (answer : GetTold)
+pub got_spelled : (seed : Seed) (bytes : List ℕ) (long width value_words now : ℕ) (answer : GetTold)
     (before from to after : CacheReaderView) → long ≡ width → from ≡ before → to ≡ after
-    → InPart (Gets (long_string long bytes) value_words now answer) (long_string long bytes) from to
-    → InPart (Gets (long_string width bytes) value_words now answer) (long_string width bytes) before after
-got_spelled bytes long width value_words now answer before from to after wide start end did =
-    in_same (Gets (long_string width bytes) value_words now answer) (long_string width bytes) before from to after
-    start end (subst (λ (n : ℕ). InPart (Gets (long_string n bytes) value_words now answer) (long_string n bytes) from
-    to) wide did)
+    → InPart (Gets seed (long_string long bytes) value_words now answer) (long_string long bytes) from to
+    → InPart (Gets seed (long_string width bytes) value_words now answer) (long_string width bytes) before after
+got_spelled seed bytes long width value_words now answer before from to after wide start end did =
+    in_same (Gets seed (long_string width bytes) value_words now answer) (long_string width bytes) before from to after
+    start end (subst (λ (n : ℕ). InPart (Gets seed (long_string n bytes) value_words now answer) (long_string n bytes)
+    from to) wide did)
 
 -- a get of a key that isn't too long
 pub tells_got : (key : List ℕ) (now : ℕ) (v before after : ByteReaderView) (answer : GetTold) → v ≡ before
     → length key ≤ v.key_bytes
-    → InPart (Gets (key_of v key) v.value_words now answer) (key_of v key) v.reader after.reader
+    → InPart (Gets v.reader.seed (key_of v key) v.value_words now answer) (key_of v key) v.reader after.reader
     → after ≡ record v { reader = after.reader } → TellsGet Gets key now before after answer
 tells_got key now v before after answer same short did left =
     subst (λ (b : ByteReaderView). TellsGet Gets key now b after answer) same (record {
@@ -66,13 +66,13 @@ hit_spelled bytes long width now hold before from to after wide start end did =
     (subst (λ (n : ℕ). InPart (HitsHeld (long_string n bytes) now hold) (long_string n bytes) from to) wide did)
 
 -- and where nothing was found
-pub missed_spelled : (bytes : List ℕ) (long width now : ℕ)
+pub missed_spelled : (seed : Seed) (bytes : List ℕ) (long width now : ℕ)
     (before from to after : CacheReaderView) → long ≡ width → from ≡ before → to ≡ after
-    → InPart (Misses (long_string long bytes) now) (long_string long bytes) from to
-    → InPart (Misses (long_string width bytes) now) (long_string width bytes) before after
-missed_spelled bytes long width now before from to after wide start end did =
-    in_same (Misses (long_string width bytes) now) (long_string width bytes) before from to after start end
-    (subst (λ (n : ℕ). InPart (Misses (long_string n bytes) now) (long_string n bytes) from to) wide did)
+    → InPart (MissesItem seed (long_string long bytes) now) (long_string long bytes) from to
+    → InPart (MissesItem seed (long_string width bytes) now) (long_string width bytes) before after
+missed_spelled seed bytes long width now before from to after wide start end did =
+    in_same (MissesItem seed (long_string width bytes) now) (long_string width bytes) before from to after start end
+    (subst (λ (n : ℕ). InPart (MissesItem seed (long_string n bytes) now) (long_string n bytes) from to) wide did)
 
 -- a hold into a place that has one
 pub holds_busy : (place : ℕ) (key : List ℕ) (now : ℕ) (v before after : ByteReaderView) (x : Option HoldSheet)
@@ -108,7 +108,7 @@ holds_long place key now v before after x same there none read long left =
 -- one that finds nothing
 pub holds_missed : (place : ℕ) (key : List ℕ) (now : ℕ) (v before after : ByteReaderView) (x : Option HoldSheet)
     → v ≡ before → slice_get v.holds place ≡ Some x → is_some x ≡ false → x ≡ slice_index_or v.holds place x
-    → length key ≤ v.key_bytes → InPart (Misses (key_of v key) now) (key_of v key) v.reader after.reader
+    → length key ≤ v.key_bytes → InPart (MissesItem v.reader.seed (key_of v key) now) (key_of v key) v.reader after.reader
     → after ≡ record v { reader = after.reader; holds = slice_set v.holds place x }
     → TellsHold place key now before after held.Nothing
 holds_missed place key now v before after x same there none read short missed left =

@@ -2,7 +2,9 @@
 use Rattle.std.specs.Prelude.{◌≡◌, ◌≢◌, ℕ, ◌+◌, ◌<◌, ◌≤◌, Bool, true, false, List, length, min, replicate, slice_get, slice_index, slice_set, None, Some}
 use Rattle.bump_steps.specs.declared.views.HoldSheet.{HoldSheet}
 use Rattle.bump_steps.specs.References.{word_of_row}
-use Rattle.cache_readers.specs.Readers.{ReaderView, CountsHit, Misses}
+use Rattle.cache_readers.specs.Readers.{ReaderView, CountsHit, Misses, ReadsMissed}
+use Rattle.keyed_hash.specs.declared.seed.Seed.{Seed}
+use Rattle.keyed_hash.specs.Hashes.{hash_of}
 use Rattle.packed_words.specs.Spelling.{long_string}
 use Rattle.bump_cache.specs.Readers.{FindsValue, HitsItem, InPart}
 use Rattle.cache_handles.specs.declared.reading.GetTold.{GetTold}
@@ -40,20 +42,33 @@ pub record ReadsFirst (key : List ℕ) (value_words now flags value_length : ℕ
   pub value : TellsValue (slice_index read) flags value_length
   pub words : told ≡ eight_words (slice_index read) 2 (length read)
 
--- what a get comes to, in the reader of the key's part
-abbrev pub Gets : List ℕ → ℕ → ℕ → GetTold → ReaderView → ReaderView → Type 0
-Gets key value_words now (got.Found value words) before after =
+-- A get of a key of this hash found nothing, counted a miss, and noted why.
+pub record MissesBy (hash : ℕ) (key : List ℕ) (now : ℕ) (before after : ReaderView) : Type 0 where
+  pub missed : Misses key now before after
+  pub absent : ReadsMissed hash key now before after
+
+-- what a get comes to, in the reader of the key's part, by the key's hash
+abbrev pub GetsBy : ℕ → List ℕ → ℕ → ℕ → GetTold → ReaderView → ReaderView → Type 0
+GetsBy hash key value_words now (got.Found value words) before after =
     ReadsFirst key value_words now value.flags value.length words before after
-Gets key value_words now got.Nothing before after = Misses key now before after
-Gets key value_words now got.KeyBytes before after = ⊥
+GetsBy hash key value_words now got.Nothing before after = MissesBy hash key now before after
+GetsBy hash key value_words now got.KeyBytes before after = ⊥
+
+-- by its hash with this seed
+abbrev pub Gets : Seed → List ℕ → ℕ → ℕ → GetTold → ReaderView → ReaderView → Type 0
+Gets seed key = GetsBy (hash_of seed key) key
+
+abbrev pub MissesItem : Seed → List ℕ → ℕ → ReaderView → ReaderView → Type 0
+MissesItem seed key = MissesBy (hash_of seed key) key
 
 -- What reading a value comes to: exactly where the key is too long that is told, and nothing is changed; else the reader
 -- of the key's part does this.
-pub record TellsGet (Does : List ℕ → ℕ → ℕ → GetTold → ReaderView → ReaderView → Type 0) (key : List ℕ) (now : ℕ)
-    (before after : ByteReaderView) (answer : GetTold) : Type 0 where
+pub record TellsGet (Does : Seed → List ℕ → ℕ → ℕ → GetTold → ReaderView → ReaderView → Type 0) (key : List ℕ)
+    (now : ℕ) (before after : ByteReaderView) (answer : GetTold) : Type 0 where
   pub too_long : before.key_bytes < length key → (answer ≡ got.KeyBytes) × (after ≡ before)
-  pub does : length key ≤ before.key_bytes → InPart (Does (key_of before key) before.value_words now answer)
-      (key_of before key) before.reader after.reader
+  pub does : length key ≤ before.key_bytes → InPart
+      (Does before.reader.seed (key_of before key) before.value_words now answer) (key_of before key) before.reader
+      after.reader
   pub rest : after ≡ record before { reader = after.reader }
 
 -- What a get comes to that holds: the hold that it took stands in the place.
@@ -62,7 +77,8 @@ Holds key place now before after (held.Found value) = (hold : HoldSheet)
     × InPart (HitsHeld key now hold) key before.reader after.reader
     × TellsValue (value_word before.key_words hold) value.flags value.length
     × (after.holds ≡ slice_set before.holds place (Some hold))
-Holds key place now before after held.Nothing = InPart (Misses key now) key before.reader after.reader
+Holds key place now before after held.Nothing =
+    InPart (MissesItem before.reader.seed key now) key before.reader after.reader
     × (after.holds ≡ before.holds)
 Holds key place now before after other = ⊥
 

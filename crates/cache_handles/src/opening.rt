@@ -134,8 +134,8 @@ pub fn open<N: Name>(
         lanes,
     } = UnlockedStore::<N, AnyRow>::open(alloc, words, store)?;
     let cache = &config.cache;
-    let indexes = make_indexes(alloc, cache)?;
-    let rows = make_part_readers(alloc, &heads, workers, &indexes, cache)?;
+    let mut indexes = make_indexes(alloc, cache)?;
+    let rows = make_part_readers(alloc, &heads, workers, &mut indexes, cache)?;
     let (key_words, value_words) = (config.key_words(), config.value_words());
     let shelves = make_shelves(alloc, books, indexes, lanes, cache, key_words, value_words)?;
     Ok(OpenedCache {

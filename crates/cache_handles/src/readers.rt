@@ -1,13 +1,12 @@
 //! A reader of a cache of byte strings.
 ghost use Rattle.std.specs.Prelude.{◌≡◌, ◌+◌, ◌≤◌, ◌<◌, ◌^◌, IfNone, IfOk, IfSome, None, length};
 ghost use Rattle.packed_words.specs.Spelling.{long_string, words_for};
-ghost use Rattle.cache_readers.specs.Readers.{Misses};
 ghost use Rattle.cache_config.specs.Choosing.{IsPartCount};
 ghost use Rattle.cache_config.specs.Sums.{bumps_of, dropped_of, hits_of, misses_of};
 ghost use Rattle.bump_cache.specs.Readers.{InPart, readers_by};
 ghost use Rattle.cache_handles.specs.Configs.{first_byte_fault, key_words_of, value_words_of};
 ghost use Rattle.cache_handles.specs.Opening.{reader_by};
-ghost use Rattle.cache_handles.specs.Reading.{Gets, HitsHeld, TellsGet, TellsHold, TellsRead, TellsRelease};
+ghost use Rattle.cache_handles.specs.Reading.{Gets, GetsBy, HitsHeld, MissesBy, MissesItem, TellsGet, TellsHold, TellsRead, TellsRelease};
 
 use crate::config::ByteConfig;
 use crate::reading::{GetTold, HeldTold, held_value, held_words};
@@ -68,7 +67,7 @@ fn get_by<N: Name>(
 ) -> GetTold
     requires row { length key.now + value_words ≤ N.table.slots }
     requires two { 2 ≤ value_words }
-    ensures { Gets key.now value_words now result reader.old reader.new }
+    ensures { GetsBy hash key.now value_words now result reader.old reader.new }
 {
     let mut room = [0; FIRST_WORDS];
     let first = &mut room[..FIRST_WORDS.min(value_words as usize)];
@@ -93,7 +92,7 @@ fn hold_by<N: Name>(
 ) -> Option<Hold<N>>
     requires row { length key.now ≤ N.table.slots }
     ensures found { IfSome result (λ hold. HitsHeld key.now now hold reader.old reader.new) }
-    ensures missed { IfNone result (Misses key.now now reader.old reader.new) }
+    ensures missed { IfNone result (MissesBy hash key.now now reader.old reader.new) }
 {
     reader.hold(hash, key, now)
 }
@@ -112,7 +111,7 @@ fn get_in<N: Name>(
     requires room { words_for (length key.now) ≤ length words.old }
     requires row { length words.old + value_words ≤ N.table.slots }
     requires two { 2 ≤ value_words }
-    ensures { InPart (Gets (long_string (length words.old) key.now) value_words now result)
+    ensures { InPart (Gets seed (long_string (length words.old) key.now) value_words now result)
         (long_string (length words.old) key.now) (readers_by seed parts.old) (readers_by seed parts.new) }
 {
     spell(key, words);
@@ -134,7 +133,7 @@ fn hold_in<N: Name>(
     requires row { length words.old ≤ N.table.slots }
     ensures found { IfSome result (λ hold. InPart (HitsHeld (long_string (length words.old) key.now) now hold)
         (long_string (length words.old) key.now) (readers_by seed parts.old) (readers_by seed parts.new)) }
-    ensures missed { IfNone result (InPart (Misses (long_string (length words.old) key.now) now)
+    ensures missed { IfNone result (InPart (MissesItem seed (long_string (length words.old) key.now) now)
         (long_string (length words.old) key.now) (readers_by seed parts.old) (readers_by seed parts.new)) }
 {
     spell(key, words);

@@ -1,7 +1,9 @@
-pub mod Pens
 pub mod Tags
 pub mod Places
 pub mod Leads
 pub mod Changes
 pub mod Views
 pub mod Walks
+pub mod History
+pub use Rattle.seen_words.specs.Past
+pub use Rattle.seen_words.specs.Windows

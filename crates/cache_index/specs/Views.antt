@@ -25,14 +25,18 @@ pub record IndexView : Type 0 where
   pub nests : ℕ
   pub places : List ℕ
 
--- a reader of an index: how many nests it has, and its first chunk
+-- a reader of an index: whose words it reads, how many nests it has, and its first chunk
 pub record IndexReaderView : Type 0 where
+  pub table : TableId
   pub nests : ℕ
   pub first : ℕ
 
 -- a reader's search: of how many nests, and for which tag; the nest in which it is, and how many it hasn't come to; and
 -- which of the lanes that it found in this nest are left, each by the highest of its 8 bits
 pub record ReaderSearchView : Type 0 where
+  pub table : TableId
+  pub first : ℕ
+  pub hash : ℕ
   pub nests : ℕ
   pub tag : ℕ
   pub nest : ℕ

@@ -2,15 +2,17 @@
 ghost use Rattle.std.specs.Prelude.{◌≡◌, ◌<◌, ◌≤◌, ◌⊎◌, IfOk, IsSome, None, Some, is_some, length, replicate, slice_set};
 ghost use Rattle.std.specs.Arc.{arc_value};
 ghost use Rattle.cache_index.specs.Places.{nests_for};
+ghost use Rattle.cache_index.specs.History.{LeadsAll, SeesIndex};
 ghost use Rattle.cache_index.specs.Views.{led_at, with_generation};
+ghost use Rattle.seen_words.specs.Windows.{AtLast};
 
 use crate::index::{MOST_CHUNKS, nests_for};
 use crate::led::{NO_WAY, Way, number_of};
 use crate::nests::Nests;
-use crate::pens::Pen;
 use crate::readers::IndexReader;
 use crate::tags::tag_of;
 use bump_rules::ItemId;
+use seen_words::{Eye, Pen};
 use std::alloc::{AllocError, Global};
 use std::marker::Model;
 use std::sync::Arc;
@@ -27,7 +29,9 @@ impl Model for IndexFromZero {
     ghost use Rattle.std.specs.Prelude.{◌≡◌};
     ghost use Rattle.std.specs.Arc.{arc_value};
     ghost use Rattle.cache_index.specs.Views.{IndexView, index_view};
+    ghost use Rattle.seen_words.specs.Past.{note_of};
     ghost use Rattle.cache_index.specs.Leads.{AreLed, IsRoomy};
+    ghost use Rattle.cache_index.specs.History.{AreNoted};
 
     ghost Value = { IndexView };
 
@@ -35,7 +39,7 @@ impl Model for IndexFromZero {
 
     ghost invariant = { λ a. (a.pen.table ≡ (arc_value a.nests).table)
         × AreLed (arc_value a.nests).nests a.pen.words a.ways.items
-        × IsRoomy (arc_value a.nests).nests a.ways.items };
+        × IsRoomy (arc_value a.nests).nests a.ways.items × AreNoted (note_of a.pen.past) a.ways.items };
 }
 
 impl IndexFromZero {
@@ -56,10 +60,16 @@ impl IndexFromZero {
     }
 
     /// A reader that numbers the chunks from this one on. It is refused only for want of memory.
-    pub(crate) fn reader(&self, first: u32) -> Result<IndexReader, AllocError>
-        ensures { IfOk result (λ r. r ≡ record { nests = self.now.nests; first = first }) }
+    pub(crate) fn reader(&mut self, first: u32) -> Result<(IndexReader, Eye), AllocError>
+        ensures nests { IfOk result (λ r. r.0.nests ≡ self.old.nests) }
+        ensures first { IfOk result (λ r. r.0.first ≡ first) }
+        ensures eye { IfOk result (λ r. SeesIndex r.0 r.1) }
+        ensures sees { IfOk result (λ r. AtLast (LeadsAll 0 self.old.table) r.1.seen) }
+        ensures same { self.new ≡ self.old }
     {
-        Ok(IndexReader::new(Arc::try_clone(&self.nests)?, first))
+        let nests = Arc::try_clone(&self.nests)?;
+        let eye = self.nests.eye(&mut self.pen);
+        Ok((IndexReader::new(nests, first), eye))
     }
 
     /// How many chunks the index has.
@@ -86,12 +96,14 @@ impl IndexFromZero {
             (Some (record { hash = hash; generation = life.generation })) }
         ensures nests { self.new.nests ≡ self.old.nests }
     {
-        let Some(place) = self.nests.take_place(&mut self.pen, hash) else {
+        let Some(place) = self.nests.take_place(&mut self.pen, hash, &self.ways) else {
             unreachable!()
         };
-        self.nests.set_life(&mut self.pen, place, number_of(life));
-        self.nests.set_tag(&mut self.pen, place, tag_of(hash));
+        self.nests
+            .set_life(&mut self.pen, place, number_of(life), &self.ways);
         self.ways[life.chunk as usize] = Way { hash, place };
+        self.nests
+            .set_tag(&mut self.pen, place, tag_of(hash), &self.ways);
     }
 
     /// Leads to a new life of the same key in place of that of the chunk `old`, by the same lane and one store: a
@@ -106,10 +118,10 @@ impl IndexFromZero {
         ensures nests { self.new.nests ≡ self.old.nests }
     {
         let way = self.ways[old as usize];
-        self.nests
-            .set_life(&mut self.pen, way.place, number_of(life));
         self.ways[old as usize] = NO_WAY;
         self.ways[life.chunk as usize] = way;
+        self.nests
+            .set_life(&mut self.pen, way.place, number_of(life), &self.ways);
     }
 
     /// Leads no more to a chunk, to which it does. Readers find it no more when this returns.
@@ -120,8 +132,9 @@ impl IndexFromZero {
         ensures nests { self.new.nests ≡ self.old.nests }
     {
         let way = self.ways[chunk as usize];
-        self.nests.set_tag(&mut self.pen, way.place, 0);
-        self.nests.pass_no_more(&mut self.pen, way.hash, way.place);
         self.ways[chunk as usize] = NO_WAY;
+        self.nests.set_tag(&mut self.pen, way.place, 0, &self.ways);
+        self.nests
+            .pass_no_more(&mut self.pen, way.hash, way.place, &self.ways);
     }
 }

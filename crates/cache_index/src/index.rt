@@ -1,11 +1,14 @@
 //! The writer's side of the index.
 ghost use Rattle.std.specs.Prelude.{◌≡◌, ◌<◌, ◌≤◌, ◌+◌, ◌-◌, ◌⊎◌, IfOk, IsSome, None, Some, is_some, length, replicate, slice_set};
+ghost use Rattle.cache_index.specs.History.{LeadsAll, SeesIndex};
 ghost use Rattle.cache_index.specs.Places.{nests_for};
 ghost use Rattle.cache_index.specs.Views.{led_at, with_generation};
+ghost use Rattle.seen_words.specs.Windows.{AtLast};
 
 use crate::from_zero::IndexFromZero;
 use crate::readers::IndexReader;
 use bump_rules::ItemId;
+use seen_words::Eye;
 use std::alloc::{AllocError, Global};
 use std::marker::Model;
 use std::ops::Range;
@@ -67,10 +70,14 @@ impl Index {
         Ok(Index { first, from_zero })
     }
 
-    /// A reader of the index. It is refused only for want of memory.
-    pub fn reader(&self) -> Result<IndexReader, AllocError>
-        ensures nests { IfOk result (λ r. r.nests ≡ self.now.nests) }
-        ensures first { IfOk result (λ r. r.first ≡ self.now.first) }
+    /// A reader of the index, and its eye, which has seen all that the index was: at the last moment that it has seen the
+    /// index leads to all that it leads to now. It is refused only for want of memory.
+    pub fn reader(&mut self) -> Result<(IndexReader, Eye), AllocError>
+        ensures nests { IfOk result (λ r. r.0.nests ≡ self.old.nests) }
+        ensures first { IfOk result (λ r. r.0.first ≡ self.old.first) }
+        ensures eye { IfOk result (λ r. SeesIndex r.0 r.1) }
+        ensures sees { IfOk result (λ r. AtLast (LeadsAll self.old.first self.old.table) r.1.seen) }
+        ensures same { self.new ≡ self.old }
     {
         self.from_zero.reader(self.first)
     }

@@ -5,11 +5,9 @@
 mod exact;
 mod from_zero;
 mod index;
-mod known_words;
+mod law;
 mod led;
 mod nests;
-mod pen_rule;
-mod pens;
 mod readers;
 mod tags;
 #[cfg(test)]
@@ -18,3 +16,4 @@ mod tests;
 pub use exact::ExactSearch;
 pub use index::{Index, MOST_CHUNKS, nests_for};
 pub use readers::{IndexReader, Search};
+pub use seen_words::Eye;

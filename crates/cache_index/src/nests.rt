@@ -1,14 +1,19 @@
 //! The nests: words that all threads may load. A nest is a line of 64 bytes: the tags of its six lanes, how many keys
 //! passed it, and the life of each lane.
-ghost use Rattle.std.specs.Prelude.{◌≡◌, ◌≢◌, ◌<◌, ◌≤◌, ◌+◌, ◌*◌, ◌/◌, ◌%◌, ◌^◌, ℕ, IfOk, IfSome, IfNone};
-ghost use Rattle.std.specs.Prelude.{length, slice_index, slice_set, replicate};
+ghost use Rattle.std.specs.Prelude.{◌≡◌, ◌≢◌, ◌<◌, ◌≤◌, ◌+◌, ◌*◌, ◌/◌, ◌%◌, ◌^◌, ℕ, IfOk, IfSome, IfNone, false, [], if◌then◌else◌, ◌==◌};
+ghost use Rattle.std.specs.Prelude.{length, slice_index, slice_set, replicate, List};
 ghost use Rattle.cache_index.specs.Tags.{lanes, tag_of, tag_in};
 ghost use Rattle.cache_index.specs.Places.{IsPlace, home_of, nest_behind, nest_of, steps_to};
 ghost use Rattle.cache_index.specs.Places.{tag_at, passed_at, place_in, tag_behind};
 ghost use Rattle.cache_index.specs.Changes.{OneMorePassed, HasNewTag};
+ghost use Rattle.std.specs.Int.{bit_at};
+ghost use Rattle.seen_words.specs.Past.{note_of, words_of};
+ghost use Rattle.cache_index.specs.History.{IsReached, Sees, rows_of};
 
-use crate::pens::{Pen, PenWords};
+use crate::law::LeadsOn;
+use crate::led::Way;
 use crate::tags::{LANES, lane_with, lanes_with, tag_of, with_tag};
+use seen_words::{Eye, Pen, SeenWords};
 use std::alloc::{AllocError, Global};
 use std::marker::Model;
 
@@ -24,7 +29,7 @@ const FIRST_LIFE: u32 = 2;
 /// The nests of an index.
 #[derive(Drop)]
 pub(crate) struct Nests {
-    words: PenWords,
+    words: SeenWords<LeadsOn>,
     count: u32,
 }
 
@@ -70,8 +75,9 @@ impl Nests {
         ensures nests { IfOk result (λ made. made.0.nests ≡ count) }
         ensures table { IfOk result (λ made. made.1.table ≡ made.0.table) }
         ensures words { IfOk result (λ made. made.1.words ≡ replicate (8 * count) 0) }
+        ensures noted { IfOk result (λ made. note_of made.1.past ≡ []) }
     {
-        let (words, pen) = PenWords::new(alloc, NEST_WORDS * count)?;
+        let (words, pen) = SeenWords::new(alloc, NEST_WORDS * count)?;
         Ok((Nests { words, count }, pen))
     }
 
@@ -119,6 +125,17 @@ impl Nests {
         }
     }
 
+    /// An eye that has seen all that the pen wrote.
+    pub(crate) fn eye(&self, pen: &mut Pen) -> Eye
+        requires pen { pen.old.table ≡ self.now.table }
+        ensures table { result.table ≡ self.now.table }
+        ensures seen { result.seen ≡ pen.old.past }
+        ensures words { words_of result.seen ≡ pen.old.words }
+        ensures pen { pen.new ≡ pen.old }
+    {
+        self.words.pens_eye(pen)
+    }
+
     // The first word of a nest. Of this width it is one shift and one mask of a hash's product with the number of nests.
     #[inline(always)]
     fn first_word(nest: u32) -> usize
@@ -127,31 +144,55 @@ impl Nests {
         NEST_WORDS as usize * nest as usize
     }
 
-    /// The lanes of a nest whose tag is this, as a reader finds them, who is told nothing. `tag` is at most 255.
+    /// The lanes of a nest whose tag is this, as they are at the last moment that the eye has seen then. `tag` is at most
+    /// 255.
     #[inline(always)]
-    pub(crate) fn lanes_now(&self, nest: u32, tag: u64) -> u64
+    pub(crate) fn lanes_now(&self, eye: &mut Eye, nest: u32, tag: u64) -> u64
+        requires eye { eye.old.table ≡ self.now.table }
         requires nest { nest < self.now.nests }
         requires tag { tag < 256 }
-        ensures { result < 2 ^ 48 }
+        ensures narrow { result < 2 ^ 48 }
+        ensures eye { Sees eye.old eye.new }
+        ensures lanes { (lane : ℕ) → lane < lanes → bit_at result (8 * lane + 7)
+            ≡ (if tag_in (slice_index (words_of eye.new.seen) (8 * nest)) lane == tag then 1 else 0) }
     {
-        lanes_with(self.words.load(Nests::first_word(nest)), tag)
+        lanes_with(self.words.load(eye, Nests::first_word(nest)), tag)
     }
 
-    /// Whether some key passed the nest, as a reader finds it, who is told nothing.
+    /// Loads the word of a nest's tags, and lets it go: so that whoever loads it soon needn't wait for its memory.
     #[inline(always)]
-    pub(crate) fn is_passed_now(&self, nest: u32) -> bool
+    pub(crate) fn look_ahead(&self, nest: u32)
         requires { nest < self.now.nests }
     {
-        self.words.load(Nests::first_word(nest) + PASSED as usize) != 0
+        self.words.look_ahead(Nests::first_word(nest));
     }
 
-    /// The word of the life of a lane in a nest, as a reader finds it, who is told nothing.
+    /// Whether some key passed the nest, at the last moment that the eye has seen then.
     #[inline(always)]
-    pub(crate) fn life_now(&self, nest: u32, lane: u32) -> u64
+    pub(crate) fn is_passed_now(&self, eye: &mut Eye, nest: u32) -> bool
+        requires eye { eye.old.table ≡ self.now.table }
+        requires nest { nest < self.now.nests }
+        ensures eye { Sees eye.old eye.new }
+        ensures none { result ≡ false → slice_index (words_of eye.new.seen) (8 * nest + 1) ≡ 0 }
+    {
+        self.words
+            .load(eye, Nests::first_word(nest) + PASSED as usize)
+            != 0
+    }
+
+    /// The word of the life of a lane in a nest, at the last moment that the eye has seen then.
+    #[inline(always)]
+    pub(crate) fn life_now(&self, eye: &mut Eye, nest: u32, lane: u32) -> u64
+        requires eye { eye.old.table ≡ self.now.table }
         requires nest { nest < self.now.nests }
         requires lane { lane < lanes }
+        ensures eye { Sees eye.old eye.new }
+        ensures life { result ≡ slice_index (words_of eye.new.seen) (8 * nest + 2 + lane) }
     {
-        self.words.load(Nests::first_word(nest) + lane as usize + FIRST_LIFE as usize)
+        self.words.load(
+            eye,
+            Nests::first_word(nest) + lane as usize + FIRST_LIFE as usize,
+        )
     }
 
     /// The first lane of a nest, from one on, whose tag is this, or 6 where there is none. `tag` is at most 255.
@@ -199,10 +240,11 @@ impl Nests {
 
     /// The place of the first lane that is off, on the way from the hash's home over all nests, for a key more by this
     /// hash: it passes each nest before that lane's. `None` where all lanes are on.
-    pub(crate) fn take_place(&self, pen: &mut Pen, hash: u32) -> Option<u32>
+    pub(crate) fn take_place(&self, pen: &mut Pen, hash: u32, ways: &Vec<Way>) -> Option<u32>
         requires pen { pen.old.table ≡ self.now.table }
         requires size { length pen.old.words ≡ 8 * self.now.nests }
         requires few { (nest : ℕ) → nest < self.now.nests → passed_at pen.old.words nest < 2 ^ 32 }
+        requires reached { IsReached self.now.nests pen.old.words ways.now.items }
         ensures table { pen.new.table ≡ pen.old.table }
         ensures place { IfSome result (λ place. IsPlace self.now.nests place) }
         ensures off { IfSome result (λ place. tag_at pen.old.words place ≡ 0) }
@@ -220,7 +262,7 @@ impl Nests {
             }
             let word = (NEST_WORDS * nest + PASSED) as usize;
             let passed = self.words.read(pen, word);
-            self.words.write(pen, word, passed + 1);
+            self.words.write(pen, word, passed + 1, ways);
         }
         None
     }
@@ -261,10 +303,13 @@ impl Nests {
     }
 
     /// A key, by this hash, passes no more the nests from its home up to the one that has this place.
-    pub(crate) fn pass_no_more(&self, pen: &mut Pen, hash: u32, place: u32)
+    pub(crate) fn pass_no_more(&self, pen: &mut Pen, hash: u32, place: u32, ways: &Vec<Way>)
         requires pen { pen.old.table ≡ self.now.table }
         requires size { length pen.old.words ≡ 8 * self.now.nests }
         requires place { nest_of place < self.now.nests }
+        requires reached { let home = home_of self.now.nests hash in (steps : ℕ) → (words : List ℕ) →
+            steps ≤ steps_to self.now.nests home (nest_of place) →
+            OneMorePassed self.now.nests home steps words pen.old.words → IsReached self.now.nests words ways.now.items }
         requires passed { let home = home_of self.now.nests hash in (nest : ℕ) → nest < self.now.nests →
             steps_to self.now.nests home nest < steps_to self.now.nests home (nest_of place) →
             0 < passed_at pen.old.words nest }
@@ -272,36 +317,43 @@ impl Nests {
         ensures words { let home = home_of self.now.nests hash in
             OneMorePassed self.now.nests home (steps_to self.now.nests home (nest_of place))
             pen.new.words pen.old.words }
+        ensures noted { note_of pen.old.past ≡ rows_of ways.now.items → note_of pen.new.past ≡ rows_of ways.now.items }
     {
         for steps in 0..self.steps(hash, place) {
             let word = (NEST_WORDS * self.nest(hash, steps) + PASSED) as usize;
             let passed = self.words.read(pen, word);
-            self.words.write(pen, word, passed - 1);
+            self.words.write(pen, word, passed - 1, ways);
         }
     }
 
     /// The word of a life becomes this.
-    pub(crate) fn set_life(&self, pen: &mut Pen, place: u32, life: u64)
+    pub(crate) fn set_life(&self, pen: &mut Pen, place: u32, life: u64, ways: &Vec<Way>)
         requires pen { pen.old.table ≡ self.now.table }
+        requires size { length pen.old.words ≡ 8 * self.now.nests }
+        requires reached { IsReached self.now.nests (slice_set pen.old.words place life) ways.now.items }
         requires place { nest_of place < self.now.nests }
         ensures table { pen.new.table ≡ pen.old.table }
         ensures words { pen.new.words ≡ slice_set pen.old.words place life }
+        ensures noted { note_of pen.new.past ≡ rows_of ways.now.items }
     {
-        self.words.write(pen, place as usize, life);
+        self.words.write(pen, place as usize, life, ways);
     }
 
     /// The lane of a place gets this tag, 0 to 255, by one store: 0 turns it off.
-    pub(crate) fn set_tag(&self, pen: &mut Pen, place: u32, tag: u64)
+    pub(crate) fn set_tag(&self, pen: &mut Pen, place: u32, tag: u64, ways: &Vec<Way>)
         requires pen { pen.old.table ≡ self.now.table }
+        requires reached { (words : List ℕ) → HasNewTag self.now.nests place tag pen.old.words words →
+            IsReached self.now.nests words ways.now.items }
         requires size { length pen.old.words ≡ 8 * self.now.nests }
         requires place { IsPlace self.now.nests place }
         requires tag { tag < 256 }
         ensures table { pen.new.table ≡ pen.old.table }
         ensures words { HasNewTag self.now.nests place tag pen.old.words pen.new.words }
+        ensures noted { note_of pen.new.past ≡ rows_of ways.now.items }
     {
         let word = (place / NEST_WORDS * NEST_WORDS) as usize;
         let tags = self.words.read(pen, word);
         let next = with_tag(tags, place % NEST_WORDS - FIRST_LIFE, tag);
-        self.words.write(pen, word, next);
+        self.words.write(pen, word, next, ways);
     }
 }

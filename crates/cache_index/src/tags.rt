@@ -1,6 +1,7 @@
 //! The tags of a nest: six in a word, 8 bits each, one for each lane.
 ghost use Rattle.std.specs.Prelude.{◌≡◌, ◌≢◌, ◌<◌, ◌≤◌, ◌+◌, ◌*◌, ◌/◌, ◌%◌, ◌^◌, ℕ, if◌then◌else◌, ◌==◌};
-ghost use Rattle.std.specs.Int.{bit_at};
+ghost use Rattle.std.specs.Int.{bit_at, trailing_zeros};
+ghost use mir.Syntax.{w64};
 ghost use Rattle.cache_index.specs.Tags.{tag_of, tag_in, lanes};
 ghost use Rattle.cache_index.specs.Walks.{TakesLowest};
 
@@ -82,6 +83,7 @@ pub(crate) fn lowest(found: u64) -> u32
     ensures within { result < lanes }
     ensures here { 0 < tag_in found result }
     ensures lowest { (lane : ℕ) → lane < result → tag_in found lane ≡ 0 }
+    ensures bits { result ≡ trailing_zeros w64 found / 8 }
 {
     found.trailing_zeros() / 8
 }

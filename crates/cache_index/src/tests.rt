@@ -3,6 +3,7 @@ ghost use Rattle.std.specs.Prelude.{◌≡◌, ◌<◌, ◌≤◌, true, length}
 
 use crate::{Index, IndexReader};
 use bump_rules::ItemId;
+use seen_words::Eye;
 use std::alloc::Global;
 use std::sync::atomic::AtomicBool;
 use std::sync::atomic::Ordering::SeqCst;
@@ -110,10 +111,13 @@ fn step(index: &mut Index, plain: &mut Vec<Option<Noted>>, state: &mut u64, hash
 }
 
 // How many answers of a reader's search are this life.
-fn times(reader: &IndexReader, hash: u32, chunk: u32, generation: u32) -> u32 {
-    let mut search = reader.search(hash);
+fn times(reader: &IndexReader, eye: &mut Eye, hash: u32, chunk: u32, generation: u32) -> u32
+    requires { eye.old.table ≡ reader.now.table }
+    ensures { eye.new.table ≡ eye.old.table }
+{
+    let mut search = reader.search(eye, hash);
     let mut count = 0u32;
-    while let Some(life) = search.next() {
+    while let Some(life) = search.next(eye) {
         if life.chunk == chunk && life.generation == generation {
             count = count.saturating_add(1);
         }
@@ -139,14 +143,22 @@ fn leads(index: &Index, chunk: u32) -> bool {
 }
 
 // In how many chunks the index isn't as the plain list.
-fn differences(index: &mut Index, reader: &IndexReader, plain: &[Option<Noted>]) -> u32 {
+fn differences(
+    index: &mut Index,
+    reader: &IndexReader,
+    eye: &mut Eye,
+    plain: &[Option<Noted>],
+) -> u32
+    requires { eye.old.table ≡ reader.now.table }
+    ensures { eye.new.table ≡ eye.old.table }
+{
     let mut count = 0u32;
     let mut chunk = index.range().start;
     for one in plain {
         let is_found = match *one {
             None => true,
             Some(noted) => {
-                times(reader, noted.hash, chunk, noted.generation) == 1
+                times(reader, eye, noted.hash, chunk, noted.generation) == 1
                     && exact_times(index, noted.hash, chunk, noted.generation) == 1
             }
         };
@@ -162,7 +174,7 @@ fn differences(index: &mut Index, reader: &IndexReader, plain: &[Option<Noted>])
 // as the plain list.
 fn run(alloc: Global, first: u32, chunks: u32, hashes: u64) -> Result<u32, Fail> {
     let mut index = Index::new(alloc, first.min(1_000_000), chunks.min(1_000))?;
-    let reader = index.reader()?;
+    let (reader, mut eye) = index.reader()?;
     let mut plain: Vec<Option<Noted>> = Vec::new(alloc);
     for _chunk in 0..chunks.min(1_000) {
         plain.push(None)?;
@@ -172,7 +184,12 @@ fn run(alloc: Global, first: u32, chunks: u32, hashes: u64) -> Result<u32, Fail>
     for turn in 0..TURNS {
         step(&mut index, &mut plain, &mut state, hashes);
         if turn % 200 == 0 {
-            wrong = wrong.saturating_add(differences(&mut index, &reader, plain.as_slice()));
+            wrong = wrong.saturating_add(differences(
+                &mut index,
+                &reader,
+                &mut eye,
+                plain.as_slice(),
+            ));
         }
     }
     Ok(wrong)
@@ -212,13 +229,15 @@ const KEYS: u32 = 8;
 const LOOKS: u32 = 20_000;
 
 // How often a reader finds nothing of a key that always has something.
-fn missed(reader: &IndexReader) -> u32 {
+fn missed(reader: &IndexReader, eye: &mut Eye) -> u32
+    requires { eye.old.table ≡ reader.now.table }
+{
     let mut missed = 0u32;
     for look in 0..LOOKS {
         let key = look % KEYS;
-        let mut search = reader.search(hash_of(u64::from(key), 3));
+        let mut search = reader.search(eye, hash_of(u64::from(key), 3));
         let mut is_found = false;
-        while let Some(life) = search.next() {
+        while let Some(life) = search.next(eye) {
             is_found = is_found || life.chunk % KEYS == key;
         }
         if !is_found {
@@ -265,12 +284,12 @@ fn lead_around(index: &mut Index, done: &AtomicBool) {
 fn a_reader_finds_what_is_led_anew(rt: HostRuntime) -> Result<(), Fail> {
     let mut index = Index::new(rt.alloc(), 0, 3 * KEYS)?;
     put_keys(&mut index);
-    let reader = index.reader()?;
+    let (reader, mut eye) = index.reader()?;
     let done = AtomicBool::new(false);
     let (missed, ()) = thread::join(
         &rt,
         || {
-            let count = missed(&reader);
+            let count = missed(&reader, &mut eye);
             done.store(true, SeqCst);
             count
         },

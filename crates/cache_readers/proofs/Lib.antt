@@ -1,5 +1,6 @@
 mod GlanceLemmas
 mod LookLemmas
+mod MissLemmas
 pub mod ReaderLemmas
 pub mod LastSteps
 pub mod GrownLemmas

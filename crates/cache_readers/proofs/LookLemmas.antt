@@ -1,5 +1,5 @@
 -- Looks at chunks: what they come to.
-use Rattle.std.proofs.Common.{◌≡◌, ℕ, zero, suc, ◌+◌, ◌<◌, false, List, [], Option, Some, None, IfOk, IfNone, Result, Ok, Err, refl, sym, ap, ◌∙◌, subst, inl, inr, arith}
+use Rattle.std.proofs.Common.{◌≡◌, ℕ, zero, suc, ◌+◌, ◌<◌, false, List, Option, Some, None, IfOk, Result, Ok, Err, refl, sym, ap, ◌∙◌, subst, inl, inr, arith}
 use Rattle.std.specs.Result.{IfErr}
 use Rattle.bump_rules.specs.declared.configs.Config.{Config}
 use Rattle.bump_rules.specs.declared.items.Head.{Head}
@@ -113,11 +113,11 @@ ended_behind config key now chunk start between after (Err why) look ends = λ b
 }
 
 -- what holds of nothing behind a glance, behind this one
-pub nothing_behind : {A : Type 0} (result : Option A) (chunk : ℕ) (Holds : WorkerState → Type 0)
-    (before start : WorkerState) → GlancesInVain chunk before start → IfNone result (BehindGlance chunk Holds start)
-    → IfNone result (Holds before)
-nothing_behind (Some it) chunk Holds before start glances holds = tt
-nothing_behind None chunk Holds before start glances holds = holds before glances
+pub nothing_behind : {A E : Type 0} (result : Result A E) (chunk : ℕ) (Holds : WorkerState → Type 0)
+    (before start : WorkerState) → GlancesInVain chunk before start
+    → IfErr result (λ why. BehindGlance chunk Holds start) → IfErr result (λ why. Holds before)
+nothing_behind (Ok it) chunk Holds before start glances holds = tt
+nothing_behind (Err why) chunk Holds before start glances holds = holds before glances
 
 -- a first glance found the key's value
 pub found_at_once : (law : RowPredicate) (config : Config) (key value : List ℕ) (now from to : ℕ)
@@ -184,6 +184,13 @@ pub nothing_at_last : (config : Config) (key : List ℕ) (now turns from to : �
     → FindsNothing config key now from to before after
 nothing_at_last config key now turns from to before after all counted anew =
     record { turns = turns; counted = counted; start = after; anew = anew; ends = inl (all, refl) }
+
+-- where the index led to nothing
+pub nothing_at_once : (config : Config) (key : List ℕ) (now from to : ℕ) (before after : WorkerState) → to ≡ from
+    → after ≡ before → FindsNothing config key now from to before after
+nothing_at_once config key now from to before after same none =
+    nothing_other config key now 0 from to before before after (omega arith) same refl
+    (search_over config key now before after (record { looks = 0; others = none }))
 
 -- what was found is held, or was glanced at
 pub found_held : (law : RowPredicate) (config : Config) (key value : List ℕ) (now from to : ℕ) (before after : WorkerState)

@@ -3,13 +3,15 @@ ghost use Rattle.std.specs.Prelude.{◌≡◌, ◌≢◌, ◌+◌, ◌≤◌, tr
 ghost use Rattle.bump_steps.specs.References.{label_of_row};
 ghost use Rattle.bump_readers.specs.Glances.{IsGlancing};
 ghost use Rattle.cache_readers.specs.declared.glancing.Glanced.TheVariants as glanced;
+ghost use Rattle.cache_index.specs.History.{Looks, SeesIndex};
 ghost use Rattle.cache_readers.specs.Glances.{GlanceFinds, GlancesInVain, HasWords, IfUnsure, Reads};
+ghost use Rattle.cache_readers.specs.Misses.{IsAbsent};
 
 use bump_readers::{Glance, Name, ReaderHeads};
 use bump_rules::{ItemId, has_expired};
 use bump_steps::RowLaw;
 use bump_unlocked::Worker;
-use cache_index::IndexReader;
+use cache_index::{Eye, IndexReader};
 
 /// What a reader's glance for a key came to.
 pub enum Glanced {
@@ -126,6 +128,7 @@ pub(crate) fn glance_first<N: Name, L: RowLaw>(
     worker: &mut Worker<N>,
     heads: &ReaderHeads<N, L>,
     index: &IndexReader,
+    eye: &mut Eye,
     hash: u32,
     key: &[u64],
     value: &mut [u64],
@@ -133,14 +136,17 @@ pub(crate) fn glance_first<N: Name, L: RowLaw>(
     now: u64,
 ) -> Glanced
     requires few { length key.now + length value.old ≤ N.table.slots }
+    requires eye { SeesIndex index.now eye.old }
     ensures found { result ≡ glanced.Found → GlanceFinds L.law key.now value.new now worker.old worker.new }
     ensures nothing { result ≡ glanced.Nothing → worker.new ≡ worker.old }
+    ensures absent { result ≡ glanced.Nothing → IsAbsent hash key.now index.now worker.old eye.old worker.new eye.new }
+    ensures looks { Looks eye.old eye.new }
     ensures unsure { IfUnsure result (λ id. GlancesInVain id.chunk worker.old worker.new) }
     ensures none { glances ≡ false → result ≢ glanced.Found }
     ensures length { length value.new ≡ length value.old }
 {
-    let mut search = index.search(hash);
-    let Some(id) = search.next() else {
+    let mut search = index.search(eye, hash);
+    let Some(id) = search.next(eye) else {
         return Glanced::Nothing;
     };
     if glance_at(worker, heads, id, key, value, glances, now) {

@@ -5,6 +5,7 @@
 
 mod glancing;
 mod looking;
+mod misses;
 mod readers;
 mod vain;
 
@@ -12,7 +13,8 @@ pub use bump_heads::{Heads, Name, ReaderHeads};
 pub use bump_rules::{Accounts, ItemId};
 pub use bump_steps::RowLaw;
 pub use bump_unlocked::{Hold, Worker};
-pub use cache_index::IndexReader;
+pub use cache_index::{Eye, IndexReader};
 pub use glancing::Glanced;
+pub use misses::Miss;
 pub use readers::WordReader;
 pub use vain::Vain;

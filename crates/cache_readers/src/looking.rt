@@ -2,17 +2,21 @@
 ghost use Rattle.std.specs.Prelude.{◌≡◌, ◌≢◌, ◌+◌, ◌≤◌, true, false, None, IfOk, IfSome, IfNone, length};
 ghost use Rattle.std.specs.Result.{IfErr};
 ghost use Rattle.bump_readers.specs.Glances.{IsGlancing};
+ghost use Rattle.cache_index.specs.History.{Looks, SeesIndex};
 ghost use Rattle.cache_readers.specs.Glances.{BehindGlance};
 ghost use Rattle.cache_readers.specs.Looks.{FindsNothing, FoundBy, HasOtherKey, HasWords, Hits, LookFinds, LookTakes, LooksInVain};
 ghost use Rattle.cache_readers.specs.Looks.{SearchBy, SearchEnds, TouchesUnmarked, one_more};
+ghost use Rattle.cache_readers.specs.Misses.{HeldAnother, IsAbsent, IsMissed};
+ghost use Rattle.cache_readers.specs.declared.vain.Vain.TheVariants as vain;
 
 use crate::glancing::{Glanced, glance_at, glance_first};
+use crate::misses::Miss;
 use crate::vain::Vain;
 use bump_readers::{Name, ReaderHeads};
 use bump_rules::{Head, ItemId, has_expired};
 use bump_steps::RowLaw;
 use bump_unlocked::{Hold, Worker};
-use cache_index::IndexReader;
+use cache_index::{Eye, IndexReader};
 
 // A search begins anew where the life to which the index led has ended, or its chunk can't be held, so often at most.
 const TURNS: u32 = 1_000;
@@ -89,6 +93,7 @@ fn look_held<N: Name, L: RowLaw>(
     ensures led { IfOk result (λ took. took.0.life.generation ≡ id.generation) }
     ensures vain { IfErr result (λ why. BehindGlance id.chunk (λ before. LooksInVain why heads.now key.now now before
         worker.new) worker.old) }
+    ensures other { IfErr result (λ why. why ≡ vain.Other → HeldAnother key.now id worker.old worker.new) }
     ensures ring { worker.new.sender.ring ≡ worker.old.sender.ring }
 {
     let Ok((mut hold, found)) = worker.get_any(heads, id.chunk) else {
@@ -129,6 +134,7 @@ fn look<N: Name, L: RowLaw>(
     ensures led { IfOk result (λ sight. IfSome sight (λ took. took.0.life.generation ≡ id.generation)) }
     ensures held { glances ≡ false → IfOk result (λ sight. sight ≢ None) }
     ensures vain { IfErr result (λ why. LooksInVain why heads.now key.now now worker.old worker.new) }
+    ensures other { IfErr result (λ why. why ≡ vain.Other → HeldAnother key.now id worker.old worker.new) }
     ensures length { length value.new ≡ length value.old }
     ensures ring { worker.new.sender.ring ≡ worker.old.sender.ring }
 {
@@ -147,6 +153,7 @@ fn look_through<N: Name, L: RowLaw>(
     worker: &mut Worker<N>,
     heads: &ReaderHeads<N, L>,
     index: &IndexReader,
+    eye: &mut Eye,
     hash: u32,
     key: &[u64],
     value: &mut [u64],
@@ -154,15 +161,19 @@ fn look_through<N: Name, L: RowLaw>(
     now: u64,
 ) -> Result<Option<(Hold<N>, Head)>, Vain>
     requires few { length key.now + length value.old ≤ N.table.slots }
+    requires eye { SeesIndex index.now eye.old }
     ensures finds { IfOk result (λ sight. SearchBy (LookFinds L.law heads.now key.now value.new now sight) heads.now
         key.now now worker.old worker.new) }
     ensures held { glances ≡ false → IfOk result (λ sight. sight ≢ None) }
     ensures vain { IfErr result (λ why. SearchEnds why heads.now key.now now worker.old worker.new) }
+    ensures absent { IfErr result (λ why. why ≡ vain.Other → IsAbsent hash key.now index.now worker.old eye.old worker.new
+        eye.new) }
+    ensures looks { Looks eye.old eye.new }
     ensures length { length value.new ≡ length value.old }
     ensures ring { worker.new.sender.ring ≡ worker.old.sender.ring }
 {
-    let mut search = index.search(hash);
-    while let Some(id) = search.next() {
+    let mut search = index.search(eye, hash);
+    while let Some(id) = search.next(eye) {
         match look(worker, heads, id, key, value, glances, now) {
             Ok(sight) => return Ok(sight),
             Err(Vain::Ended) => return Err(Vain::Ended),
@@ -181,6 +192,7 @@ fn look_from<N: Name, L: RowLaw>(
     worker: &mut Worker<N>,
     heads: &ReaderHeads<N, L>,
     index: &IndexReader,
+    eye: &mut Eye,
     id: ItemId,
     hash: u32,
     key: &[u64],
@@ -189,11 +201,15 @@ fn look_from<N: Name, L: RowLaw>(
     now: u64,
 ) -> Result<Option<(Hold<N>, Head)>, Vain>
     requires few { length key.now + length value.old ≤ N.table.slots }
+    requires eye { SeesIndex index.now eye.old }
     ensures finds { IfOk result (λ sight. BehindGlance id.chunk (λ before. SearchBy (LookFinds L.law heads.now key.now
         value.new now sight) heads.now key.now now before worker.new) worker.old) }
     ensures held { glances ≡ false → IfOk result (λ sight. sight ≢ None) }
     ensures vain { IfErr result (λ why. BehindGlance id.chunk (λ before. SearchEnds why heads.now key.now now before
         worker.new) worker.old) }
+    ensures absent { IfErr result (λ why. why ≡ vain.Other → IsAbsent hash key.now index.now worker.old eye.old worker.new
+        eye.new) }
+    ensures looks { Looks eye.old eye.new }
     ensures length { length value.new ≡ length value.old }
     ensures ring { worker.new.sender.ring ≡ worker.old.sender.ring }
 {
@@ -203,17 +219,18 @@ fn look_from<N: Name, L: RowLaw>(
         Err(Vain::Over) => return Err(Vain::Over),
         Err(Vain::Other) => {}
     }
-    look_through(worker, heads, index, hash, key, value, glances, now)
+    look_through(worker, heads, index, eye, hash, key, value, glances, now)
 }
 
 // Finds the item of a key that hasn't expired, from a life on at which a glance told nothing, or there was none. Where
 // `glances` says so and a glance found it, its value is read, and None is answered; else a hold of it, and the head by
-// which it was taken. Searches that end at a life that has ended are counted in `anew`.
+// which it was taken. Where nothing is found it says why. Searches that end at a life that has ended are counted in `anew`.
 #[inline(always)]
 pub(crate) fn find_from<N: Name, L: RowLaw>(
     worker: &mut Worker<N>,
     heads: &ReaderHeads<N, L>,
     index: &IndexReader,
+    eye: &mut Eye,
     anew: &mut u64,
     id: ItemId,
     hash: u32,
@@ -221,31 +238,37 @@ pub(crate) fn find_from<N: Name, L: RowLaw>(
     value: &mut [u64],
     glances: bool,
     now: u64,
-) -> Option<Option<(Hold<N>, Head)>>
+) -> Result<Option<(Hold<N>, Head)>, Miss>
     requires few { length key.now + length value.old ≤ N.table.slots }
-    ensures finds { IfSome result (λ sight. BehindGlance id.chunk (λ before. FoundBy (LookFinds L.law heads.now key.now
+    requires eye { SeesIndex index.now eye.old }
+    ensures finds { IfOk result (λ sight. BehindGlance id.chunk (λ before. FoundBy (LookFinds L.law heads.now key.now
         value.new now sight) heads.now key.now now anew.old anew.new before worker.new) worker.old) }
-    ensures held { glances ≡ false → IfSome result (λ sight. sight ≢ None) }
-    ensures vain { IfNone result (BehindGlance id.chunk (λ before. FindsNothing heads.now key.now now anew.old anew.new
-        before worker.new) worker.old) }
+    ensures held { glances ≡ false → IfOk result (λ sight. sight ≢ None) }
+    ensures vain { IfErr result (λ why. BehindGlance id.chunk (λ before. FindsNothing heads.now key.now now anew.old
+        anew.new before worker.new) worker.old) }
+    ensures missed { IfErr result (λ why. IsMissed why hash key.now now heads.now index.now anew.old anew.new worker.old
+        eye.old worker.new eye.new) }
+    ensures looks { Looks eye.old eye.new }
     ensures length { length value.new ≡ length value.old }
     ensures ring { worker.new.sender.ring ≡ worker.old.sender.ring }
 {
-    match look_from(worker, heads, index, id, hash, key, value, glances, now) {
-        Ok(sight) => return Some(sight),
-        Err(Vain::Other) => return None,
-        Err(Vain::Over) => return None,
+    match look_from(
+        worker, heads, index, eye, id, hash, key, value, glances, now,
+    ) {
+        Ok(sight) => return Ok(sight),
+        Err(Vain::Other) => return Err(Miss::Absent),
+        Err(Vain::Over) => return Err(Miss::Expired),
         Err(Vain::Ended) => count_one(anew),
     }
     for _turn in 1..TURNS {
-        match look_through(worker, heads, index, hash, key, value, glances, now) {
-            Ok(sight) => return Some(sight),
-            Err(Vain::Other) => return None,
-            Err(Vain::Over) => return None,
+        match look_through(worker, heads, index, eye, hash, key, value, glances, now) {
+            Ok(sight) => return Ok(sight),
+            Err(Vain::Other) => return Err(Miss::Absent),
+            Err(Vain::Over) => return Err(Miss::Expired),
             Err(Vain::Ended) => count_one(anew),
         }
     }
-    None
+    Err(Miss::Unknown)
 }
 
 // Finds the item of a key that hasn't expired: by a glance at the first life to which the index leads, where `glances`
@@ -255,27 +278,32 @@ pub(crate) fn find<N: Name, L: RowLaw>(
     worker: &mut Worker<N>,
     heads: &ReaderHeads<N, L>,
     index: &IndexReader,
+    eye: &mut Eye,
     anew: &mut u64,
     hash: u32,
     key: &[u64],
     value: &mut [u64],
     glances: bool,
     now: u64,
-) -> Option<Option<(Hold<N>, Head)>>
+) -> Result<Option<(Hold<N>, Head)>, Miss>
     requires few { length key.now + length value.old ≤ N.table.slots }
-    ensures finds { IfSome result (λ sight. FoundBy (LookFinds L.law heads.now key.now value.new now sight) heads.now
+    requires eye { SeesIndex index.now eye.old }
+    ensures finds { IfOk result (λ sight. FoundBy (LookFinds L.law heads.now key.now value.new now sight) heads.now
         key.now now anew.old anew.new worker.old worker.new) }
-    ensures held { glances ≡ false → IfSome result (λ sight. sight ≢ None) }
-    ensures vain { IfNone result (FindsNothing heads.now key.now now anew.old anew.new worker.old worker.new) }
+    ensures held { glances ≡ false → IfOk result (λ sight. sight ≢ None) }
+    ensures vain { IfErr result (λ why. FindsNothing heads.now key.now now anew.old anew.new worker.old worker.new) }
+    ensures missed { IfErr result (λ why. IsMissed why hash key.now now heads.now index.now anew.old anew.new worker.old
+        eye.old worker.new eye.new) }
+    ensures looks { Looks eye.old eye.new }
     ensures length { length value.new ≡ length value.old }
     ensures ring { worker.new.sender.ring ≡ worker.old.sender.ring }
 {
-    match glance_first(worker, heads, index, hash, key, value, glances, now) {
-        Glanced::Found => Some(None),
-        Glanced::Nothing => None,
+    match glance_first(worker, heads, index, eye, hash, key, value, glances, now) {
+        Glanced::Found => Ok(None),
+        Glanced::Nothing => Err(Miss::Absent),
         Glanced::Unsure(id) => {
             find_from(
-                worker, heads, index, anew, id, hash, key, value, glances, now,
+                worker, heads, index, eye, anew, id, hash, key, value, glances, now,
             )
         }
     }
@@ -289,37 +317,57 @@ pub(crate) fn count_one(count: &mut u64)
     *count = count.wrapping_add(1);
 }
 
-// Finds the item of a key, touches it and counts a hit, and answers the hold of it; or counts a miss.
+// Finds the item of a key, touches it and counts a hit, and answers the hold of it; or counts a miss,
+// and says why.
 #[inline(always)]
 pub(crate) fn take<N: Name, L: RowLaw>(
     worker: &mut Worker<N>,
     heads: &ReaderHeads<N, L>,
     index: &IndexReader,
+    eye: &mut Eye,
     hits: &mut u64,
     misses: &mut u64,
     anew: &mut u64,
     hash: u32,
     key: &[u64],
     now: u64,
-) -> Option<Hold<N>>
+) -> Result<Hold<N>, Miss>
     requires few { length key.now ≤ N.table.slots }
-    ensures found { IfSome result (λ hold. Hits L.law heads.now key.now now anew.old anew.new worker.old worker.new
+    requires eye { SeesIndex index.now eye.old }
+    ensures found { IfOk result (λ hold. Hits L.law heads.now key.now now anew.old anew.new worker.old worker.new
         hold) }
-    ensures nothing { IfNone result (FindsNothing heads.now key.now now anew.old anew.new worker.old worker.new) }
-    ensures hit { IfSome result (λ _. (hits.new ≡ one_more hits.old) × (misses.new ≡ misses.old)) }
-    ensures missed { IfNone result ((hits.new ≡ hits.old) × (misses.new ≡ one_more misses.old)) }
+    ensures nothing { IfErr result (λ why. FindsNothing heads.now key.now now anew.old anew.new worker.old worker.new) }
+    ensures absent { IfErr result (λ why. IsMissed why hash key.now now heads.now index.now anew.old anew.new worker.old
+        eye.old worker.new eye.new) }
+    ensures looks { Looks eye.old eye.new }
+    ensures hit { IfOk result (λ _. (hits.new ≡ one_more hits.old) × (misses.new ≡ misses.old)) }
+    ensures missed { IfErr result (λ _. (hits.new ≡ hits.old) × (misses.new ≡ one_more misses.old)) }
     ensures ring { worker.new.sender.ring ≡ worker.old.sender.ring }
 {
-    let found = find(worker, heads, index, anew, hash, key, &mut [], false, now);
-    let Some(sight) = found else {
-        count_one(misses);
-        return None;
+    let found = find(
+        worker,
+        heads,
+        index,
+        eye,
+        anew,
+        hash,
+        key,
+        &mut [],
+        false,
+        now,
+    );
+    let sight = match found {
+        Ok(sight) => sight,
+        Err(why) => {
+            count_one(misses);
+            return Err(why);
+        }
     };
     // This never comes, since no glance was asked for.
     let Some((mut hold, head)) = sight else {
-        return None;
+        return Err(Miss::Unknown);
     };
     touch(worker, heads, &mut hold, head, now);
     count_one(hits);
-    Some(hold)
+    Ok(hold)
 }

@@ -1,22 +1,24 @@
 //! A reader of a cache whose keys and values are words.
-ghost use Rattle.std.specs.Prelude.{◌≡◌, ◌+◌, ◌≤◌, true, false, IfSome, IfNone, length};
+ghost use Rattle.std.specs.Prelude.{◌≡◌, ◌+◌, ◌≤◌, true, false, is_some, IfSome, IfNone, length};
 ghost use Rattle.std.specs.Arc.{arc_value};
 ghost use Rattle.bump_rules.specs.declared.hands.Hand.TheVariants as hand;
 ghost use Rattle.bump_rules.specs.Rings.{IsAccounts};
 ghost use Rattle.cache_readers.specs.Looks.{Finds, FoundBy, HasWords, Hits, LookFinds, Peeks, Sees};
 ghost use Rattle.cache_readers.specs.declared.glancing.Glanced.TheVariants as glanced;
 ghost use Rattle.cache_readers.specs.Glances.{IfUnsure};
-ghost use Rattle.cache_readers.specs.Readers.{CountsHit, CountsMiss, CountsNothing, GlancedAt, KeepsRing, Misses, ReadsNothing};
+ghost use Rattle.cache_index.specs.History.{SeesIndex};
+ghost use Rattle.cache_readers.specs.Readers.{CountsHit, CountsMiss, CountsNothing, GlancedAt, KeepsRing, Misses, ReadsMissed, ReadsNothing};
 ghost use Rattle.cache_readers.specs.Readers.{ReaderView as TheReaderView, new_reader};
 
 use crate::glancing::{Glanced, glance_first};
 use crate::looking::{count_one, find, find_from, read_words, take, touch};
+use crate::misses::Miss;
 use bump_heads::{Heads, Name};
 use bump_readers::ReaderHeads;
 use bump_rules::{Accounts, Head, ItemId};
 use bump_steps::RowLaw;
 use bump_unlocked::{Hold, Worker};
-use cache_index::IndexReader;
+use cache_index::{Eye, IndexReader};
 use std::alloc::Global;
 use std::marker::Model;
 use std::sync::Arc;
@@ -27,9 +29,11 @@ pub struct WordReader<N: Name, L: RowLaw> {
     worker: Worker<N>,
     heads: Arc<Heads<N, L>, Global>,
     index: IndexReader,
+    eye: Eye,
     hits: u64,
     misses: u64,
     anew: u64,
+    missed: Miss,
 }
 
 impl<N: Name, L: RowLaw> Model for WordReader<N, L> {
@@ -37,31 +41,39 @@ impl<N: Name, L: RowLaw> Model for WordReader<N, L> {
 
     ghost view = { λ r. record {
       config = arc_value r.heads;
-      first = r.index.first;
+      index = r.index;
+      eye = r.eye;
       worker = r.worker;
       hits = r.hits;
       misses = r.misses;
       anew = r.anew;
+      missed = r.missed;
     } };
+
+    ghost invariant = { λ r. SeesIndex r.index r.eye };
 }
 
 impl<N: Name, L: RowLaw> WordReader<N, L> {
     /// A reader that got nothing yet: by a worker of the store of these heads, and a reader of the index that leads to
-    /// its items.
+    /// its items, with an eye of that index.
     pub fn new(
         worker: Worker<N>,
         heads: Arc<Heads<N, L>, Global>,
         index: IndexReader,
+        eye: Eye,
     ) -> WordReader<N, L>
-        ensures { result ≡ new_reader (arc_value heads) index.first worker }
+        requires { SeesIndex index eye }
+        ensures { result ≡ new_reader (arc_value heads) index eye worker }
     {
         WordReader {
             worker,
             heads,
             index,
+            eye,
             hits: 0,
             misses: 0,
             anew: 0,
+            missed: Miss::Unknown,
         }
     }
 
@@ -86,21 +98,30 @@ impl<N: Name, L: RowLaw> WordReader<N, L> {
         ensures finds { IfSome result (λ sight. FoundBy (LookFinds L.law self.old.config key.now value.new now sight)
             self.old.config key.now now self.old.anew self.new.anew self.old.worker self.new.worker) }
         ensures nothing { IfNone result (ReadsNothing key.now now self.old self.new) }
-        ensures uncounted { CountsNothing self.old self.new }
+        ensures absent { IfNone result (ReadsMissed hash key.now now self.old self.new) }
+        ensures uncounted { CountsNothing (is_some result) self.old self.new }
         ensures length { length value.new ≡ length value.old }
         ensures ring { KeepsRing self.old self.new }
     {
-        find(
+        let found = find(
             &mut self.worker,
             &self.heads,
             &self.index,
+            &mut self.eye,
             &mut self.anew,
             hash,
             key,
             value,
             true,
             now,
-        )
+        );
+        match found {
+            Ok(sight) => Some(sight),
+            Err(why) => {
+                self.missed = why;
+                None
+            }
+        }
     }
 
     /// Reads the value that was put under a key into `value`, as memcached's `get`, and tells whether there was one
@@ -123,7 +144,7 @@ impl<N: Name, L: RowLaw> WordReader<N, L> {
     /// Where a life to which the index led has ended meanwhile, or its chunk can't be held, it searches anew, up to 1,000
     /// times. It answers false where the item with the key has expired, where the index leads to no chunk with the key,
     /// and behind the last of these searches; nothing is touched then, and `value` has any words, since a glance in vain
-    /// may have loaded some. That it searched the index isn't promised.
+    /// may have loaded some. Why it found nothing `last_miss` tells, and what each answer of that means is said of `Miss`.
     #[inline(always)]
     pub fn get(&mut self, hash: u32, key: &[u64], value: &mut [u64], now: u64) -> bool
         requires few { length key.now + length value.old ≤ N.table.slots }
@@ -131,6 +152,7 @@ impl<N: Name, L: RowLaw> WordReader<N, L> {
             self.old.worker self.new.worker }
         ensures counted { result ≡ true → CountsHit self.old self.new }
         ensures nothing { result ≡ false → ReadsNothing key.now now self.old self.new }
+        ensures absent { result ≡ false → ReadsMissed hash key.now now self.old self.new }
         ensures missed { result ≡ false → CountsMiss self.old self.new }
         ensures length { length value.new ≡ length value.old }
         ensures ring { KeepsRing self.old self.new }
@@ -154,6 +176,7 @@ impl<N: Name, L: RowLaw> WordReader<N, L> {
             self.new.anew self.old.worker self.new.worker }
         ensures counted { result ≡ glanced.Found → CountsHit self.old self.new }
         ensures nothing { result ≡ glanced.Nothing → ReadsNothing key.now now self.old self.new }
+        ensures absent { result ≡ glanced.Nothing → ReadsMissed hash key.now now self.old self.new }
         ensures missed { result ≡ glanced.Nothing → CountsMiss self.old self.new }
         ensures unsure { IfUnsure result (λ id. GlancedAt id self.old self.new) }
         ensures length { length value.new ≡ length value.old }
@@ -165,6 +188,7 @@ impl<N: Name, L: RowLaw> WordReader<N, L> {
             &mut self.worker,
             heads,
             &self.index,
+            &mut self.eye,
             hash,
             key,
             value,
@@ -173,7 +197,10 @@ impl<N: Name, L: RowLaw> WordReader<N, L> {
         );
         match &told {
             Glanced::Found => count_one(&mut self.hits),
-            Glanced::Nothing => count_one(&mut self.misses),
+            Glanced::Nothing => {
+                count_one(&mut self.misses);
+                self.missed = Miss::Absent;
+            }
             Glanced::Unsure(_) => {}
         }
         told
@@ -198,6 +225,8 @@ impl<N: Name, L: RowLaw> WordReader<N, L> {
         ensures counted { result ≡ true → CountsHit self.old self.new }
         ensures nothing { (before : TheReaderView) → GlancedAt id before self.old → result ≡ false
             → ReadsNothing key.now now before self.new }
+        ensures absent { (before : TheReaderView) → GlancedAt id before self.old → result ≡ false
+            → ReadsMissed hash key.now now before self.new }
         ensures missed { result ≡ false → CountsMiss self.old self.new }
         ensures length { length value.new ≡ length value.old }
         ensures ring { KeepsRing self.old self.new }
@@ -207,6 +236,7 @@ impl<N: Name, L: RowLaw> WordReader<N, L> {
             &mut self.worker,
             heads,
             &self.index,
+            &mut self.eye,
             &mut self.anew,
             id,
             hash,
@@ -215,9 +245,13 @@ impl<N: Name, L: RowLaw> WordReader<N, L> {
             true,
             now,
         );
-        let Some(sight) = found else {
-            count_one(&mut self.misses);
-            return false;
+        let sight = match found {
+            Ok(sight) => sight,
+            Err(why) => {
+                count_one(&mut self.misses);
+                self.missed = why;
+                return false;
+            }
         };
         count_one(&mut self.hits);
         let Some((mut hold, head)) = sight else {
@@ -240,19 +274,28 @@ impl<N: Name, L: RowLaw> WordReader<N, L> {
             self.old.worker self.new.worker hold) }
         ensures counted { IfSome result (λ hold. CountsHit self.old self.new) }
         ensures missed { IfNone result (Misses key.now now self.old self.new) }
+        ensures absent { IfNone result (ReadsMissed hash key.now now self.old self.new) }
         ensures ring { KeepsRing self.old self.new }
     {
-        take(
+        let taken = take(
             &mut self.worker,
             &self.heads,
             &self.index,
+            &mut self.eye,
             &mut self.hits,
             &mut self.misses,
             &mut self.anew,
             hash,
             key,
             now,
-        )
+        );
+        match taken {
+            Ok(hold) => Some(hold),
+            Err(why) => {
+                self.missed = why;
+                None
+            }
+        }
     }
 
     /// Reads words of an item that is held into `words`, as many as it has, by one load each: `from` is the first one's
@@ -275,7 +318,8 @@ impl<N: Name, L: RowLaw> WordReader<N, L> {
         ensures found { result ≡ true → Peeks L.law self.old.config key.now value.new now self.old.anew self.new.anew
             self.old.worker self.new.worker }
         ensures nothing { result ≡ false → ReadsNothing key.now now self.old self.new }
-        ensures uncounted { CountsNothing self.old self.new }
+        ensures absent { result ≡ false → ReadsMissed hash key.now now self.old self.new }
+        ensures uncounted { CountsNothing result self.old self.new }
         ensures length { length value.new ≡ length value.old }
         ensures ring { KeepsRing self.old self.new }
     {
@@ -298,7 +342,8 @@ impl<N: Name, L: RowLaw> WordReader<N, L> {
         ensures found { result ≡ true → Sees L.law self.old.config key.now now self.old.anew self.new.anew
             self.old.worker self.new.worker }
         ensures nothing { result ≡ false → ReadsNothing key.now now self.old self.new }
-        ensures uncounted { CountsNothing self.old self.new }
+        ensures absent { result ≡ false → ReadsMissed hash key.now now self.old self.new }
+        ensures uncounted { CountsNothing result self.old self.new }
         ensures ring { KeepsRing self.old self.new }
     {
         let Some(sight) = self.see(hash, key, &mut [], now) else {
@@ -316,7 +361,7 @@ impl<N: Name, L: RowLaw> WordReader<N, L> {
     /// takes no lock and no memory, and waits for nobody.
     #[inline(always)]
     pub fn look_ahead(&self, hash: u32) {
-        let _search = self.index.search(hash);
+        self.index.look_ahead(hash);
     }
 
     /// How many gets found something (memcached's `get_hits`), in 64 bits: behind 2^64 - 1 it begins anew at 0.
@@ -339,6 +384,14 @@ impl<N: Name, L: RowLaw> WordReader<N, L> {
         ensures { result ≡ self.now.anew }
     {
         self.anew
+    }
+
+    /// Why the last get, hold, peek or `contains` of this reader that found nothing did so; `Unknown` where each found
+    /// something so far.
+    pub fn last_miss(&self) -> Miss
+        ensures { result ≡ self.now.missed }
+    {
+        self.missed
     }
 
     /// Its counts of bumps, as `Worker::counts` tells them: accepted and dropped ones add up to those attempted.

@@ -3,7 +3,7 @@
 ghost use Rattle.bump_cache.specs.Opening.{IsNamed};
 
 use crate::stands::{Entry, Stand, config_of};
-use bump_cache::{CacheBlank, CacheConfig, Cause, Evicted, LogName, Name, Put};
+use bump_cache::{CacheBlank, CacheConfig, Cause, Evicted, LogName, Miss, Name, Put};
 use std::alloc::{AllocError, Global};
 use std::marker::Brand;
 use std::process::Abort;
@@ -69,6 +69,11 @@ impl<N: Name + LogName> Few<N> {
             "key {key} at {now}"
         );
         assert_eq!(rt; self.stand.get(0, &key, now), wanted, "key {key} at {now}");
+        assert_eq!(rt;
+            self.stand.look(rt, &key, now),
+            wanted,
+            "key {key} at {now}"
+        );
     }
 
     fn check_ticks<R: Wait + Abort>(&mut self, rt: &R) {
@@ -85,7 +90,12 @@ impl<N: Name + LogName> Few<N> {
         ] {
             self.put_until(rt, key, expires, 5);
             self.expect(rt, key, now, is_there);
+            if !is_there {
+                assert_eq!(rt; self.stand.last_miss(0, &key), Some(Miss::Expired));
+            }
         }
+        self.expect(rt, 5, 0, false);
+        assert_eq!(rt; self.stand.last_miss(0, &5), Some(Miss::Absent));
     }
 
     fn check_untold<R: Wait + Abort>(&mut self, rt: &R) {

@@ -3,8 +3,8 @@ ghost use Rattle.std.specs.Prelude.{◌≡◌, length};
 ghost use Rattle.bump_cache.specs.Opening.{IsNamed};
 
 use bump_cache::{
-    Cache, CacheBlank, CacheConfig, CacheReader, Changer, Evicted, Full, LogName, Name, NoRoom,
-    Opened, Packed, Put, Seed, Stats, open,
+    Cache, CacheBlank, CacheConfig, CacheReader, Changer, Evicted, Full, LogName, Miss, Name,
+    NoRoom, Opened, Packed, Put, Seed, Stats, open,
 };
 use std::alloc::{AllocError, Global};
 use std::sync::Wait;
@@ -117,6 +117,11 @@ impl<N: Name + LogName, K: Packed, V: Packed> Stand<N, K, V> {
             .set(rt, &mut self.changer.me, key, value, expires, now)
     }
 
+    /// What a key has, as a look under its part's lock tells.
+    pub fn look<W: Wait>(&mut self, rt: &W, key: &K, now: u64) -> Option<V> {
+        self.cache.look(rt, &mut self.changer.me, key, now)
+    }
+
     /// Ends the item of a key.
     pub fn remove<W: Wait>(&mut self, rt: &W, key: &K, now: u64) -> Option<V> {
         self.cache.remove(rt, &mut self.changer.me, key, now)
@@ -172,6 +177,12 @@ impl<N: Name + LogName, K: Packed, V: Packed> Stand<N, K, V> {
             Some(reader) => reader.contains(key, now),
             None => false,
         }
+    }
+
+    /// Why a reader found nothing in the key's part when it last did.
+    pub fn last_miss(&self, reader: usize, key: &K) -> Option<Miss> {
+        let reader = self.readers.get(reader)?;
+        Some(reader.last_miss(key))
     }
 
     /// How many gets of all readers found something, and how many nothing.

@@ -1,6 +1,6 @@
 //! A cache, as a caller calls it.
 ghost use Rattle.bump_cache.specs.Caches.{part_in};
-ghost use Rattle.bump_cache.specs.Changing.{Adds, CallsOnHad, ChangesWhereSome, GetsOrPuts, IfGot, RefusesAnew, RefusesNew, ReplacesWhereSome, TouchesWhereSome};
+ghost use Rattle.bump_cache.specs.Changing.{Adds, CallsOnHad, ChangesWhereSome, GetsOrPuts, IfGot, RefusesAnew, RefusesNew, ReplacesWhereSome, TellsFound, TouchesWhereSome};
 ghost use Rattle.bump_cache.specs.Ending.{TakesOfPart};
 ghost use Rattle.bump_cache.specs.Putting.{PutsValue, RefusesValue, RemovesValue};
 ghost use Rattle.bump_cache.specs.Setting.{PutsWords, RefusesWords};
@@ -32,6 +32,22 @@ pub fn part_of<N: Name + LogName, K: Packed, V: Packed>(cache: &Cache<N, K, V>, 
     ensures within { result < cache.now.parts }
 {
     cache.part_of(key)
+}
+
+/// What a key has.
+pub fn look<N: Name + LogName, K: Packed, V: Packed, W: Wait>(
+    cache: &Cache<N, K, V>,
+    rt: &W,
+    me: &mut Caller<N, CacheState>,
+    key: &K,
+    now: u64,
+) -> Option<V>
+    requires part { 0 < me.old.parts }
+    ensures call { MakesOne me.old me.new }
+    ensures part { part_called me.new ≡ part_in cache.now (K.as_words key.now) }
+    ensures finds { TellsFound V.as_words (K.as_words key.now) now result (from_of me.new) (to_of me.new) }
+{
+    cache.look(rt, me, key, now)
 }
 
 /// Puts a value under a key.

@@ -1,12 +1,12 @@
 //! A reader of a cache, as a caller calls it.
 ghost use Rattle.bump_cache.specs.Many.{GetsEach};
 ghost use Rattle.bump_cache.specs.Pairs.{IsPair};
-ghost use Rattle.bump_cache.specs.Readers.{FindsValue, InPart, KeepsRings, PeeksValue, SeesItem};
+ghost use Rattle.bump_cache.specs.Readers.{FindsValue, InPart, KeepsRings, MissesKey, PeeksValue, SeesItem, missed_of, part_for};
 ghost use Rattle.cache_config.specs.Sums.{hits_of, misses_of, AddsUp, bumps_of, dropped_of};
 ghost use Rattle.cache_readers.specs.Readers.{CountsHit, Misses, CountsNothing, ReadsNothing};
-ghost use Rattle.std.specs.Prelude.{IfSome, IfNone, ◌≡◌, length, true, false, All};
+ghost use Rattle.std.specs.Prelude.{IfSome, IfNone, ◌≡◌, is_some, length, option_map, slice_get, Some, true, false, All};
 
-use bump_cache::{Accounts, CacheReader, Name, Packed};
+use bump_cache::{Accounts, CacheReader, Miss, Name, Packed};
 
 /// What was put under a key.
 pub fn get<N: Name, K: Packed, V: Packed>(
@@ -20,6 +20,8 @@ pub fn get<N: Name, K: Packed, V: Packed>(
     ensures counted { IfSome result (λ value. InPart CountsHit (K.as_words key.now) reader.old reader.new) }
     ensures missed { IfNone result (InPart (Misses (K.as_words key.now) now) (K.as_words key.now) reader.old
         reader.new) }
+    ensures absent { IfNone result (InPart (MissesKey reader.old.seed (K.as_words key.now) now) (K.as_words key.now)
+        reader.old reader.new) }
     ensures ring { KeepsRings reader.old reader.new }
 {
     reader.get(key, now)
@@ -52,7 +54,9 @@ pub fn peek<N: Name, K: Packed, V: Packed>(
         (K.as_words key.now) (V.as_words value) now) (K.as_words key.now) reader.old reader.new) }
     ensures nothing { IfNone result (InPart (ReadsNothing (K.as_words key.now) now) (K.as_words key.now) reader.old
         reader.new) }
-    ensures uncounted { InPart CountsNothing (K.as_words key.now) reader.old reader.new }
+    ensures absent { IfNone result (InPart (MissesKey reader.old.seed (K.as_words key.now) now) (K.as_words key.now)
+        reader.old reader.new) }
+    ensures uncounted { InPart (CountsNothing (is_some result)) (K.as_words key.now) reader.old reader.new }
     ensures ring { KeepsRings reader.old reader.new }
 {
     reader.peek(key, now)
@@ -68,10 +72,19 @@ pub fn contains<N: Name, K: Packed, V: Packed>(
         (K.as_words key.now) now) (K.as_words key.now) reader.old reader.new }
     ensures nothing { result ≡ false → InPart (ReadsNothing (K.as_words key.now) now) (K.as_words key.now) reader.old
         reader.new }
-    ensures uncounted { InPart CountsNothing (K.as_words key.now) reader.old reader.new }
+    ensures absent { result ≡ false → InPart (MissesKey reader.old.seed (K.as_words key.now) now) (K.as_words key.now)
+        reader.old reader.new }
+    ensures uncounted { InPart (CountsNothing result) (K.as_words key.now) reader.old reader.new }
     ensures ring { KeepsRings reader.old reader.new }
 {
     reader.contains(key, now)
+}
+
+/// Why nothing was found in the key's part, when that was so last.
+pub fn last_miss<N: Name, K: Packed, V: Packed>(reader: &CacheReader<N, K, V>, key: &K) -> Miss
+    ensures { option_map missed_of (slice_get reader.now.parts (part_for (K.as_words key.now) reader.now)) ≡ Some result }
+{
+    reader.last_miss(key)
 }
 
 /// How many gets found something.

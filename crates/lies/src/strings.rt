@@ -3,7 +3,7 @@ ghost use Rattle.bump_cache.specs.Bytes.{IfRoom, IfTooLong};
 ghost use Rattle.bump_cache.specs.Caches.{part_in};
 ghost use Rattle.bump_cache.specs.Pairs.{IsPair};
 ghost use Rattle.bump_cache.specs.Putting.{RemovesValue};
-ghost use Rattle.bump_cache.specs.Readers.{FindsValue, InPart, KeepsRings, SeesItem};
+ghost use Rattle.bump_cache.specs.Readers.{FindsValue, InPart, KeepsRings, MissesKey, SeesItem};
 ghost use Rattle.bump_cache.specs.States.{from_of, part_called, to_of};
 ghost use Rattle.cache_readers.specs.Readers.{CountsHit, Misses, CountsNothing, ReadsNothing};
 ghost use Rattle.call_log.specs.Calls.{MakesOne};
@@ -25,6 +25,8 @@ pub fn get_bytes<N: Name, V: Packed, const W: usize>(
     ensures counted { IfSome result (λ value. InPart CountsHit (string_words W key.now) reader.old reader.new) }
     ensures missed { IfNone result (IfRoom W key.now (InPart (Misses (string_words W key.now) now)
         (string_words W key.now) reader.old reader.new)) }
+    ensures absent { IfNone result (IfRoom W key.now (InPart (MissesKey reader.old.seed (string_words W key.now) now)
+        (string_words W key.now) reader.old reader.new)) }
     ensures too_long { IfTooLong W key.now (result ≡ None) }
     ensures unchanged { IfTooLong W key.now (reader.new ≡ reader.old) }
     ensures ring { KeepsRings reader.old reader.new }
@@ -44,6 +46,8 @@ pub fn get_text<N: Name, V: Packed, const W: usize>(
     ensures counted { IfSome result (λ value. InPart CountsHit (string_words W key.now) reader.old reader.new) }
     ensures missed { IfNone result (IfRoom W key.now (InPart (Misses (string_words W key.now) now)
         (string_words W key.now) reader.old reader.new)) }
+    ensures absent { IfNone result (IfRoom W key.now (InPart (MissesKey reader.old.seed (string_words W key.now) now)
+        (string_words W key.now) reader.old reader.new)) }
     ensures too_long { IfTooLong W key.now (result ≡ None) }
     ensures unchanged { IfTooLong W key.now (reader.new ≡ reader.old) }
     ensures ring { KeepsRings reader.old reader.new }
@@ -61,9 +65,11 @@ pub fn contains_bytes<N: Name, V: Packed, const W: usize>(
         (string_words W key.now) now) (string_words W key.now) reader.old reader.new }
     ensures nothing { result ≡ false → IfRoom W key.now (InPart (ReadsNothing (string_words W key.now) now)
         (string_words W key.now) reader.old reader.new) }
+    ensures absent { result ≡ false → IfRoom W key.now (InPart (MissesKey reader.old.seed (string_words W key.now) now)
+        (string_words W key.now) reader.old reader.new) }
     ensures too_long { IfTooLong W key.now (result ≡ false) }
     ensures unchanged { IfTooLong W key.now (reader.new ≡ reader.old) }
-    ensures uncounted { IfRoom W key.now (InPart CountsNothing (string_words W key.now) reader.old reader.new) }
+    ensures uncounted { IfRoom W key.now (InPart (CountsNothing result) (string_words W key.now) reader.old reader.new) }
     ensures ring { KeepsRings reader.old reader.new }
 {
     reader.contains_bytes(key, now)
@@ -79,9 +85,11 @@ pub fn contains_text<N: Name, V: Packed, const W: usize>(
         (string_words W key.now) now) (string_words W key.now) reader.old reader.new }
     ensures nothing { result ≡ false → IfRoom W key.now (InPart (ReadsNothing (string_words W key.now) now)
         (string_words W key.now) reader.old reader.new) }
+    ensures absent { result ≡ false → IfRoom W key.now (InPart (MissesKey reader.old.seed (string_words W key.now) now)
+        (string_words W key.now) reader.old reader.new) }
     ensures too_long { IfTooLong W key.now (result ≡ false) }
     ensures unchanged { IfTooLong W key.now (reader.new ≡ reader.old) }
-    ensures uncounted { IfRoom W key.now (InPart CountsNothing (string_words W key.now) reader.old reader.new) }
+    ensures uncounted { IfRoom W key.now (InPart (CountsNothing result) (string_words W key.now) reader.old reader.new) }
     ensures ring { KeepsRings reader.old reader.new }
 {
     reader.contains_text(key, now)

@@ -282,8 +282,9 @@ fn run<N: Name, R: Abort>(rt: &R, alloc: Global, blank: Blank, config: &Config) 
     };
     let mut workers = workers;
     let worker = workers.pop().expect(rt, "there is a worker");
-    let index = Index::new(alloc, 0, 4)?;
-    let mut reader = WordReader::new(worker, heads, index.reader()?);
+    let mut index = Index::new(alloc, 0, 4)?;
+    let (nests, eye) = index.reader()?;
+    let mut reader = WordReader::new(worker, heads, nests, eye);
     let mut part = Part::new(book, index, SEED, 2, 1, 2, Some(10));
     call_all(rt, &mut part, &mut lanes, &mut reader);
     Ok(())
@@ -327,8 +328,9 @@ fn run_second<N: Name, R: Abort>(
     };
     let mut workers = workers;
     let worker = workers.pop().expect(rt, "there is a worker");
-    let index = Index::new(alloc, 3, 4)?;
-    let mut reader = WordReader::new(worker, heads, index.reader()?);
+    let mut index = Index::new(alloc, 3, 4)?;
+    let (nests, eye) = index.reader()?;
+    let mut reader = WordReader::new(worker, heads, nests, eye);
     let mut part = Part::new(book, index, SEED, 2, 1, 2, Some(10));
     use_second(rt, &mut part);
     call_all(rt, &mut part, &mut lanes, &mut reader);

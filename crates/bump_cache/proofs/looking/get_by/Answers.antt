@@ -1,6 +1,6 @@
 use Rattle.std.proofs.Common.{◌≡◌, refl, subst, sym, ap, ◌∙◌}
 use Rattle.cache_readers.specs.Looks.{Finds}
-use Rattle.cache_readers.specs.Readers.{CountsHit, GlancedAt, Misses, ReaderView}
+use Rattle.cache_readers.specs.Readers.{CountsHit, GlancedAt, Misses, ReaderView, ReadsMissed}
 use Rattle.cache_readers.proofs.FoundRows.{finds_row}
 use Rattle.cache_readers.proofs.ReaderLemmas.{hit_behind}
 use Rattle.bump_cache.specs.Pairs.{IsPair}
@@ -66,3 +66,15 @@ returns-in-Unsure-clause-missed g c = none_then c.get_held_by.result
     → Misses (g.K.Packed.as_words c.args.key.now) c.args.now before c.get_held_by.new.reader)
     (Misses (g.K.Packed.as_words c.args.key.now) c.args.now c.args.reader.now c.get_held_by.new.reader)
     (λ missed. missed c.args.reader.now c.in-Unsure.ensures.unsure) c.get_held_by.ensures.missed
+
+pub returns-in-Nothing-clause-absent : goal.returns-in-Nothing-clause-absent
+returns-in-Nothing-clause-absent g c =
+    subst (λ key. ReadsMissed c.args.hash key c.args.now c.args.reader.now c.glance.new.self) c.requires.words
+    (c.in-Nothing.ensures.absent refl)
+
+pub returns-in-Unsure-clause-absent : goal.returns-in-Unsure-clause-absent
+returns-in-Unsure-clause-absent g c = none_then c.get_held_by.result
+    ((before : ReaderView) → GlancedAt c.in-Unsure.id before c.glance.new.self
+    → ReadsMissed c.args.hash (g.K.Packed.as_words c.args.key.now) c.args.now before c.get_held_by.new.reader)
+    (ReadsMissed c.args.hash (g.K.Packed.as_words c.args.key.now) c.args.now c.args.reader.now c.get_held_by.new.reader)
+    (λ missed. missed c.args.reader.now c.in-Unsure.ensures.unsure) c.get_held_by.ensures.absent

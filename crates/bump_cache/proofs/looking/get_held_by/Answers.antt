@@ -1,6 +1,6 @@
 use Rattle.std.proofs.Common.{◌≡◌, rules, refl, subst, sym, ap, ◌∙◌}
 use Rattle.cache_readers.specs.Looks.{Finds}
-use Rattle.cache_readers.specs.Readers.{Misses}
+use Rattle.cache_readers.specs.Readers.{Misses, ReadsMissed}
 use Rattle.cache_readers.proofs.FoundRows.{finds_row}
 use Rattle.cache_readers.proofs.ReaderLemmas.{missed_behind, none_glanced}
 use Rattle.bump_cache.specs.Pairs.{IsPair}
@@ -40,3 +40,8 @@ returns-clause-found g c = λ before glanced.
     (subst (λ words. Finds (IsPair g.K.Packed.fits g.K.Packed.as_words g.V.Packed.fits g.V.Packed.as_words)
     before.config c.pack.new.to words c.args.now before.anew c.get_held.new.self.anew
     before.worker c.get_held.new.self.worker) is (c.if-not-get_held.ensures.found before glanced refl))
+
+pub returns-then-not-get_held-clause-absent : goal.returns-then-not-get_held-clause-absent
+returns-then-not-get_held-clause-absent g c = λ before glanced.
+    subst (λ key. ReadsMissed c.args.hash key c.args.now before c.get_held.new.self) c.pack.ensures.packed
+    (c.if-not-get_held.ensures.absent before glanced refl)

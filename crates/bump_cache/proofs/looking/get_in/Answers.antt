@@ -1,6 +1,8 @@
-use Rattle.cache_readers.specs.Readers.{CountsHit, Misses}
+use Rattle.std.proofs.Common.{IfNone, ap, ◌∙◌, subst}
+use Rattle.cache_readers.specs.Readers.{CountsHit, Misses, ReadsMissed}
 use Rattle.bump_cache.specs.Pairs.{IsPair}
-use Rattle.bump_cache.specs.Readers.{FindsValue}
+use Rattle.keyed_hash.specs.Hashes.{hash_of}
+use Rattle.bump_cache.specs.Readers.{FindsValue, MissesKey}
 use Rattle.bump_cache.proofs.Choices.{chosen_in, in_part_none, in_part_some, keeps_rings}
 use Rattle.bump_cache.proofs.looking.get_in.Goals as goal
 
@@ -32,3 +34,13 @@ returns-clause-ring g c =
     (chosen_in c.args.seed (g.K.Packed.as_words c.args.key.now) c.pack.new.to c.args.parts.now _ c.get_by.new.reader
     c.hash-hash.result c.pack.ensures.packed c.hash-hash.ensures c.part_in.ensures.part)
     c.get_by.ensures.ring
+
+pub returns-clause-absent : goal.returns-clause-absent
+returns-clause-absent g c =
+    in_part_none c.args.seed (g.K.Packed.as_words c.args.key.now) c.args.parts.now _ _ _
+    (chosen_in c.args.seed (g.K.Packed.as_words c.args.key.now) c.pack.new.to c.args.parts.now _ c.get_by.new.reader
+    c.hash-hash.result c.pack.ensures.packed c.hash-hash.ensures c.part_in.ensures.part)
+    c.get_by.result (MissesKey c.args.seed (g.K.Packed.as_words c.args.key.now) c.args.now)
+    (subst (λ hash. IfNone c.get_by.result (ReadsMissed hash (g.K.Packed.as_words c.args.key.now) c.args.now
+    c.part_in.result.now c.get_by.new.reader)) (c.hash-hash.ensures ∙ ap (hash_of c.args.seed) c.pack.ensures.packed)
+    c.get_by.ensures.absent)

@@ -1,6 +1,8 @@
-use Rattle.cache_readers.specs.Readers.{CountsNothing, ReadsNothing}
+use Rattle.std.proofs.Common.{IfNone, is_some, ap, ◌∙◌, subst}
+use Rattle.cache_readers.specs.Readers.{CountsNothing, ReadsMissed, ReadsNothing}
 use Rattle.bump_cache.specs.Pairs.{IsPair}
-use Rattle.bump_cache.specs.Readers.{PeeksValue}
+use Rattle.keyed_hash.specs.Hashes.{hash_of}
+use Rattle.bump_cache.specs.Readers.{MissesKey, PeeksValue}
 use Rattle.bump_cache.proofs.Choices.{chosen_in, in_part, in_part_none, in_part_some, keeps_rings}
 use Rattle.bump_cache.proofs.looking.peek_in.Goals as goal
 
@@ -24,7 +26,7 @@ returns-clause-uncounted g c =
     in_part c.args.seed (g.K.Packed.as_words c.args.key.now) c.args.parts.now _ _ _
     (chosen_in c.args.seed (g.K.Packed.as_words c.args.key.now) c.pack.new.to c.args.parts.now _ c.peek_by.new.reader
     c.hash-hash.result c.pack.ensures.packed c.hash-hash.ensures c.part_in.ensures.part)
-    CountsNothing c.peek_by.ensures.uncounted
+    (CountsNothing (is_some c.peek_by.result)) c.peek_by.ensures.uncounted
 
 pub returns-clause-ring : goal.returns-clause-ring
 returns-clause-ring g c =
@@ -32,3 +34,13 @@ returns-clause-ring g c =
     (chosen_in c.args.seed (g.K.Packed.as_words c.args.key.now) c.pack.new.to c.args.parts.now _ c.peek_by.new.reader
     c.hash-hash.result c.pack.ensures.packed c.hash-hash.ensures c.part_in.ensures.part)
     c.peek_by.ensures.ring
+
+pub returns-clause-absent : goal.returns-clause-absent
+returns-clause-absent g c =
+    in_part_none c.args.seed (g.K.Packed.as_words c.args.key.now) c.args.parts.now _ _ _
+    (chosen_in c.args.seed (g.K.Packed.as_words c.args.key.now) c.pack.new.to c.args.parts.now _ c.peek_by.new.reader
+    c.hash-hash.result c.pack.ensures.packed c.hash-hash.ensures c.part_in.ensures.part)
+    c.peek_by.result (MissesKey c.args.seed (g.K.Packed.as_words c.args.key.now) c.args.now)
+    (subst (λ hash. IfNone c.peek_by.result (ReadsMissed hash (g.K.Packed.as_words c.args.key.now) c.args.now
+    c.part_in.result.now c.peek_by.new.reader)) (c.hash-hash.ensures ∙ ap (hash_of c.args.seed) c.pack.ensures.packed)
+    c.peek_by.ensures.absent)

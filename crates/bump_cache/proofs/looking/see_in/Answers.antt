@@ -1,6 +1,8 @@
-use Rattle.cache_readers.specs.Readers.{CountsNothing, ReadsNothing}
+use Rattle.std.proofs.Common.{ap, ◌∙◌, subst}
+use Rattle.cache_readers.specs.Readers.{CountsNothing, ReadsMissed, ReadsNothing}
 use Rattle.bump_cache.specs.Pairs.{IsPair}
-use Rattle.bump_cache.specs.Readers.{SeesItem}
+use Rattle.keyed_hash.specs.Hashes.{hash_of}
+use Rattle.bump_cache.specs.Readers.{MissesKey, SeesItem}
 use Rattle.bump_cache.proofs.Choices.{chosen_in, in_part, keeps_rings}
 use Rattle.bump_cache.proofs.looking.see_in.Goals as goal
 
@@ -24,7 +26,7 @@ returns-clause-uncounted g c =
     in_part c.args.seed (g.K.Packed.as_words c.args.key.now) c.args.parts.now _ _ _
     (chosen_in c.args.seed (g.K.Packed.as_words c.args.key.now) c.pack.new.to c.args.parts.now _ c.see_by.new.reader
     c.hash-hash.result c.pack.ensures.packed c.hash-hash.ensures c.part_in.ensures.part)
-    CountsNothing c.see_by.ensures.uncounted
+    (CountsNothing c.see_by.result) c.see_by.ensures.uncounted
 
 pub returns-clause-ring : goal.returns-clause-ring
 returns-clause-ring g c =
@@ -32,3 +34,13 @@ returns-clause-ring g c =
     (chosen_in c.args.seed (g.K.Packed.as_words c.args.key.now) c.pack.new.to c.args.parts.now _ c.see_by.new.reader
     c.hash-hash.result c.pack.ensures.packed c.hash-hash.ensures c.part_in.ensures.part)
     c.see_by.ensures.ring
+
+pub returns-clause-absent : goal.returns-clause-absent
+returns-clause-absent g c =
+    λ unseen. in_part c.args.seed (g.K.Packed.as_words c.args.key.now) c.args.parts.now _ _ _
+    (chosen_in c.args.seed (g.K.Packed.as_words c.args.key.now) c.pack.new.to c.args.parts.now _ c.see_by.new.reader
+    c.hash-hash.result c.pack.ensures.packed c.hash-hash.ensures c.part_in.ensures.part)
+    (MissesKey c.args.seed (g.K.Packed.as_words c.args.key.now) c.args.now)
+    (subst (λ hash. ReadsMissed hash (g.K.Packed.as_words c.args.key.now) c.args.now c.part_in.result.now
+    c.see_by.new.reader) (c.hash-hash.ensures ∙ ap (hash_of c.args.seed) c.pack.ensures.packed)
+    (c.see_by.ensures.absent unseen))

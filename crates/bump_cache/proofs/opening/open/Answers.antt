@@ -12,13 +12,13 @@ use Rattle.cache_config.proofs.Soundness.{sound}
 use Rattle.bump_cache.proofs.opening.open.Goals as goal
 
 pub returns-clause-count : goal.returns-clause-count
-returns-clause-count g c = ap length c.in_ok-readers.ensures ∙ (length-map _ _ ∙ (c.in_ok-rows.ensures.count
+returns-clause-count g c = ap length c.in_ok-readers.ensures ∙ (length-map _ _ ∙ (c.in_ok-rows.ensures.rows.count
     ∙ ap (λ (b : CacheBlankView). b.config.readers) c.blank.view_is))
 
 pub make_readers-requires-clause-parts : goal.make_readers-requires-clause-parts
 make_readers-requires-clause-parts g c =
     let is = sound c.blank.inside.config c.blank.invariant.0.no_fault in
-    rows_counted _ _ _ _ _ _ c.in_ok-rows.ensures is.parts_least is.parts_most
+    rows_counted _ _ _ _ _ _ c.in_ok-rows.ensures.rows is.parts_least is.parts_most
 
 pub make_pairs-requires-clause-words : goal.make_pairs-requires-clause-words
 make_pairs-requires-clause-words g c =
@@ -30,7 +30,7 @@ returns-clause-readers g c =
     let e = c.in_ok-heads.ensures in
     opened_readers _ _ c.blank.inside.store _ c.in_ok-heads.field-0.workers.items _ c.blank.view_is
     c.blank.invariant.0.store_of e.heads (λ number reader had. rows_all c.blank.inside.config _ _ _
-    c.blank.inside.config.parts number reader refl c.in_ok-rows.ensures
+    c.blank.inside.config.parts number reader refl c.in_ok-rows.ensures.rows
     (ap (λ (rs : List CacheReaderView). slice_get rs number) (sym c.in_ok-readers.ensures) ∙ had)) e.workers e.capacity
 
 pub returns-clause-shelves : goal.returns-clause-shelves
@@ -46,9 +46,9 @@ returns-clause-shelves g c =
     c.in_ok-readers.readers.items c.make_locks.new.me) c.words.ensures
     (part_new c.blank.inside.config _ c.in_ok-heads.field-0.workers.items c.in_ok-heads.field-0.lanes.items
     c.in_ok-readers.readers.items e.rings (λ number reader had. rows_all c.blank.inside.config _ _ _
-    c.blank.inside.config.parts number reader refl c.in_ok-rows.ensures
+    c.blank.inside.config.parts number reader refl c.in_ok-rows.ensures.rows
     (ap (λ (rs : List CacheReaderView). slice_get rs number) (sym c.in_ok-readers.ensures) ∙ had))
-    (ap length c.in_ok-readers.ensures ∙ (length-map _ _ ∙ c.in_ok-rows.ensures.count))
+    (ap length c.in_ok-readers.ensures ∙ (length-map _ _ ∙ c.in_ok-rows.ensures.rows.count))
     c.words.result c.words-2.result c.in_ok-shelves.shelves.items _ c.in_ok-shelves.ensures begins part low)))
 
 pub make_shelves-requires-clause-books : goal.make_shelves-requires-clause-books

@@ -4,13 +4,14 @@ use Rattle.std.specs.Prelude.{slice_set}
 use Rattle.std.specs.Vec.Iter.{into_iter_items}
 use Rattle.std.proofs.lemmas.Option.{slice_get-get_or}
 use Rattle.bump_rules.specs.declared.configs.Config.{Config}
-use Rattle.cache_readers.specs.Readers.{ReaderView, new_reader}
+use Rattle.cache_index.specs.Views.{IndexView}
+use Rattle.cache_readers.specs.Readers.{ReaderView, counts_of, no_counts}
 use Rattle.cache_config.proofs.Places.{drop_first, drop_some}
 use Rattle.cache_config.proofs.RowLemmas.{AddsFirst, adds_all, adds_next, adds_none}
 use Rattle.cache_config.proofs.part_readers.add_part.Goals as goal
 
 pub loop-number-init : goal.loop-number-init
-loop-number-init g c = record { rows = adds_none _ _ _ _; rest = refl }
+loop-number-init g c = record { rows = adds_none _ _ _ _; rest = refl; index = refl }
 
 pub unreachable-requires : goal.unreachable-requires
 unreachable-requires g c =
@@ -34,16 +35,20 @@ loop-number-preserved g c =
     let next = drop_first workers number c.in-Some.worker _ (sym so_far.rest ∙ c.in-Some.ensures.items) in
     let at = slice_get-get_or c.loop-number.rows number c.index-rows-number.result room in
     let heads : arc_value c.in_ok-heads.heads ≡ store = search rules in
-    let grown : c.push.new.self ≡ row ++ new_reader store chunk c.in-Some.worker ∷ [] =
-    c.in_ok-push.ensures ∙ ap (λ (r : ReaderView). row ++ r ∷ []) (c.new-reader.ensures
-    ∙ (ap (λ (config : Config). new_reader config c.in_ok-nests.nests.first c.in-Some.worker) heads
-    ∙ ap (λ (first : ℕ). new_reader store first c.in-Some.worker) c.in_ok-nests.ensures.first)) in
+    let first : c.in_ok-nests.nests.first ≡ chunk =
+    c.in_ok-nests.ensures.first ∙ ap (λ (index : IndexView). index.first) so_far.index in
+    let made : counts_of c.new-reader.result ≡ no_counts store chunk c.in-Some.worker =
+    ap counts_of c.new-reader.ensures
+    ∙ (ap (λ (config : Config). no_counts config c.in_ok-nests.nests.first c.in-Some.worker) heads
+    ∙ ap (λ (first : ℕ). no_counts store first c.in-Some.worker) first) in
+    let grown : c.push.new.self ≡ row ++ c.new-reader.result ∷ [] = c.in_ok-push.ensures in
     record {
       rows = subst (λ (r : List ReaderView). AddsFirst store chunk workers (number + 1) c.args.rows.now
           (slice_set c.loop-number.rows number r)) (sym grown)
-          (adds_next store chunk workers number c.args.rows.now c.loop-number.rows row c.in-Some.worker so_far.rows low at
-          next.0);
+          (adds_next store chunk workers number c.args.rows.now c.loop-number.rows row c.in-Some.worker c.new-reader.result
+          made so_far.rows low at next.0);
       rest = sym next.1;
+      index = c.in_ok-nests.ensures.same ∙ so_far.index;
     }
 
 pub returns-clause-rows : goal.returns-clause-rows

@@ -5,8 +5,9 @@ use Rattle.cache_config.specs.Making.{AreRows, chunks_before}
 use Rattle.cache_config.proofs.part_readers.make_part_readers.Given as goal
 
 -- so many parts the rows have, by the workers that came first
-abbrev pub invariant-loop-index : goal.invariant-loop-index
-invariant-loop-index g l = record {
-  rows : AreRows (arc_value l.heads) (chunks_before l.config) l.config.readers l.index-index l.fn.workers.items l.rows.items;
-  rest : into_iter_items l.workers ≡ drop (l.index-index * l.config.readers) l.fn.workers.items;
+abbrev pub invariant-loop-part : goal.invariant-loop-part
+invariant-loop-part g l = record {
+  rows : AreRows (arc_value l.heads) (chunks_before l.config) l.config.readers l.part l.fn.workers.items l.rows.items;
+  rest : into_iter_items l.workers ≡ drop (l.part * l.config.readers) l.fn.workers.items;
+  indexes : l.indexes ≡ l.fn.indexes;
 }

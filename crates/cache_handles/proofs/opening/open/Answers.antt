@@ -17,7 +17,7 @@ make_parts-requires-clause-shelves g c =
 pub make_readers-requires-clause-parts : goal.make_readers-requires-clause-parts
 make_readers-requires-clause-parts g c =
     let is = sound c.args.config.now.cache (byte_sound c.args.config.now c.requires.sound).cache in
-    rows_counted _ _ _ _ _ _ c.in_ok-rows.ensures is.parts_least is.parts_most
+    rows_counted _ _ _ _ _ _ c.in_ok-rows.ensures.rows is.parts_least is.parts_most
 
 pub returns : goal.returns
 returns g c =
@@ -26,12 +26,12 @@ returns g c =
     record {
       rows = c.in_ok-rows.rows.items;
       has_readers = c.in_ok-make_readers.ensures;
-      reader_count = c.in_ok-rows.ensures.count;
+      reader_count = c.in_ok-rows.ensures.rows.count;
       new_readers = readers_new c.args.config.now.cache c.args.store.now _ c.in_ok-heads.field-0.workers.items _ c.requires.store
-          e.heads c.in_ok-rows.ensures e.workers e.capacity;
+          e.heads c.in_ok-rows.ensures.rows e.workers e.capacity;
       shelves = c.in_ok-shelves.shelves.items;
       has_parts = c.in_ok-make_parts.ensures;
       part_count = made.count_is;
       new_shelves = shelves_new c.args.config.now.cache _ c.in_ok-heads.field-0.workers.items c.in_ok-heads.field-0.lanes.items _ _ _ _ _ _
-          e.rings c.in_ok-rows.ensures made c.key_words-key_words.ensures c.value_words-value_words.ensures;
+          e.rings c.in_ok-rows.ensures.rows made c.key_words-key_words.ensures c.value_words-value_words.ensures;
     }

@@ -1,7 +1,7 @@
 use Rattle.std.proofs.Common.{List, ℕ, length, subst}
 use Rattle.packed_words.specs.Spelling.{long_string}
 use Rattle.bump_cache.proofs.Choices.{chosen_in, in_part}
-use Rattle.cache_handles.specs.Reading.{Gets}
+use Rattle.cache_handles.specs.Reading.{Gets, GetsBy}
 use Rattle.cache_handles.proofs.readers.get_in.Goals as goal
 
 pub returns : goal.returns
@@ -11,6 +11,8 @@ returns g c =
     in_part c.args.seed row c.args.parts.now _ _ _
     (chosen_in c.args.seed row c.spell.new.to c.args.parts.now _ c.get_by.new.reader c.hash-hash.result c.spell.ensures
     c.hash-hash.ensures c.part_in.ensures.part)
-    (Gets row c.args.value_words c.args.now c.get_by.result)
-    (subst (λ (words : List ℕ). Gets words c.args.value_words c.args.now c.get_by.result c.part_in.result.now
-    c.get_by.new.reader) c.spell.ensures c.get_by.ensures)
+    (Gets c.args.seed row c.args.value_words c.args.now c.get_by.result)
+    (subst (λ (words : List ℕ). Gets c.args.seed words c.args.value_words c.args.now c.get_by.result c.part_in.result.now
+    c.get_by.new.reader) c.spell.ensures
+    (subst (λ (hash : ℕ). GetsBy hash c.spell.new.to c.args.value_words c.args.now c.get_by.result c.part_in.result.now
+    c.get_by.new.reader) c.hash-hash.ensures c.get_by.ensures))

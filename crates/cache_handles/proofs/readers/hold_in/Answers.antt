@@ -1,8 +1,7 @@
 use Rattle.std.proofs.Common.{List, ℕ, IfNone, IfSome, length, subst}
 use Rattle.packed_words.specs.Spelling.{long_string}
-use Rattle.cache_readers.specs.Readers.{Misses}
 use Rattle.bump_cache.proofs.Choices.{chosen_in, in_part_none, in_part_some}
-use Rattle.cache_handles.specs.Reading.{HitsHeld}
+use Rattle.cache_handles.specs.Reading.{HitsHeld, MissesBy, MissesItem}
 use Rattle.cache_handles.proofs.readers.hold_in.Goals as goal
 
 pub returns-clause-found : goal.returns-clause-found
@@ -21,6 +20,8 @@ returns-clause-missed g c =
     in_part_none c.args.seed row c.args.parts.now _ _ _
     (chosen_in c.args.seed row c.spell.new.to c.args.parts.now _ c.hold_by.new.reader c.hash-hash.result c.spell.ensures
     c.hash-hash.ensures c.part_in.ensures.part)
-    c.hold_by.result (Misses row c.args.now)
-    (subst (λ (words : List ℕ). IfNone c.hold_by.result (Misses words c.args.now c.part_in.result.now
-    c.hold_by.new.reader)) c.spell.ensures c.hold_by.ensures.missed)
+    c.hold_by.result (MissesItem c.args.seed row c.args.now)
+    (subst (λ (words : List ℕ). IfNone c.hold_by.result (MissesItem c.args.seed words c.args.now c.part_in.result.now
+    c.hold_by.new.reader)) c.spell.ensures
+    (subst (λ (hash : ℕ). IfNone c.hold_by.result (MissesBy hash c.spell.new.to c.args.now c.part_in.result.now
+    c.hold_by.new.reader)) c.hash-hash.ensures c.hold_by.ensures.missed))

@@ -1,6 +1,7 @@
 use Rattle.std.proofs.Common.{rules, refl}
 use Rattle.cache_readers.specs.declared.vain.Vain.TheVariants as vain
 use Rattle.cache_readers.proofs.LookLemmas.{look_takes, looked, vain_of}
+use Rattle.cache_readers.proofs.MissLemmas.{another_held}
 use Rattle.cache_readers.proofs.looking.look_held.Goals as goal
 
 pub returns-in_default-clause-vain : goal.returns-in_default-clause-vain
@@ -32,3 +33,9 @@ returns-clause-finds g c = λ before glances.
     (looked _ _ _ c.args.worker.now _ _ glances
     (record { missing = c.in-Ok.ensures.missing; got = c.in-Ok.ensures.got }) c.in-Ok.ensures.few)
     (c.if-not-has_key.ensures.has refl) (search rules) c.in-Ok.ensures.law
+
+pub returns-then-not-has_key-clause-other : goal.returns-then-not-has_key-clause-other
+returns-then-not-has_key-clause-other g c = λ _.
+    another_held c.args.heads.now _ c.args.id c.args.worker.now _ c.in-Ok.hold c.in-Ok.found
+    (record { missing = c.in-Ok.ensures.missing; got = c.in-Ok.ensures.got }) (search rules)
+    (c.if-not-has_key.ensures.other refl)

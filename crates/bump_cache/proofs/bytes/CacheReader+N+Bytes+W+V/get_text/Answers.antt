@@ -4,7 +4,7 @@ use Rattle.cache_readers.specs.Readers.{CountsHit, Misses}
 use Rattle.packed_words.specs.Strings.{MayHold, string_words}
 use Rattle.bump_cache.specs.Bytes.{IfRoom}
 use Rattle.bump_cache.specs.Pairs.{IsPair}
-use Rattle.bump_cache.specs.Readers.{FindsValue, InPart}
+use Rattle.bump_cache.specs.Readers.{FindsValue, InPart, MissesKey}
 use Rattle.bump_cache.proofs.bytes.CacheReader+N+Bytes+W+V.get_text.Goals as goal
 
 pub returns-clause-found : goal.returns-clause-found
@@ -22,3 +22,8 @@ pub returns-clause-missed : goal.returns-clause-missed
 returns-clause-missed g c = subst (λ key. IfNone c.get_bytes.result (IfRoom g.row.W key (InPart
     (Misses (string_words g.row.W key) c.args.now) (string_words g.row.W key) c.args.self.now
     c.get_bytes.new.self))) c.as_bytes.ensures.value c.get_bytes.ensures.missed
+
+pub returns-clause-absent : goal.returns-clause-absent
+returns-clause-absent g c = subst (λ key. IfNone c.get_bytes.result (IfRoom g.row.W key (InPart
+    (MissesKey c.args.self.now.seed (string_words g.row.W key) c.args.now) (string_words g.row.W key) c.args.self.now
+    c.get_bytes.new.self))) c.as_bytes.ensures.value c.get_bytes.ensures.absent

@@ -10,7 +10,7 @@ loop-index-preserved g c =
     let room : loop.index < length loop.values = omega (arith, within, so_far.length, c.requires.even) in record {
       first = gets_next _ _ _ _ loop.index c.args.self.now loop.self c.get.new.self c.args.keys.now loop.values
           c.index-keys-index.result c.get.result within room (search rules) so_far.first
-          (record { found = did.found; counted = did.counted; missed = did.missed; ring = did.ring });
+          (record { found = did.found; counted = did.counted; missed = did.missed; absent = did.absent; ring = did.ring });
       length = search rules;
       ring = did.ring ∙ so_far.ring;
     }

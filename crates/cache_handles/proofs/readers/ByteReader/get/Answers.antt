@@ -12,6 +12,6 @@ returns g c =
     let long : length c.get_in.new.parts ≡ c.self.inside.parts.len =
     omega (arith, c.get_in.auto.parts, c.deref_mut.ensures.len) in
     tells_got c.args.key.now c.args.now _ _ _ c.get_in.result c.self.view_is c.if-key-self.false
-    (got_spelled c.args.key.now _ _ c.self.inside.value_words c.args.now c.get_in.result _ _ _ _ width
+    (got_spelled c.self.inside.seed c.args.key.now _ _ c.self.inside.value_words c.args.now c.get_in.result _ _ _ _ width
     (ap (readers_by c.self.inside.seed) c.deref_mut.ensures.value)
     (written c.self.inside.seed c.self.inside.parts c.get_in.new.parts long) c.get_in.ensures) refl

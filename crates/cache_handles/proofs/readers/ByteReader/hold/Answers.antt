@@ -30,7 +30,7 @@ returns-in_default-hold_in g c =
     omega (arith, c.hold_in.auto.parts, c.deref_mut.ensures.len) in
     holds_missed c.args.place c.args.key.now c.args.now _ _ _ c.in-Some.free.now c.self.view_is there (search rules)
     c.in-Some.ensures.value c.if-key-self.false
-    (missed_spelled c.args.key.now _ _ c.args.now _ _ _ _ width
+    (missed_spelled c.self.inside.seed c.args.key.now _ _ c.args.now _ _ _ _ width
     (ap (readers_by c.self.inside.seed) c.deref_mut.ensures.value)
     (written c.self.inside.seed c.self.inside.parts c.hold_in.new.parts long) c.in_default-hold_in.ensures.missed) refl
 

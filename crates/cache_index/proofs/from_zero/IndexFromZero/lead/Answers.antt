@@ -8,6 +8,8 @@ use Rattle.cache_index.specs.Views.{led_by}
 use Rattle.cache_index.proofs.LedLemmas.{chunk_of_way, led_anew}
 use Rattle.cache_index.proofs.WriterLemmas.{some_way, none_way, chunk_within, place_like, roomy_set}
 use Rattle.cache_index.proofs.WriterLemmas.{table_lead}
+use Rattle.cache_index.specs.History.{IsReached}
+use Rattle.cache_index.proofs.HistoryLemmas.{led_reached, noted_are}
 use Rattle.cache_index.proofs.from_zero.IndexFromZero.lead.Goals as goal
 
 pub set_life-requires-clause-place : goal.set_life-requires-clause-place
@@ -45,6 +47,7 @@ invariant_of-self c =
           some within anew way_is),
       roomy_set nests (slice_set ways c.args.old no_way) chunk way (roomy_set nests ways c.args.old no_way
           c.self.invariant.2),
+      noted_are _ _ c.set_life.ensures.noted,
     )
 
 pub returns-clause-table : goal.returns-clause-table
@@ -64,3 +67,24 @@ returns-clause-table c =
     ∙ table_lead c.args.self.now nests words ways c.args.old chunk c.args.life.generation (sym c.self.view_is)
     c.self.invariant.1 c.self.invariant.2 some
     (chunk_within c.args.self.now nests words ways chunk (sym c.self.view_is) c.requires.chunk))
+
+pub set_life-requires-clause-reached : goal.set_life-requires-clause-reached
+set_life-requires-clause-reached c =
+    let nests = (arc_value c.self.inside.nests).nests in
+    let words = c.self.inside.pen.words in
+    let ways = c.self.inside.ways.items in
+    let some = some_way c.args.self.now nests words ways c.args.old (sym c.self.view_is) c.requires.old in
+    let way = c.index-way.result.now in
+    let way_is = get_or_read ways c.args.old way (chunk_of_way ways c.args.old some) c.index-way.ensures no_way in
+    let chunk = c.args.life.chunk in
+    let within = chunk_within c.args.self.now nests words ways chunk (sym c.self.view_is) c.requires.chunk in
+    let anew : ((way_to ways chunk).place ≡ 0) ⊎ (chunk ≡ c.args.old) =
+    ⊎_elim (λ none. inl (none_way c.args.self.now nests words ways chunk (sym c.self.view_is) none)) (λ same. inr same)
+    c.requires.anew in
+    let next : List Way = slice_set (slice_set ways c.args.old no_way) chunk way in
+    let nests_is : c.deref.result.now.nests ≡ nests = cc in
+    subst (λ (n : ℕ). IsReached n (slice_set words way.place c.number_of.result) next) (sym nests_is)
+    (subst (λ (k : ℕ). IsReached nests (slice_set words way.place k) next) (sym c.number_of.ensures)
+    (led_reached nests (slice_set words way.place (life_number chunk c.args.life.generation)) next
+    (led_anew nests words ways c.args.old chunk c.args.life.generation way c.self.invariant.1 c.self.invariant.2
+    some within anew way_is)))

@@ -5,6 +5,7 @@ use Rattle.cache_index.specs.declared.led.Way.{Way}
 use Rattle.cache_index.specs.Leads.{no_way, AreLed, IsRoomy}
 use Rattle.cache_index.specs.Places.{nests_for}
 use Rattle.cache_index.specs.Views.{NestsView, led_by}
+use Rattle.cache_index.proofs.HistoryLemmas.{noted_first}
 use Rattle.cache_index.proofs.RoomLemmas.{new_is_led, new_is_roomy}
 use Rattle.cache_index.proofs.WriterLemmas.{none_led}
 use Rattle.cache_index.proofs.from_zero.IndexFromZero.new.Goals as goal
@@ -26,6 +27,7 @@ invariant_of-result c =
       c.in_ok-nests.ensures.table ∙ sym (ap (λ (v : NestsView). v.table) c.in_ok-nests-2.ensures.ok),
       subst P (sym words) (subst Q (sym ways) (new_is_led nests chunks)),
       subst S (sym ways) (subst R (sym count) (new_is_roomy chunks c.requires)),
+      noted_first _ _ chunks c.in_ok-nests.ensures.noted ways,
     )
 
 pub returns-clause-table : goal.returns-clause-table

@@ -1,6 +1,6 @@
 use Rattle.std.proofs.Common.{refl, sym, ap, ◌∙◌, arith}
 use Rattle.std.specs.Arc.{arc_value}
-use Rattle.cache_index.specs.Pens.{PenView}
+use Rattle.seen_words.specs.Past.{PenView}
 use Rattle.cache_index.specs.Views.{NestsView, index_view}
 use Rattle.cache_index.proofs.AnswerLemmas.{found_from, life_found, answer_anew, answer_led, answer_answered, end_all}
 use Rattle.cache_index.proofs.from_zero.IndexFromZero.next_of.Goals as goal
