@@ -72,21 +72,48 @@ fn front_if_list(links: &Links, list: u32) -> Option<u32> {
     }
 }
 
+// Which nodes have company in their lists.
+fn expect_company(rt: &impl Abort, links: &Links) {
+    let company = [(0, Some(true)), (1, Some(false)), (3, None)];
+    for (node, wanted) in company.iter() {
+        let told = has_company(links, *node);
+        expect(rt, "the company of node", *node, &told, wanted);
+    }
+}
+
+// The front of a list, and of one that isn't there.
+fn expect_fronts(rt: &impl Abort, links: &Links) {
+    for (list, wanted) in [(1, Some(1)), (2, None)].iter() {
+        let told = front_if_list(links, *list);
+        expect(rt, "the front of list", *list, &told, wanted);
+    }
+}
+
 #[test]
 fn counts_are_told(rt: HostRuntime) -> Result<(), Fail> {
     let mut links = Links::new(rt.alloc(), 3, 2, 0)?;
     links.move_front(1, 1);
     expect(&rt, "how many nodes", 3, &links.nodes(), &3);
     expect(&rt, "how many lists", 2, &links.lists(), &2);
-    let company = [(0, Some(true)), (1, Some(false)), (3, None)];
-    for (node, wanted) in company.iter() {
-        let told = has_company(&links, *node);
-        expect(&rt, "the company of node", *node, &told, wanted);
-    }
-    for (list, wanted) in [(1, Some(1)), (2, None)].iter() {
-        let told = front_if_list(&links, *list);
-        expect(&rt, "the front of list", *list, &told, wanted);
-    }
+    expect_company(&rt, &links);
+    expect_fronts(&rt, &links);
+    Ok(())
+}
+
+// Three nodes are told where they are, and moved.
+fn move_three(rt: &impl Abort, alloc: Global, links: &mut Links) -> Result<(), Fail>
+    requires nodes { links.old.nodes ≡ 3 }
+    requires lists { length links.old.lists ≡ 2 }
+{
+    expect_list(rt, alloc, links, 0, &[0, 1, 2])?;
+
+    links.move_front(1, 1);
+    expect_list(rt, alloc, links, 0, &[0, 2])?;
+    expect_list(rt, alloc, links, 1, &[1])?;
+
+    links.move_front(2, 0);
+    expect_list(rt, alloc, links, 0, &[2, 0])?;
+    expect_node(rt, links, 0, 0, None);
     Ok(())
 }
 
@@ -94,15 +121,36 @@ fn counts_are_told(rt: HostRuntime) -> Result<(), Fail> {
 fn three_nodes_in_two_lists(rt: HostRuntime) -> Result<(), Fail> {
     let alloc = rt.alloc();
     let mut links = Links::new(alloc, 3, 2, 0)?;
-    expect_list(&rt, alloc, &links, 0, &[0, 1, 2])?;
+    move_three(&rt, alloc, &mut links)
+}
 
-    links.move_front(1, 1);
-    expect_list(&rt, alloc, &links, 0, &[0, 2])?;
-    expect_list(&rt, alloc, &links, 1, &[1])?;
+// Walks of the last one of eight lists, and of the first.
+fn expect_last_and_first(
+    rt: &impl Abort,
+    alloc: Global,
+    links: &Links,
+    last: &[u32],
+    first: &[u32],
+) -> Result<(), Fail>
+    requires { length links.now.lists ≡ 8 }
+{
+    expect_list(rt, alloc, links, 7, last)?;
+    expect_list(rt, alloc, links, 0, first)
+}
 
-    links.move_front(2, 0);
-    expect_list(&rt, alloc, &links, 0, &[2, 0])?;
-    expect_node(&rt, &links, 0, 0, None);
+// The only node goes to the front of its own list, and then to another list.
+fn move_one(rt: &impl Abort, alloc: Global, links: &mut Links) -> Result<(), Fail>
+    requires nodes { links.old.nodes ≡ 1 }
+    requires lists { length links.old.lists ≡ 8 }
+{
+    expect_last_and_first(rt, alloc, links, &[0], &[])?;
+
+    links.move_front(0, 7);
+    expect_last_and_first(rt, alloc, links, &[0], &[])?;
+
+    links.move_front(0, 0);
+    expect_last_and_first(rt, alloc, links, &[], &[0])?;
+    expect_node(rt, links, 0, 0, None);
     Ok(())
 }
 
@@ -110,18 +158,7 @@ fn three_nodes_in_two_lists(rt: HostRuntime) -> Result<(), Fail> {
 fn one_node_in_eight_lists(rt: HostRuntime) -> Result<(), Fail> {
     let alloc = rt.alloc();
     let mut links = Links::new(alloc, 1, 8, 7)?;
-    expect_list(&rt, alloc, &links, 7, &[0])?;
-    expect_list(&rt, alloc, &links, 0, &[])?;
-
-    links.move_front(0, 7);
-    expect_list(&rt, alloc, &links, 7, &[0])?;
-    expect_list(&rt, alloc, &links, 0, &[])?;
-
-    links.move_front(0, 0);
-    expect_list(&rt, alloc, &links, 7, &[])?;
-    expect_list(&rt, alloc, &links, 0, &[0])?;
-    expect_node(&rt, &links, 0, 0, None);
-    Ok(())
+    move_one(&rt, alloc, &mut links)
 }
 
 // Moves a node to the front of a list of plain lists.
@@ -170,11 +207,9 @@ fn expect_plain(
     Ok(())
 }
 
-#[test]
-fn many_moves_beside_plain_lists(rt: HostRuntime) -> Result<(), Fail> {
-    let alloc = rt.alloc();
-    let mut links = Links::new(alloc, 5, 8, 3)?;
-    let mut plain: Vec<Vec<u32>> = Vec::new(alloc);
+// Eight plain lists, of which the fourth has all nodes.
+fn new_plain(alloc: Global) -> Result<Vec<Vec<u32>>, Fail> {
+    let mut plain = Vec::new(alloc);
     for list in 0..8 {
         let nodes = if list == 3 {
             vec![in alloc; 0, 1, 2, 3, 4]?
@@ -183,18 +218,38 @@ fn many_moves_beside_plain_lists(rt: HostRuntime) -> Result<(), Fail> {
         };
         plain.push(nodes)?;
     }
-    expect_plain(&rt, alloc, &links, &plain)?;
+    Ok(plain)
+}
 
+// Moves nodes that are drawn to lists that are drawn, in both.
+fn move_both(
+    rt: &impl Abort,
+    alloc: Global,
+    links: &mut Links,
+    plain: &mut Vec<Vec<u32>>,
+) -> Result<(), Fail>
+    requires nodes { links.old.nodes ≡ 5 }
+    requires lists { length links.old.lists ≡ 8 }
+{
     let mut draw: u32 = 12345;
     for _move in 0..400 {
         draw = draw.wrapping_mul(1_664_525).wrapping_add(1_013_904_223);
         let node = (draw >> 16) % 5;
         let list = (draw >> 24) % 8;
         links.move_front(node, list);
-        move_plain(alloc, &mut plain, node, list)?;
-        expect_plain(&rt, alloc, &links, &plain)?;
+        move_plain(alloc, plain, node, list)?;
+        expect_plain(rt, alloc, links, plain)?;
     }
     Ok(())
+}
+
+#[test]
+fn many_moves_beside_plain_lists(rt: HostRuntime) -> Result<(), Fail> {
+    let alloc = rt.alloc();
+    let mut links = Links::new(alloc, 5, 8, 3)?;
+    let mut plain = new_plain(alloc)?;
+    expect_plain(&rt, alloc, &links, &plain)?;
+    move_both(&rt, alloc, &mut links, &mut plain)
 }
 
 // Says which call was refused. `checks/refused_allocations` looks for these words, and counts them by call.
