@@ -3,6 +3,8 @@
 //! first.
 #![tactic(auto)]
 
+ghost use Rattle.std.specs.Prelude.{◌≡◌};
+
 pub mod lru;
 
 use anyhow::Result;
@@ -14,19 +16,26 @@ fn print_in_use(rt: &(impl Print + AllocGlobal), lru: &Lru) -> Result<()> {
     Ok(())
 }
 
-fn run(rt: &(impl Print + AllocGlobal)) -> Result<()> {
-    let mut lru = Lru::new(rt.alloc(), 3)?;
+// Takes all three slots, touches one, and takes one more.
+fn play(rt: &(impl Print + AllocGlobal), lru: &mut Lru) -> Result<()>
+    requires { lru.old.count ≡ 3 }
+{
     for _ in 0..3 {
         let taken = lru.insert();
         println!(rt; "insert: {taken:?}")?;
     }
-    print_in_use(rt, &lru)?;
+    print_in_use(rt, lru)?;
     lru.touch(0);
     println!(rt; "touch 0")?;
-    print_in_use(rt, &lru)?;
+    print_in_use(rt, lru)?;
     let taken = lru.insert();
     println!(rt; "insert: {taken:?}")?;
-    print_in_use(rt, &lru)
+    print_in_use(rt, lru)
+}
+
+fn run(rt: &(impl Print + AllocGlobal)) -> Result<()> {
+    let mut lru = Lru::new(rt.alloc(), 3)?;
+    play(rt, &mut lru)
 }
 
 fn main(rt: HostRuntime) -> Result<()> {
