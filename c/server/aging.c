@@ -15,6 +15,8 @@ enum {
   EVICTED_WITH_LOCK = 10,
   EVICTED_AT_ONCE = 40,
   OWED_MOST = 16,
+  SPARED_PART = 200, /* of the memory */
+  SPARED_AT_ONCE = 2000,
   FEW = 8, /* items of a class, if they take less than a FEW_PART-th of the memory */
   FEW_PART = 16
 };
@@ -168,10 +170,18 @@ bool shelf_evict(struct shelf *shelf, struct counters *counters, uint32_t now) {
   return true;
 }
 
+static uint64_t part_of_memory(uint64_t part) {
+  return atomic_load_explicit(&settings.memory, memory_order_relaxed) / part;
+}
+
+/* Whether less of the memory is free than that. */
+static bool lacks(uint64_t bytes) {
+  return memory_used() + settings.bytes_before + bytes > part_of_memory(1);
+}
+
 /* Whether more is taken than the memory, and that part of it where it isn't 0. */
 static bool is_over(uint64_t part) {
-  uint64_t memory = atomic_load_explicit(&settings.memory, memory_order_relaxed);
-  return memory_used() + settings.bytes_before > memory + (part != 0 ? memory / part : 0);
+  return memory_used() + settings.bytes_before > part_of_memory(1) + (part != 0 ? part_of_memory(part) : 0);
 }
 
 bool room_is_owed(void) { return settings.evicts && is_over(0); }
@@ -224,6 +234,27 @@ bool room_make(struct counters *counters, struct shelf *shelf, uint32_t now) {
   return true;
 }
 
+/* Evicts some of a shelf's items, whether room is owed or not. false: there are no more. */
+static bool evict_some(struct shelf *shelf, struct counters *counters, uint32_t now) {
+  bool has_more = true;
+  shelf_lock(shelf);
+  shelf_reap(shelf);
+  for (int i = 0; i < EVICTED_WITH_LOCK && has_more; i++) has_more = shelf_evict(shelf, counters, now);
+  shelf_unlock(shelf);
+  shelf_make_way(shelf);
+  return has_more;
+}
+
+/* Whoever evicts just what he needs leaves a hole that the next small items fill: so no page comes free for other sizes
+ * or for chunks. What goes together often lies together. */
+void room_spare(struct counters *counters, uint32_t now) {
+  struct shelf *shelf = atomic_load(&heaviest);
+  uint64_t spared = part_of_memory(SPARED_PART);
+  if (!settings.evicts || !memory_is_exceeded() || !lacks(spared) || shelf == NULL || !shelf_is_open(shelf)) return;
+  for (int evicted = 0; evicted < SPARED_AT_ONCE && lacks(2 * spared); evicted += EVICTED_WITH_LOCK)
+    if (!evict_some(shelf, counters, now)) return;
+}
+
 static void note_age(struct shelf *shelf, uint32_t now) {
   bump_seen last = bump_look(&shelf->book, BUMP_PLACE_COLD, BUMP_NONE);
   if (last.answer != BUMP_SEE_SEEN) last = bump_look(&shelf->book, BUMP_PLACE_HOT, BUMP_NONE);
@@ -272,6 +303,10 @@ static bump_ran_told apply_some(struct shelf *shelf, struct shelf_lane *lane, ui
   return ran;
 }
 
+static void tell_applied(struct shelf_lane *lane) {
+  atomic_store_explicit(&lane->applied, lane->before + bump_rest(&lane->lane).applied, memory_order_relaxed);
+}
+
 uint32_t shelf_drain(struct shelf *shelf, uint32_t now) {
   uint32_t applied = 0;
   for (uint32_t thread = 0; thread < (uint32_t)settings.threads; thread++) {
@@ -285,7 +320,7 @@ uint32_t shelf_drain(struct shelf *shelf, uint32_t now) {
       applied += ran.applied;
       if (ran.applied == 0) break;
     }
-    if (applied != before) atomic_store_explicit(&lane->applied, bump_rest(&lane->lane).applied, memory_order_relaxed);
+    if (applied != before) tell_applied(lane);
   }
   return applied;
 }

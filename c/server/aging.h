@@ -15,6 +15,10 @@ bool room_make(struct counters *counters, struct shelf *shelf, uint32_t now);
 /* Whether more is charged than fits, and items can be evicted. */
 bool room_is_owed(void);
 
+/* Where the process has more than -m, keeps a little room free ahead of those who store, by evicting many items of one
+ * shelf at a time. Takes the shelf's lock. The maintainer's. */
+void room_spare(struct counters *counters, uint32_t now);
+
 /* Ends one item, so that memory and a chunk come free: the last of COLD that nobody holds. Under the shelf's lock.
  * false: there is none. */
 bool shelf_evict(struct shelf *shelf, struct counters *counters, uint32_t now);

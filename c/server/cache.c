@@ -154,10 +154,7 @@ static bool has_room(struct thread *thread, const struct item *item) {
 }
 
 /* An open shelf, for an item that may be linked next. */
-static bool has_shelf(const struct item *item) {
-  struct shelf *shelf = shelf_at(item->shelf);
-  return shelf_open(shelf) || lacks_memory(shelf);
-}
+static bool has_shelf(struct item *item) { return shelf_choose(item) || lacks_memory(shelf_at(item->shelf)); }
 
 struct item *cache_new_item(struct thread *thread, const struct key *key, uint32_t flags, uint32_t expires,
                             size_t bytes) {

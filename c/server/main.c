@@ -81,7 +81,7 @@ static void prepare(sigset_t *before) {
 
 /* Settles each worker, says what was left, and answers the program's status. */
 static int settle(uint64_t connections) {
-  struct shelf_rest all = { 0 };
+  struct shelf_rest all = shelves_rest();
   uint32_t open = 0;
   for (uint32_t number = 0; number < shelf_count(); number++) {
     if (!shelf_is_open(shelf_at(number))) continue;

@@ -67,9 +67,11 @@ static uint32_t attend_shelf(struct thread *thread, struct shelf *shelf, uint32_
 }
 
 /* One round. How much there was to do. */
-static uint32_t attend(struct thread *thread, uint32_t now, bool crawls_now) {
+static uint32_t attend(struct thread *thread, uint32_t now, bool is_another_tick) {
+  const bool crawls_now = is_another_tick && atomic_load(&settings.crawls);
   uint32_t did = memory_look() ? MUCH : 0;
-  shelves_open_ahead();
+  shelves_tend(is_another_tick);
+  room_spare(&thread->counters, now);
   for (int times = 0; times < PAYS_AT_ONCE && room_is_owed(); times++) {
     if (!room_make(&thread->counters, shelf_at(0), now)) break;
     did += MUCH;
@@ -84,12 +86,12 @@ static uint32_t attend(struct thread *thread, uint32_t now, bool crawls_now) {
 void *maintainer_run(void *given) {
   struct thread *thread = given;
   long pause = PAUSE_LEAST;
-  uint32_t crawled = 0;
+  uint32_t looked = 0;
   while (!atomic_load(&is_ending)) {
     rest(thread, pause);
     uint32_t now = clock_now();
-    uint32_t did = attend(thread, now, atomic_load(&settings.crawls) && now != crawled);
-    crawled = now;
+    uint32_t did = attend(thread, now, now != looked);
+    looked = now;
     atomic_fetch_add(&juggles, 1);
     if (did >= MUCH) pause = PAUSE_LEAST;
     else if (did > 0 && pause > PAUSE_FEW) pause = PAUSE_FEW;

@@ -186,6 +186,8 @@ bool memory_look(void) {
   return giving == GIVING_NOW;
 }
 
+bool memory_is_exceeded(void) { return atomic_load_explicit(&exceeded, memory_order_relaxed) > 0; }
+
 uint64_t memory_used(void) {
   uint64_t all = atomic_load_explicit(&settings.memory, memory_order_relaxed);
   uint64_t others = memory_of(MEMORY_shelves) + memory_of(MEMORY_table) +

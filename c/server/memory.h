@@ -34,6 +34,9 @@ size_t memory_of_block(void *block);
 bool memory_look(void);
 uint64_t memory_resident(void);
 
+/* Whether it has so much beyond -m that this counts. */
+bool memory_is_exceeded(void);
+
 /* All that counts against -m: items; what else is taken, up to half of -m, and of that what connections take up to a
  * quarter; and what the process has beyond -m, up to a quarter, or half where nothing else helps. All but items counts
  * up to three quarters: so there is always room for items. */

@@ -538,6 +538,7 @@ void *network_serve(void *given) {
   while (!atomic_load(&is_ending)) {
     bool is_woken = false, are_due = false; /* those that watch, and those that are parked */
     int events = call_wait(thread->events, event, EVENTS_MOST, patience(thread, are_idle));
+    thread_turns(thread);
     thread->now = clock_now();
     bool is_another_tick = thread->now != looked;
     are_due = is_another_tick; /* since they don't wait for ever */
@@ -551,7 +552,9 @@ void *network_serve(void *given) {
     if (thread->parked != NULL && (are_due || items_may_grow())) attend_each(&thread->parked);
     if (is_another_tick && values_wait(thread->now)) end_stalled(thread);
     if (settings.idle_most > 0 && (are_idle || is_another_tick)) are_idle = end_idle(thread, thread->now);
+    thread_turns(thread);
   }
+  thread_turns(thread);
   farewell(thread);
   return NULL;
 }

@@ -1,12 +1,13 @@
 /* Shelves: where items stand in bump. A shelf is a store of bump's with one class of chunks, with a mutex for its book,
  * a worker for each thread that serves, and the lanes, which the maintainer has. A class of sizes begins with a small
- * shelf, and gets further ones, larger and larger, as its items come; among those that are open a key's hash chooses.
+ * shelf, and gets further ones, larger and larger, as its items come; among these a key's hash chooses. Where its items
+ * went, its last shelf gets no further ones, and is closed once it is empty.
  *
  * An item's label in bump is the address of its row. So whatever call tells that a chunk came free, tells which memory
  * goes back. A row may be read under its shelf's lock while its chunk is linked, under its stripe's lock while it is
  * named, and by whoever holds it.
  *
- * Locks are taken in this order: a shelf's, then a stripe's. Never two of a kind. */
+ * Locks are taken in this order: that of a class's number of shelves, a shelf's, a stripe's. Never two of a kind. */
 #ifndef SHELF_H
 #define SHELF_H
 
@@ -55,6 +56,7 @@ struct shelf_reader {
   alignas(64) bump_worker worker;
   _Atomic uint64_t of[SHELF_EVENT_COUNT];
   _Atomic uint64_t attempted, accepted, full, busy, refs;
+  bump_counts before; /* of those, what workers counted until the shelf was closed last */
   struct kept *kept;   /* NULL: it never kept any */
   uint32_t kept_until; /* from here on none was ever kept */
 };
@@ -62,11 +64,14 @@ struct shelf_reader {
 struct shelf_lane {
   bump_lane lane;
   _Atomic uint64_t applied; /* bump's own count, told again by the maintainer */
+  uint64_t before, moves;   /* bumps that were applied, and items brought to WARM, until the shelf was closed last */
 };
 
 struct shelf {
-  alignas(64) _Atomic bool is_open; /* set once, when all below is there */
-  _Atomic bool is_nearly_full;      /* or was once */
+  alignas(64) _Atomic bool is_open; /* set when all below is there */
+  _Atomic bool was_open;            /* ever: then it has counts */
+  _Atomic bool is_nearly_full;      /* or was, within the last second */
+  bool is_leaving;                  /* it isn't open any more, and isn't closed yet */
   uint32_t number;
   uint32_t class;
   uint32_t chunks;
@@ -89,6 +94,7 @@ struct shelf {
 
 /* All shelves, by the settings and the classes; none is open. false: no memory. */
 bool shelves_make(void);
+void shelves_free(void);
 uint32_t shelf_count(void);
 
 /* The number of a class's first shelf. Behind its last one comes the next class's first. And the number behind those of
@@ -104,20 +110,27 @@ static inline struct shelf *shelf_at(uint32_t number) {
 /* What the items of a class are charged. */
 uint64_t shelf_class_charged(uint32_t class);
 
-/* Where a key's item of a class is to stand: one that is open, or the first one. */
+/* Where a key's item of a class is to stand: one that gets new items, or the first one. */
 uint16_t shelf_number(uint32_t class, uint32_t hash);
 
-/* Opens a shelf, unless it is open: the first of its class, or the one behind those that are open. false: no memory. */
-bool shelf_open(struct shelf *shelf);
+/* Lets a shelf get new items, and opens it for that: the first of its class, or the one behind those that are open.
+ * false: no memory. */
+bool shelf_feed(struct shelf *shelf);
 
-/* Opens the next shelf of each class whose last one is nearly full. The maintainer's. */
-void shelves_open_ahead(void);
+/* Has an item's shelf open, where it is to be linked. Its own may have been closed since it was chosen, if its value
+ * came in parts: then it gets another one. false: no memory. */
+bool shelf_choose(struct item *item);
+
+/* Opens the next shelf of each class whose last one is nearly full; and closes shelves that aren't needed any more: it
+ * looks for them once a second. What a thread does within one of its turns goes on meanwhile. The maintainer's. */
+void shelves_tend(bool is_another_tick);
 
 /* Locks the shelf where an item is to be linked: its own where that has a free chunk, or else another one of its class
  * which has one, and which is its own from then on. Where none has one, its own is locked, for one to be evicted. */
 struct shelf *shelf_lock_for(struct item *item);
 
 static inline bool shelf_is_open(const struct shelf *shelf) { return atomic_load(&shelf->is_open); }
+static inline bool shelf_was_open(const struct shelf *shelf) { return atomic_load(&shelf->was_open); }
 
 /* Counts an event for a thread. By this thread. */
 static inline void reader_count_event(struct shelf_reader *reader, enum shelf_event event) {
@@ -142,11 +155,20 @@ static inline void shelf_unlock(struct shelf *shelf) { pthread_mutex_unlock(&she
 /* Rests while others wait for the lock: for who takes it again and again, since a mutex is nobody's in turn. */
 void shelf_make_way(const struct shelf *shelf);
 
-/* How often it was counted, by all threads; and how many items bumps brought to WARM, with the shelf's lock. */
+/* How often it was counted, by all threads. */
 uint64_t shelf_counted(const struct shelf *shelf, enum shelf_event event);
-uint64_t shelf_moves(struct shelf *shelf);
 
 /* The calls below are made under the shelf's lock. */
+
+/* Whether its book is there. */
+static inline bool shelf_has_book(const struct shelf *shelf) { return shelf_is_open(shelf) || shelf->is_leaving; }
+
+/* How many items a thread's bumps, and all threads', ever brought to WARM. */
+uint64_t shelf_moves_of(struct shelf *shelf, uint32_t thread);
+uint64_t shelf_moves(struct shelf *shelf);
+
+/* The class may need its next shelf soon: it is looked whether it does. */
+void shelf_note_full(struct shelf *shelf);
 
 /* The item in a chunk that is linked or dying. */
 struct item *shelf_item(struct shelf *shelf, uint32_t chunk);
@@ -182,9 +204,19 @@ struct shelf_rest {
   uint64_t charged;   /* bytes of the items that weren't freed one by one */
 };
 
+/* About how much memory a shelf's store takes. */
+uint64_t shelf_bytes(const struct shelf *shelf);
+
+/* Makes the store of a shelf that isn't open, and its parts. false: no memory. And gives it back, once no thread uses
+ * it, and it is empty. */
+bool shelf_make(struct shelf *shelf);
+struct shelf_rest shelf_unmake(struct shelf *shelf);
+
+/* What was left of all that were closed until now, at the process's end. */
+struct shelf_rest shelves_rest(void);
+
 /* Ends an open shelf, once no thread uses it: closes each worker, applies its bumps, and gives back what was held.
  * Where the settings say so it frees each item and the store, too; else the process's end does, at once. */
 struct shelf_rest shelf_close(struct shelf *shelf);
-void shelves_free(void);
 
 #endif

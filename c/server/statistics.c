@@ -59,7 +59,7 @@ static void reset(void) {
     if (which != COUNT_total_items) atomic_store(&forgotten[which], counted_ever(which));
   for (uint32_t number = 0; number < shelf_count(); number++) {
     struct shelf *shelf = shelf_at(number);
-    if (!shelf_is_open(shelf)) continue;
+    if (!shelf_was_open(shelf)) continue;
     shelf_lock(shelf);
     shelf->counts = (struct shelf_counts){ 0 };
     for (enum shelf_event event = 0; event < SHELF_EVENT_COUNT; event++)
@@ -101,7 +101,7 @@ static struct general_measure measure_all(void) {
   struct general_measure all = { 0 };
   for (uint32_t number = 0; number < shelf_count(); number++) {
     struct shelf *shelf = shelf_at(number);
-    if (!shelf_is_open(shelf)) continue;
+    if (!shelf_was_open(shelf)) continue;
     shelf_lock(shelf);
     all.requested += shelf->requested;
     add_counts(&all.counts, &shelf->counts);
@@ -294,12 +294,16 @@ static void add_ages(struct class_measure *to, struct shelf *shelf, uint32_t now
   }
 }
 
-static void add_shelf(struct class_measure *to, struct shelf *shelf) {
-  to->is_open = true;
-  shelf_lock(shelf);
+static void add_lists(struct class_measure *to, struct shelf *shelf) {
   for (uint32_t place = 0; place <= BUMP_PLACE_RETIRED; place++) to->size[place] += bump_size(&shelf->book, place);
   add_ages(to, shelf, clock_now());
   to->chunks += shelf->chunks;
+}
+
+static void add_shelf(struct class_measure *to, struct shelf *shelf) {
+  to->is_open = true;
+  shelf_lock(shelf);
+  if (shelf_has_book(shelf)) add_lists(to, shelf);
   to->requested += shelf->requested;
   add_counts(&to->counts, &shelf->counts);
   to->counts.moves_to_warm += shelf_moves(shelf) - shelf->forgotten_moves;
@@ -312,7 +316,7 @@ static void add_shelf(struct class_measure *to, struct shelf *shelf) {
 static struct class_measure measure(uint32_t class) {
   struct class_measure all = { 0 };
   for (uint32_t number = shelf_first(class); number < shelf_first(class + 1); number++)
-    if (shelf_is_open(shelf_at(number))) add_shelf(&all, shelf_at(number));
+    if (shelf_was_open(shelf_at(number))) add_shelf(&all, shelf_at(number));
   return all;
 }
 
@@ -425,14 +429,14 @@ static void add_bumps(struct bump_measure *to, struct shelf *shelf, uint32_t thr
   to->refs += read_count(&reader->refs);
   to->applied += read_count(&shelf->lane[thread].applied);
   shelf_lock(shelf);
-  to->moves += bump_moves(&shelf->book, thread);
+  to->moves += shelf_moves_of(shelf, thread);
   shelf_unlock(shelf);
 }
 
 static void tell_bumps_of_thread(struct connection *connection, uint32_t class, uint32_t thread) {
   struct bump_measure all = { 0 };
   for (uint32_t number = shelf_first(class); number < shelf_first(class + 1); number++)
-    if (shelf_is_open(shelf_at(number))) add_bumps(&all, shelf_at(number), thread);
+    if (shelf_was_open(shelf_at(number))) add_bumps(&all, shelf_at(number), thread);
   const struct {
     const char *name;
     uint64_t number;

@@ -26,6 +26,7 @@ struct thread {
   struct connection *parked;      /* those whose values wait for others to end, in another ring */
   int file;                       /* of the connection that it serves now */
   uint32_t now;                   /* the tick at which it began to serve those that have something to do */
+  _Atomic uint64_t turns;         /* how often it began and ended to serve them: odd while it does */
   char *spare_block[SPARE_BLOCKS_MOST]; /* of buffers: buffer.h */
   int spare_blocks;
   struct counters counters;
@@ -35,6 +36,11 @@ struct thread {
 extern struct thread threads[THREADS_MOST + 2];
 #define MAINTAINER (&threads[THREADS_MOST])
 #define FIRST_THREAD (&threads[THREADS_MOST + 1])
+
+/* By the thread itself. So another one knows by two looks that it has ended the call in which it was at the first. */
+static inline void thread_turns(struct thread *thread) {
+  atomic_store(&thread->turns, atomic_load_explicit(&thread->turns, memory_order_relaxed) + 1);
+}
 
 /* Set when the server is to end. */
 extern _Atomic bool is_ending;

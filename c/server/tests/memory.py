@@ -5,6 +5,7 @@ import random
 import re
 import resource
 import socket
+import threading
 import time
 from pathlib import Path
 
@@ -13,9 +14,9 @@ from client import Client, value_for
 from started import Server
 
 MEGABYTE = 1 << 20
-# What the process may have: so much more than -m, and so much for each connection that is busy. With most loads it has a tenth more; where values
-# of 20 bytes come in place of larger ones, among which they lie, a sixth. Where the maintainer waits for a processor there is more for a moment.
-FACTOR, BUSY = 1.25, 64 << 10
+# What the process may have: so much more than -m, and so much for each connection that is busy. Where the maintainer waits for a processor there is
+# more for a moment.
+FACTOR, BUSY = 1.15, 64 << 10
 IDLE = 10_000
 
 
@@ -60,6 +61,7 @@ def ask_three_sizes(client, keys, rounds):
 class Memory:
     def check_memory(self):
         self.check_mixes()
+        self.check_sizes_in_turn()
         self.check_three_sizes()
         self.check_deaf()
         self.check_deaf_and_many()
@@ -90,6 +92,53 @@ class Memory:
             stats = client.stats()
             tell("items were evicted for it", "" if int(stats["evictions"]) > 0 and int(stats["curr_items"]) > 0 else f"{stats['curr_items']} items")
             tell("then it ends with nothing left", server.end())
+
+    def check_sizes_in_turn(self):
+        """Where other sizes come, not only items give their memory to them, but the chunks, too; and each size comes to have as many items again."""
+        with Server(self.program, "-m", 64, environment={"BUMP_SERVER_DEBUGTIME": "1"}) as server:
+            client, wrong = Client(server.port), []
+            for number, (size, most, least) in enumerate(((20, 26, 280_000), (1000, 7, 42_000), (20, 26, 240_000), (1000, 7, 42_000))):
+                client.ask(b"debugtime 1000\r\n")  # so what was there is old
+                store(client, b"t%d_" % number, [size], 80 * MEGABYTE)
+                self.wait_for(lambda: int(client.stats("bump")["bytes_of_shelves"]) <= most * MEGABYTE)
+                store(client, b"u%d_" % number, [size], 40 * MEGABYTE)
+                items, chunks = int(client.stats()["curr_items"]), int(client.stats("bump")["bytes_of_shelves"])
+                there = client.get(b"u%d_0" % number)
+                if items < least or chunks > most * MEGABYTE or there not in (None, bytes(size)):
+                    wrong.append(f"{items} of {size} bytes, {chunks} bytes of chunks, {there}")
+                self.tell_resident(f"-m 64, {items} values of {size} bytes", server, most_for(64))
+            tell("sizes that come in turn have the chunks of those that went", "; ".join(wrong))
+            tell("then it ends with nothing left", server.end())
+        with Server(self.program, "-m", 16, environment={"BUMP_SERVER_DEBUGTIME": "1"}) as server:
+            tell("the same by four clients, which read meanwhile: values are right", "; ".join(self.change_sizes(server)[:3]))
+            tell("then it ends with nothing left", server.end())
+
+    def change_sizes(self, server):
+        """Four clients store values of one size, and then of another, and read them: shelves are opened and closed beneath them. What was wrong."""
+        wrong, client, before = [], Client(server.port), 0
+        for number, size in enumerate((20, 1000, 20, 1000)):
+            client.ask(b"debugtime 1000\r\n")
+            storing = [threading.Thread(target=self.store_and_read, args=(server, number * 4 + i, size, 60_000 if size == 20 else 8_000, wrong)) for i in range(4)]
+            for one in storing:
+                one.start()
+            for one in storing:
+                one.join()
+            if size == 20:
+                before = int(client.stats("bump")["bytes_of_shelves"])
+            elif not self.wait_for(lambda before=before: int(client.stats("bump")["bytes_of_shelves"]) < before // 2):
+                wrong.append(f"chunks take {client.stats('bump')['bytes_of_shelves']} bytes, and took {before}")
+        return wrong
+
+    @staticmethod
+    def store_and_read(server, number, size, count, wrong):
+        client = Client(server.port, 300)
+        for begin in range(0, count, 100):
+            keys = [b"w%d_%d" % (number, i) for i in range(begin, begin + 100)]
+            client.ask(b"".join(b"set %s 0 0 %d noreply\r\n%s\r\n" % (key, len(key) + size, key + bytes(size)) for key in keys))
+            for key in keys[::10]:
+                value = client.get(key)
+                if value not in (None, key + bytes(size)):
+                    wrong.append(f"{key} is {value}")
 
     def check_three_sizes(self):
         """Keys of three sizes that are asked for as often: large values don't take the room of all small ones."""
