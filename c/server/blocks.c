@@ -1,13 +1,16 @@
 #define _GNU_SOURCE
 #include "blocks.h"
 #include <malloc.h>
+#include <pthread.h>
 #include <stdalign.h>
+#include <stdatomic.h>
 #include <stdbool.h>
 #include <stdlib.h>
 #include <string.h>
 #include <sys/mman.h>
 #include <unistd.h>
 #include "memory.h"
+#include "settings.h"
 
 /* Before each block. */
 struct head {
@@ -30,6 +33,73 @@ static size_t whole_pages(size_t bytes) {
   return (bytes + page - 1) / page * page;
 }
 
+/* A mapping that came free, where the next one of as many pages finds it. */
+struct spare {
+  struct spare *next;
+};
+
+/* So much of -m is kept so. */
+enum { MAPPED_LEAST = 1 << 14, SPARE_PAGES_MOST = 32, SPARE_PART = 64 };
+
+static struct {
+  pthread_mutex_t lock;
+  struct spare *of[SPARE_PAGES_MOST + 1]; /* by their pages */
+  size_t bytes;                           /* of all */
+  size_t next;                            /* those that are looked at next, where all kept ones have other sizes */
+} spares = { .lock = PTHREAD_MUTEX_INITIALIZER };
+
+static size_t pages_of(size_t bytes) { return bytes / (size_t)sysconf(_SC_PAGESIZE); }
+
+/* Under the lock. */
+static void *take_spare(size_t pages, size_t bytes) {
+  struct spare *spare = spares.of[pages];
+  if (spare == NULL) return NULL;
+  spares.of[pages] = spare->next;
+  spares.bytes -= bytes;
+  return spare;
+}
+
+/* One of so many bytes; or else one of another size is given up, as these seem to be asked for no more. */
+static void *spare_of(size_t bytes) {
+  if (pages_of(bytes) > SPARE_PAGES_MOST) return NULL;
+  void *given_up = NULL;
+  size_t pages = 0;
+  pthread_mutex_lock(&spares.lock);
+  void *found = take_spare(pages_of(bytes), bytes);
+  for (size_t i = 0; found == NULL && given_up == NULL && spares.bytes > 0 && i <= SPARE_PAGES_MOST; i++) {
+    pages = spares.next;
+    spares.next = (spares.next + 1) % (SPARE_PAGES_MOST + 1);
+    given_up = take_spare(pages, pages * (size_t)sysconf(_SC_PAGESIZE));
+  }
+  pthread_mutex_unlock(&spares.lock);
+  if (given_up != NULL) munmap(given_up, pages * (size_t)sysconf(_SC_PAGESIZE));
+  return found;
+}
+
+/* Whether it is kept. */
+static bool spare(void *at, size_t bytes) {
+  size_t pages = pages_of(bytes);
+  struct spare *one = at;
+  if (pages > SPARE_PAGES_MOST) return false;
+  pthread_mutex_lock(&spares.lock);
+  bool keeps = spares.bytes + bytes <= atomic_load(&settings.memory) / SPARE_PART;
+  if (keeps) {
+    one->next = spares.of[pages];
+    spares.of[pages] = one;
+    spares.bytes += bytes;
+  }
+  pthread_mutex_unlock(&spares.lock);
+  return keeps;
+}
+
+/* Pages of its own; NULL: the system has no more of them. */
+static void *map(size_t bytes) {
+  void *at = spare_of(bytes);
+  if (at != NULL) return at;
+  at = mmap(NULL, bytes, PROT_READ | PROT_WRITE, MAP_PRIVATE | MAP_ANONYMOUS, -1, 0);
+  return at != MAP_FAILED ? at : NULL;
+}
+
 static char *begin(void *at, size_t bytes, bool is_mapped) {
   struct head *head = at;
   if (head == NULL) return NULL;
@@ -40,10 +110,10 @@ static char *begin(void *at, size_t bytes, bool is_mapped) {
 /* Where the system has no mapping more, malloc may have room in the heap. */
 char *block_new(size_t bytes) {
   bytes += sizeof(struct head);
-  if (bytes >= MEMORY_MAPPED_LEAST) {
+  if (bytes >= MAPPED_LEAST) {
     size_t pages = whole_pages(bytes);
-    void *at = mmap(NULL, pages, PROT_READ | PROT_WRITE, MAP_PRIVATE | MAP_ANONYMOUS, -1, 0);
-    if (at != MAP_FAILED) return begin(at, pages, true);
+    void *at = map(pages);
+    if (at != NULL) return begin(at, pages, true);
   }
   return begin(malloc(bytes), bytes, false);
 }
@@ -61,7 +131,7 @@ static char *replace(char *block, size_t bytes) {
 char *block_grow(char *block, size_t bytes) {
   struct head *head = head_of(block);
   size_t all = bytes + sizeof *head, pages = whole_pages(all);
-  if (!head->is_mapped && all < MEMORY_MAPPED_LEAST) return begin(realloc(head, all), all, false);
+  if (!head->is_mapped && all < MAPPED_LEAST) return begin(realloc(head, all), all, false);
   if (!head->is_mapped || !MAPPINGS_GROW) return replace(block, bytes);
   void *at = mremap(head, head->bytes, pages, MREMAP_MAYMOVE);
   return at != MAP_FAILED ? begin(at, pages, true) : NULL;
@@ -69,8 +139,9 @@ char *block_grow(char *block, size_t bytes) {
 
 void block_free(char *block) {
   struct head *head = head_of(block);
-  if (head->is_mapped) munmap(head, head->bytes);
-  else memory_free(head);
+  size_t bytes = head->bytes;
+  if (!head->is_mapped) memory_free(head);
+  else if (!spare(head, bytes)) munmap(head, bytes);
 }
 
 size_t block_takes(char *block) {

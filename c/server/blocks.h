@@ -1,5 +1,6 @@
-/* Blocks of memory for values that lie out of line. A large one is a mapping of its own, which goes back to the system
- * by itself. malloc would make one, too; but before it does, it puts all pieces in order that came free since. */
+/* Blocks of memory for values that lie out of line. Those from 16 kilobytes on are mappings of their own, which go back
+ * to the system by themselves: between pieces of malloc's, small ones would come where a large one was, and none of its
+ * pages could go back. */
 #ifndef BLOCKS_H
 #define BLOCKS_H
 

@@ -113,7 +113,7 @@ class Memory:
             tell("the same by four clients, which read meanwhile: values are right", "; ".join(self.change_sizes(server)[:3]))
             tell("then it ends with nothing left", server.end())
 
-    def change_sizes(self, server):
+    def change_sizes(self, server, shrinks=True):
         """Four clients store values of one size, and then of another, and read them: shelves are opened and closed beneath them. What was wrong."""
         wrong, client, before = [], Client(server.port), 0
         for number, size in enumerate((20, 1000, 20, 1000)):
@@ -125,9 +125,15 @@ class Memory:
                 one.join()
             if size == 20:
                 before = int(client.stats("bump")["bytes_of_shelves"])
-            elif not self.wait_for(lambda before=before: int(client.stats("bump")["bytes_of_shelves"]) < before // 2):
+            elif shrinks and not self.wait_for(lambda before=before: int(client.stats("bump")["bytes_of_shelves"]) < before // 2):
                 wrong.append(f"chunks take {client.stats('bump')['bytes_of_shelves']} bytes, and took {before}")
         return wrong
+
+    def try_changing_sizes(self, name, program, environment):
+        """Of another build."""
+        with Server(program, "-m", 16, environment={"BUMP_SERVER_DEBUGTIME": "1", **(environment or {})}) as server:
+            tell(f"{name}: values of other sizes come, and are right", "; ".join(self.change_sizes(server, False)[:3]))
+            tell(f"{name}: it ends with nothing left and nothing said", server.end() or self.more_than_end(server))
 
     @staticmethod
     def store_and_read(server, number, size, count, wrong):

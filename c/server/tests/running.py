@@ -116,11 +116,11 @@ class Running:
         status, written = run(["systemd-analyze", "verify", "--man=no", unit], 120)
         said = [line for line in written.splitlines() if unit.name in line]  # and not of other units
         tell("systemd reads the unit file, and warns of nothing", why((status, written)) or "; ".join(said[:3]))
-        status, written = run(["systemd-analyze", "security", "--no-pager", "--offline=true", "--threshold=40", unit], 120)
+        status, written = run(["systemd-analyze", "security", "--no-pager", "--offline=true", "--threshold=20", unit], 120)
         if "unrecognized option" in written:
             print("missing: systemd-analyze security --offline: the unit's exposure isn't tried", flush=True)
         else:
-            tell("the unit's exposure is at most 4.0", f"status {status}: {written[-120:]}" if status else "")
+            tell("the unit's exposure is at most 2.0", f"status {status}: {written[-120:]}" if status else "")
 
     def check_vanished(self):
         """The kernel asks after clients that say nothing: its timer of that kind runs at the server's end of a connection."""
