@@ -61,6 +61,7 @@ def ask_three_sizes(client, keys, rounds):
 class Memory:
     def check_memory(self):
         self.check_mixes()
+        self.check_wide_mix()
         self.check_sizes_in_turn()
         self.check_three_sizes()
         self.check_deaf()
@@ -91,6 +92,18 @@ class Memory:
                 self.tell_resident(f"-m 64, {name}", server, most_for(64), lambda mix=mix: store(client, b"b", mix, 8 * MEGABYTE))
             stats = client.stats()
             tell("items were evicted for it", "" if int(stats["evictions"]) > 0 and int(stats["curr_items"]) > 0 else f"{stats['curr_items']} items")
+            tell("then it ends with nothing left", server.end())
+
+    def check_wide_mix(self):
+        """Values of 20 bytes to 60,000, among which none is common: most of the memory is of items."""
+        draw = random.Random(4)
+        sizes = [int(20 * 3000 ** draw.random()) for _ in range(5000)]
+        with Server(self.program, "-m", 64) as server:
+            client = Client(server.port)
+            store(client, b"a", sizes, 400 * MEGABYTE)
+            self.tell_resident("-m 64, values of 20 to 60,000 bytes", server, most_for(64), lambda: store(client, b"b", sizes, 8 * MEGABYTE))
+            items = int(client.stats("bump")["bytes_of_items"])
+            tell(f"of which items have {items / MEGABYTE:.0f}", "" if items > 52 * MEGABYTE else "less than 52")
             tell("then it ends with nothing left", server.end())
 
     def check_sizes_in_turn(self):
