@@ -18,8 +18,7 @@ enum {
   SPARED_PART = 200, /* of the memory */
   SPARED_AT_ONCE = 2000,
   FEW = 8, /* items of a class, if they take less than a FEW_PART-th of the memory */
-  FEW_PART = 16,
-  LIGHT_PART = 8
+  FEW_PART = 16
 };
 
 /* A pull names a list by the number that the list has. */
@@ -29,9 +28,6 @@ _Static_assert((int)BUMP_TAIL_HOT == (int)BUMP_PLACE_HOT && (int)BUMP_TAIL_WARM 
 
 /* The shelf whose next item to be evicted has the greatest weight. */
 static _Atomic(struct shelf *) heaviest;
-
-/* What a class has of a LIGHT_PART-th of the memory: 1 at most. */
-static _Atomic double share_of[CLASSES_MOST + 1];
 
 static struct item *item_of(const bump_seen *seen) { return (struct item *)(uintptr_t)seen->label; }
 
@@ -206,12 +202,11 @@ static bool relieve(struct shelf *shelf, struct counters *counters, uint32_t now
   return has_more || evicted > 0 || !is_over(0);
 }
 
-/* What speaks for evicting a shelf's next item: its age, its size by a root, and that its class has much. By ages alone
- * a large value takes the room of thousands of small ones that are asked for as often; by bytes alone small ones that
- * nobody asks for any more would keep the room for days. And whoever has little gives little. */
+/* What speaks for evicting a shelf's next item: its age, and its size by a root. By ages alone a large value
+ * takes the room of thousands of small ones that are asked for as often; by bytes alone small ones that nobody asks for
+ * any more would keep the room for days. */
 static double weight(struct shelf *shelf) {
-  double share = atomic_load_explicit(&share_of[shelf->class], memory_order_relaxed);
-  return ((double)atomic_load(&shelf->age) + 1) * class_weight(shelf->class) * share;
+  return ((double)atomic_load(&shelf->age) + 1) * class_weight(shelf->class);
 }
 
 /* The shelf that gives: this one, unless another one's next item has a much greater weight. */
@@ -280,19 +275,16 @@ uint32_t shelf_juggle(struct shelf *shelf, struct counters *counters, uint32_t n
   return moves;
 }
 
-/* Notes a class's share. Whether that is so little that it gives nothing to others: so what was stored last isn't
- * evicted for being large. */
+/* Then it gives nothing to others: so what was stored last isn't evicted for being large. */
 static bool has_few(uint32_t class) {
   uint64_t charged = shelf_class_charged(class);
-  double share = (double)charged / (double)part_of_memory(LIGHT_PART);
-  atomic_store_explicit(&share_of[class], share < 1 ? share : 1, memory_order_relaxed);
   return charged < (uint64_t)class_size(class) * FEW && charged < part_of_memory(FEW_PART);
 }
 
 void shelves_compare(void) {
   struct shelf *found = NULL;
   for (uint32_t class = 1; class <= class_count(); class++) {
-    if (has_few(class)) continue;
+    if (shelf_behind_open(class) == shelf_first(class) || has_few(class)) continue;
     for (uint32_t number = shelf_first(class); number < shelf_behind_open(class); number++)
       if (found == NULL || weight(shelf_at(number)) > weight(found)) found = shelf_at(number);
   }
