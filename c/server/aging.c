@@ -202,9 +202,9 @@ static bool relieve(struct shelf *shelf, struct counters *counters, uint32_t now
   return has_more || evicted > 0 || !is_over(0);
 }
 
-/* What speaks for evicting a shelf's next item: its age, and its size by a root. By ages alone a large value
- * takes the room of thousands of small ones that are asked for as often; by bytes alone small ones that nobody asks for
- * any more would keep the room for days. */
+/* What speaks for evicting a shelf's next item: its age, and its size, of a large one by a root. By ages alone a large
+ * value takes the room of thousands of small ones that are asked for as often; by bytes alone small ones that nobody
+ * asks for any more would keep the room for days. */
 static double weight(struct shelf *shelf) {
   return ((double)atomic_load(&shelf->age) + 1) * class_weight(shelf->class);
 }

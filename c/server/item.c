@@ -38,12 +38,11 @@ static _Atomic uint32_t flush_to_come; /* 0: none; once it came it counts as the
 /* Small values take so little that they may grow much older than others. Of larger ones not many are there anyway. */
 enum { SMALL_MOST = 4096 };
 
-/* Up to SMALL_MOST the power of two thirds, and from there on the fifth root. */
+/* Up to SMALL_MOST the size, and from there on its fifth root. */
 static double weight_for(double size) {
-  double small = size < SMALL_MOST ? size : SMALL_MOST, cubed = 1, fifth = 1;
-  while (cubed * cubed * cubed < small * small) cubed *= 1.01;
-  while (fifth * fifth * fifth * fifth * fifth < size / small) fifth *= 1.01;
-  return cubed * fifth;
+  double small = size < SMALL_MOST ? size : SMALL_MOST, root = 1;
+  while (root * root * root * root * root < size / small) root *= 1.01;
+  return small * root;
 }
 
 void classes_make(void) {

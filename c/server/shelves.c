@@ -142,10 +142,12 @@ bool shelf_choose(struct item *item) {
 }
 
 /* Whether a class gains by one more shelf: not where memory is full, and nearly all items are its own. Then it would
- * lose more items by the shelf's memory than it could have more. */
+ * lose more items by the shelf's memory than it could have more. Where the process has more than -m, that counts twice:
+ * as what is taken, and as what is exceeded. */
 static bool gains_by(const struct shelf *next) {
-  if (memory_used() + shelf_bytes(next) <= atomic_load(&settings.memory)) return true;
-  return shelf_class_charged(next->class) < memory_of(MEMORY_items) / 8 * 7;
+  uint64_t bytes = shelf_bytes(next), all = memory_of(MEMORY_items), own = shelf_class_charged(next->class);
+  if (memory_used() + bytes <= atomic_load(&settings.memory)) return true;
+  return own < all / 8 * 7 && own + bytes * (memory_is_exceeded() ? 2 : 1) < all;
 }
 
 /* The first of a class's shelves that isn't fed, where it may be; NULL: there is none. */
