@@ -180,9 +180,10 @@ class Told:
         """Full memory, where whoever stores evicts; and more hits in COLD than a ring has room for."""
         with Server(self.program, "-m", 32, "-t", 1) as server:
             client = Client(server.port)
-            client.ask(b"".join(b"set i%d 0 0 400 noreply\r\n%s\r\n" % (i, b"x" * 400) for i in range(200_000)))
-            # Which of them are in COLD, and how soon the maintainer is there, differs by what else the machine does: so it is asked again and again.
-            for _ in range(100):
+            # Which of them are in COLD, and how soon the maintainer is there, differs by what else the machine does: so it is asked again and again,
+            # of items that are stored anew, since what was hit is in WARM.
+            for _ in range(30):
+                client.ask(b"".join(b"set i%d 0 0 400 noreply\r\n%s\r\n" % (i, b"x" * 400) for i in range(200_000)))
                 for _ in range(10):
                     client.ask(b"get " + b" ".join(b"i%d" % i for i in range(160_000, 200_000)) + b"\r\n")
                 told, wrong = self.dropped_faults(client)
