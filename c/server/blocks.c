@@ -38,8 +38,8 @@ struct spare {
   struct spare *next;
 };
 
-/* So much of -m is kept so. */
-enum { MAPPED_LEAST = 1 << 14, SPARE_PAGES_MOST = 32, SPARE_PART = 64 };
+/* So many pages are a mapping of their own. So much of -m is kept of those that came free. */
+enum { MAPPED_PAGES_LEAST = 4, SPARE_PAGES_MOST = 32, SPARE_PART = 64 };
 
 static struct {
   pthread_mutex_t lock;
@@ -59,30 +59,13 @@ static void *take_spare(size_t pages, size_t bytes) {
   return spare;
 }
 
-/* One of so many bytes; or else one of another size is given up, as these seem to be asked for no more. */
-static void *spare_of(size_t bytes) {
-  if (pages_of(bytes) > SPARE_PAGES_MOST) return NULL;
-  void *given_up = NULL;
-  size_t pages = 0;
-  pthread_mutex_lock(&spares.lock);
-  void *found = take_spare(pages_of(bytes), bytes);
-  for (size_t i = 0; found == NULL && given_up == NULL && spares.bytes > 0 && i <= SPARE_PAGES_MOST; i++) {
-    pages = spares.next;
-    spares.next = (spares.next + 1) % (SPARE_PAGES_MOST + 1);
-    given_up = take_spare(pages, pages * (size_t)sysconf(_SC_PAGESIZE));
-  }
-  pthread_mutex_unlock(&spares.lock);
-  if (given_up != NULL) munmap(given_up, pages * (size_t)sysconf(_SC_PAGESIZE));
-  return found;
-}
-
-/* Whether it is kept. */
-static bool spare(void *at, size_t bytes) {
+/* Whether it is kept, where all that are kept have no more bytes than that. */
+static bool spare(void *at, size_t bytes, uint64_t most) {
   size_t pages = pages_of(bytes);
   struct spare *one = at;
   if (pages > SPARE_PAGES_MOST) return false;
   pthread_mutex_lock(&spares.lock);
-  bool keeps = spares.bytes + bytes <= atomic_load(&settings.memory) / SPARE_PART;
+  bool keeps = spares.bytes + bytes <= most;
   if (keeps) {
     one->next = spares.of[pages];
     spares.of[pages] = one;
@@ -90,6 +73,30 @@ static bool spare(void *at, size_t bytes) {
   }
   pthread_mutex_unlock(&spares.lock);
   return keeps;
+}
+
+/* Where the system has as many mappings as it may, it can't cut one in two: then the pages alone go back. */
+static void give_up(void *at, size_t bytes) {
+  if (munmap(at, bytes) == 0) return;
+  madvise(at, bytes, MADV_DONTNEED);
+  spare(at, bytes, UINT64_MAX);
+}
+
+/* One of so many bytes; or else one of another size is given up, as these seem to be asked for no more. */
+static void *spare_of(size_t bytes) {
+  if (pages_of(bytes) > SPARE_PAGES_MOST) return NULL;
+  void *old = NULL;
+  size_t pages = 0;
+  pthread_mutex_lock(&spares.lock);
+  void *found = take_spare(pages_of(bytes), bytes);
+  for (size_t i = 0; found == NULL && old == NULL && spares.bytes > 0 && i <= SPARE_PAGES_MOST; i++) {
+    pages = spares.next;
+    spares.next = (spares.next + 1) % (SPARE_PAGES_MOST + 1);
+    old = take_spare(pages, pages * (size_t)sysconf(_SC_PAGESIZE));
+  }
+  pthread_mutex_unlock(&spares.lock);
+  if (old != NULL) give_up(old, pages * (size_t)sysconf(_SC_PAGESIZE));
+  return found;
 }
 
 /* Pages of its own; NULL: the system has no more of them. */
@@ -110,7 +117,7 @@ static char *begin(void *at, size_t bytes, bool is_mapped) {
 /* Where the system has no mapping more, malloc may have room in the heap. */
 char *block_new(size_t bytes) {
   bytes += sizeof(struct head);
-  if (bytes >= MAPPED_LEAST) {
+  if (pages_of(bytes) >= MAPPED_PAGES_LEAST) {
     size_t pages = whole_pages(bytes);
     void *at = map(pages);
     if (at != NULL) return begin(at, pages, true);
@@ -131,7 +138,7 @@ static char *replace(char *block, size_t bytes) {
 char *block_grow(char *block, size_t bytes) {
   struct head *head = head_of(block);
   size_t all = bytes + sizeof *head, pages = whole_pages(all);
-  if (!head->is_mapped && all < MAPPED_LEAST) return begin(realloc(head, all), all, false);
+  if (!head->is_mapped && pages_of(all) < MAPPED_PAGES_LEAST) return begin(realloc(head, all), all, false);
   if (!head->is_mapped || !MAPPINGS_GROW) return replace(block, bytes);
   void *at = mremap(head, head->bytes, pages, MREMAP_MAYMOVE);
   return at != MAP_FAILED ? begin(at, pages, true) : NULL;
@@ -141,7 +148,7 @@ void block_free(char *block) {
   struct head *head = head_of(block);
   size_t bytes = head->bytes;
   if (!head->is_mapped) memory_free(head);
-  else if (!spare(head, bytes)) munmap(head, bytes);
+  else if (!spare(head, bytes, atomic_load(&settings.memory) / SPARE_PART)) give_up(head, bytes);
 }
 
 size_t block_takes(char *block) {

@@ -1,5 +1,5 @@
-/* Blocks of memory for values that lie out of line. Those from 16 kilobytes on are mappings of their own, which go back
- * to the system by themselves: between pieces of malloc's, small ones would come where a large one was, and none of its
+/* Blocks of memory for values that lie out of line. Those of four pages and more are mappings of their own, which go
+ * back to the system by themselves: among malloc's pieces, small ones would come where a large one was, and none of its
  * pages could go back. */
 #ifndef BLOCKS_H
 #define BLOCKS_H

@@ -9,10 +9,11 @@ import threading
 import time
 from pathlib import Path
 
-from c_checks import tell
-from client import Client, value_for
-from started import Server
+from c_checks import tell, why
+from client import Client, is_right, value_for
+from started import Server, run
 
+HERE = Path(__file__).resolve().parent
 MEGABYTE = 1 << 20
 # What the process may have: so much more than -m, and so much for each connection that is busy. Where the maintainer waits for a processor there is
 # more for a moment.
@@ -62,6 +63,7 @@ class Memory:
     def check_memory(self):
         self.check_mixes()
         self.check_wide_mix()
+        self.check_few_mappings()
         self.check_sizes_in_turn()
         self.check_three_sizes()
         self.check_deaf()
@@ -104,6 +106,24 @@ class Memory:
             self.tell_resident("-m 64, values of 20 to 60,000 bytes", server, most_for(64), lambda: store(client, b"b", sizes, 8 * MEGABYTE))
             items = int(client.stats("bump")["bytes_of_items"])
             tell(f"of which items have {items / MEGABYTE:.0f}", "" if items > 52 * MEGABYTE else "less than 52")
+            tell("then it ends with nothing left", server.end())
+
+    def check_few_mappings(self):
+        """Where the system has no mapping more to cut one in two, pages go back all the same, and values are right."""
+        shared = self.folder / "few_mappings.so"
+        if not tell("few_mappings.c compiles", why(run(["gcc", "-std=c11", "-O2", "-Wall", "-Wextra", "-Werror", "-shared", "-fPIC", HERE / "few_mappings.c", "-o", shared]))):
+            return
+        with Server(self.program, "-m", 64, environment={"LD_PRELOAD": str(shared)}) as server:
+            client, draw, wrong, hits = Client(server.port), random.Random(2), 0, 0
+            for number in range(10_000):
+                key, value = b"k%d" % draw.randrange(3000), value_for(b"few", number, int(10_000 * 12 ** draw.random()))
+                if draw.random() < 0.6:
+                    client.socket.sendall(b"set %s 0 0 %d noreply\r\n%s\r\n" % (key, len(value), value))
+                else:
+                    value = client.get(key)
+                    hits, wrong = hits + (value is not None), wrong + (value is not None and not is_right(b"few", value))
+            tell(f"{hits} gets hit while mappings can't be given up", f"{wrong} are wrong" if wrong else "" if hits > 500 else "too few")
+            self.tell_resident("-m 64, with such values", server, most_for(64))
             tell("then it ends with nothing left", server.end())
 
     def check_sizes_in_turn(self):
