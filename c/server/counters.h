@@ -12,7 +12,7 @@
   X(cas_badval) X(touch_hits) X(touch_misses) X(store_too_large) X(store_no_memory) X(bytes_read) X(bytes_written)     \
   X(conn_yields) X(malloc_fails) X(total_items) X(expired_unfetched) X(evicted_unfetched) X(evicted_active)            \
   X(evictions) X(reclaimed) X(crawler_reclaimed) X(crawler_items_checked) X(lrutail_reflocked) X(get_busy)             \
-  X(get_refs_full) X(get_stale) X(idle_kicks)
+  X(get_refs_full) X(get_stale) X(calls_together) X(idle_kicks)
 
 #define COUNTER_AS_NAME(name) COUNT_##name,
 enum counter { COUNTERS(COUNTER_AS_NAME) COUNTER_COUNT };

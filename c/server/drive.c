@@ -22,19 +22,23 @@ enum {
 
 enum received { RECEIVED_ALL, RECEIVED_SOME, RECEIVED_NOTHING, RECEIVED_END };
 
+/* What came: so many bytes, of those that there was room for; or an errno below 0. */
+static enum received note_received(struct connection *connection, ssize_t received, size_t room) {
+  if (received > 0) {
+    connection->work -= (int32_t)received;
+    count(connection_counters(connection), COUNT_bytes_read, (uint64_t)received);
+    return (size_t)received < room ? RECEIVED_ALL : RECEIVED_SOME;
+  }
+  if (received == 0) connection->closing = CLOSED_BY_CLIENT;
+  bool is_later = received == -EAGAIN || received == -EWOULDBLOCK || received == -EINTR;
+  return is_later ? RECEIVED_NOTHING : RECEIVED_END;
+}
+
 static enum received receive_to(struct connection *connection, char *at, size_t room, size_t *bytes) {
   if (room > RECEIVED_AT_ONCE) room = RECEIVED_AT_ONCE;
   ssize_t received = call_receive(connection->file, at, room);
-  if (received > 0) {
-    *bytes = (size_t)received;
-    connection->work -= (int32_t)*bytes;
-    count(connection_counters(connection), COUNT_bytes_read, *bytes);
-    return *bytes < room ? RECEIVED_ALL : RECEIVED_SOME;
-  }
-  *bytes = 0;
-  if (received == 0) connection->closing = CLOSED_BY_CLIENT;
-  if (received == 0) return RECEIVED_END;
-  return errno == EAGAIN || errno == EWOULDBLOCK || errno == EINTR ? RECEIVED_NOTHING : RECEIVED_END;
+  *bytes = received > 0 ? (size_t)received : 0;
+  return note_received(connection, received < 0 ? -errno : received, room);
 }
 
 /* Room behind what was received. false: no memory, or too long a line. */
@@ -55,7 +59,8 @@ static enum received receive(struct connection *connection) {
     char *at = storing->item->value + storing->received;
     enum received received = receive_to(connection, at, storing_most(storing) - storing->received, &bytes);
     storing->received += bytes;
-    return received;
+    bool is_whole = storing->received == storing->item->bytes + storing->speaker->behind;
+    return is_whole ? RECEIVED_ALL : received; /* mostly its client waits for the answer now; else the epoll tells */
   }
   if (!make_room(connection)) return RECEIVED_END;
   enum received received = receive_to(connection, in->at + in->end, in->room - in->end, &bytes);
@@ -189,33 +194,79 @@ static bool give_back(struct connection *connection) {
   return false;
 }
 
+/* A connection's turn. */
+struct turn {
+  int requests;           /* so many may still be served in it */
+  bool is_shared;         /* its last answers are sent with those of others */
+  enum received received; /* what the socket had last */
+};
+
+static struct turn begin_turn(struct connection *connection, bool is_shared) {
+  connection->work = TURN_WORK;
+  connection->thread->file = connection->file;
+  return (struct turn){ settings.requests_at_once, is_shared, RECEIVED_SOME };
+}
+
 /* Goes on with what was received, and with what is to be sent: until more has to be received, which is DRIVE_RECEIVES,
  * or its turn is over. */
-static enum driven go_on(struct connection *connection, int *requests) {
+static enum driven go_on(struct connection *connection, struct turn *turn) {
   for (;;) {
-    bool could_go_on = step_on(connection, requests);
+    bool could_go_on = step_on(connection, &turn->requests);
+    bool is_last = turn->received == RECEIVED_ALL && !could_go_on;
+    if (turn->is_shared && is_last && !sending_is_empty(connection)) return DRIVE_ANSWERS;
     enum sent sent = sending_go_on(connection);
     if (sent != SENT_ALL) return sent == SENT_SOME ? DRIVE_YIELDS : DRIVE_SENDS;
     if (connection->ends) return DRIVE_ENDS;
     if (!could_go_on || !has_more(connection)) return DRIVE_RECEIVES;
-    if (*requests <= 0 || connection->work <= 0) return connection->storing.waits ? DRIVE_PARKS : DRIVE_YIELDS;
+    if (turn->requests <= 0 || connection->work <= 0) return connection->storing.waits ? DRIVE_PARKS : DRIVE_YIELDS;
   }
 }
 
 /* Where less came than there was room for, nothing is left in the socket: the epoll tells when more comes. It tells at
  * once where the turn is over, and more is there. */
-enum driven drive(struct connection *connection) {
-  int requests = settings.requests_at_once;
-  enum driven driven = DRIVE_RECEIVES;
-  enum received received = RECEIVED_SOME;
-  connection->work = TURN_WORK;
-  connection->thread->file = connection->file;
-  if (has_more(connection) || !sending_is_empty(connection)) driven = go_on(connection, &requests);
-  while (driven == DRIVE_RECEIVES && received == RECEIVED_SOME && connection->work > 0) {
-    received = receive(connection);
-    if (received == RECEIVED_END) return DRIVE_ENDS;
-    if (received != RECEIVED_NOTHING) driven = go_on(connection, &requests);
+static enum driven end_turn(struct connection *connection, struct turn *turn, enum driven driven) {
+  while (driven == DRIVE_RECEIVES && turn->received == RECEIVED_SOME && connection->work > 0) {
+    turn->received = receive(connection);
+    if (turn->received == RECEIVED_END) return DRIVE_ENDS;
+    if (turn->received != RECEIVED_NOTHING) driven = go_on(connection, turn);
   }
-  if ((driven == DRIVE_RECEIVES || driven == DRIVE_SENDS) && give_back(connection)) return DRIVE_YIELDS;
+  bool is_last = driven == DRIVE_RECEIVES || driven == DRIVE_SENDS || driven == DRIVE_ANSWERS;
+  if (is_last && give_back(connection) && driven != DRIVE_ANSWERS) return DRIVE_YIELDS;
   return driven;
+}
+
+enum driven drive(struct connection *connection) {
+  struct turn turn = begin_turn(connection, false);
+  enum driven driven = DRIVE_RECEIVES;
+  if (has_more(connection) || !sending_is_empty(connection)) driven = go_on(connection, &turn);
+  return end_turn(connection, &turn, driven);
+}
+
+/* ------------------------------------------------------------------------------------------------ with others */
+
+bool drive_prepare(struct connection *connection, struct call *call) {
+  struct buffer *in = &connection->in;
+  bool is_due = connection->state == READS_LINE && !connection->is_yielded && buffer_size(in) == 0;
+  if (!is_due || !sending_is_empty(connection) || !make_room(connection)) return false;
+  call->connection = connection;
+  call->file = connection->file;
+  call->sends = false;
+  call->at = in->at + in->end;
+  call->bytes = in->room - in->end < RECEIVED_AT_ONCE ? in->room - in->end : RECEIVED_AT_ONCE;
+  return true;
+}
+
+enum driven drive_received(struct connection *connection, const struct call *call) {
+  struct turn turn = begin_turn(connection, true);
+  turn.received = note_received(connection, call->result, call->bytes);
+  if (turn.received == RECEIVED_END) return DRIVE_ENDS;
+  if (call->result > 0) connection->in.end += (size_t)call->result;
+  return end_turn(connection, &turn, turn.received != RECEIVED_NOTHING ? go_on(connection, &turn) : DRIVE_RECEIVES);
+}
+
+enum driven drive_sent(struct connection *connection, const struct call *call) {
+  struct turn turn = begin_turn(connection, false);
+  turn.received = RECEIVED_ALL;
+  sending_note(connection, call->result);
+  return end_turn(connection, &turn, go_on(connection, &turn));
 }

@@ -35,6 +35,8 @@ enum {
   PARKED_MILLISECONDS = 2 /* from one look at those that are parked to the next */
 };
 
+_Static_assert((int)SPARE_BLOCKS_MOST > (int)CALLS_MOST, "a block for what each of them sent, and one for an answer");
+
 struct thread threads[THREADS_MOST + 2];
 _Atomic bool is_ending;
 
@@ -361,15 +363,60 @@ static void note(struct connection *connection, int does) {
   atomic_store_explicit(&connection->told, (int)connection->state + does, memory_order_relaxed);
 }
 
-static void attend(struct connection *connection) {
-  atomic_store_explicit(&connection->active, connection->thread->now, memory_order_relaxed);
-  switch (drive(connection)) {
+static void act(struct connection *connection, enum driven driven) {
+  switch (driven) {
     case DRIVE_RECEIVES: note(connection, DOES_WAIT), wait_for(connection, EPOLLIN); break;
     case DRIVE_SENDS: note(connection, DOES_SEND), wait_for(connection, EPOLLOUT); break;
+    case DRIVE_ANSWERS: sending_prepare_call(connection, calls_next(connection->thread->sends)); break;
     case DRIVE_YIELDS: note(connection, DOES_STEPS), yield_to_others(connection); break;
     case DRIVE_PARKS: note(connection, DOES_WAIT), park(connection); break;
     case DRIVE_ENDS: end_connection(connection); break;
   }
+}
+
+static void begin_to_attend(struct connection *connection) {
+  atomic_store_explicit(&connection->active, connection->thread->now, memory_order_relaxed);
+}
+
+static void attend(struct connection *connection) {
+  begin_to_attend(connection);
+  act(connection, drive(connection));
+}
+
+static void make(struct thread *thread, struct calls *calls) {
+  if (calls->count == 0) return;
+  count(&thread->counters, COUNT_calls_together, calls_make(calls, thread->queues));
+}
+
+/* Sends what was answered to several, by one call of the system. */
+static void send_to_all(struct thread *thread) {
+  struct calls *calls = thread->sends;
+  make(thread, calls);
+  for (uint32_t i = 0; i < calls->count; i++) {
+    struct connection *connection = calls->call[i].connection;
+    act(connection, drive_sent(connection, &calls->call[i]));
+  }
+  calls->count = 0;
+}
+
+/* Receives from several by one call of the system, and serves them. Who was served waits until the others are, but not
+ * for longer than a turn takes. */
+static void receive_from_all(struct thread *thread) {
+  struct calls *calls = thread->receives;
+  int32_t work = TURN_WORK;
+  make(thread, calls);
+  for (uint32_t i = 0; i < calls->count; i++) {
+    struct connection *connection = calls->call[i].connection;
+    begin_to_attend(connection);
+    enum driven driven = drive_received(connection, &calls->call[i]);
+    work -= TURN_WORK - connection->work;
+    act(connection, driven);
+    if (work > 0) continue;
+    send_to_all(thread);
+    work = TURN_WORK;
+  }
+  send_to_all(thread);
+  calls->count = 0;
 }
 
 /* Each of a ring goes on once. */
@@ -388,7 +435,13 @@ static void attend_each(struct connection **ring) {
 }
 
 /* Of one that is parked nothing is told but faults. Whether it is to end for one. */
-static bool attend_event(struct connection *connection) {
+static bool attend_event(struct connection *connection, bool is_alone) {
+  struct thread *thread = connection->thread;
+  if (!is_alone && drive_prepare(connection, calls_place(thread->receives))) {
+    thread->receives->count++;
+    if (calls_are_full(thread->receives)) receive_from_all(thread);
+    return false;
+  }
   if (!connection->is_yielded) return attend(connection), false;
   if (!connection->storing.waits) return false;
   return connection->ends = true;
@@ -533,6 +586,11 @@ static int patience(const struct thread *thread, bool are_idle) {
 void *network_serve(void *given) {
   struct thread *thread = given;
   struct epoll_event event[EVENTS_MOST];
+  struct calls receives, sends;
+  receives.count = sends.count = 0;
+  thread->receives = &receives;
+  thread->sends = &sends;
+  thread->queues = settings.uses_io_uring ? queues_open() : NULL;
   uint32_t looked = thread->now = clock_now();
   bool are_idle = false;
   while (!atomic_load(&is_ending)) {
@@ -545,8 +603,9 @@ void *network_serve(void *given) {
     looked = thread->now;
     for (int i = 0; i < events; i++) {
       if (event[i].data.ptr == NULL) is_woken = true;
-      else are_due |= attend_event(event[i].data.ptr);
+      else are_due |= attend_event(event[i].data.ptr, events == 1);
     }
+    receive_from_all(thread);
     if (is_woken) attend_watchers(thread);
     attend_each(&thread->yielded);
     if (thread->parked != NULL && (are_due || items_may_grow())) attend_each(&thread->parked);
@@ -556,5 +615,6 @@ void *network_serve(void *given) {
   }
   thread_turns(thread);
   farewell(thread);
+  queues_close(thread->queues);
   return NULL;
 }

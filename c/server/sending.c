@@ -2,8 +2,6 @@
 #include "sending.h"
 #include <errno.h>
 #include <string.h>
-#include <sys/socket.h>
-#include <sys/uio.h>
 #include "calls.h"
 #include "connection.h"
 #include "memory.h"
@@ -61,33 +59,46 @@ void sending_drop(struct connection *connection) {
 
 /* ----------------------------------------------------------------------------------------------------- sending */
 
-/* Parts that are sent by one call: at most so many bytes. */
-struct parts {
-  struct iovec part[2 * VALUES_MOST + 1];
-  size_t count;
-  size_t left;
-};
+_Static_assert(PARTS_MOST == 2 * VALUES_MOST + 1, "text before each value, and behind the last one");
 
-static void add_part(struct parts *parts, char *at, size_t bytes) {
-  if (bytes > parts->left) bytes = parts->left;
+static void add_part(struct call *call, size_t most, char *at, size_t bytes) {
+  if (bytes > most - call->bytes) bytes = most - call->bytes;
   if (bytes == 0) return;
-  parts->part[parts->count++] = (struct iovec){ at, bytes };
-  parts->left -= bytes;
+  call->part[call->parts++] = (struct iovec){ at, bytes };
+  call->bytes += bytes;
 }
 
-static void gather(const struct connection *connection, struct parts *parts) {
+/* The parts that are sent by one call: at most so many bytes. */
+static void gather(const struct connection *connection, struct call *call, size_t most) {
   const struct sending *sending = &connection->sending;
   char *text = connection->out.at + connection->out.begin;
   uint64_t position = sending->text;
+  call->parts = call->bytes = 0;
   for (uint32_t i = 0; i < sending->count; i++) {
     const struct sent_value *value = &sending->value[i];
     size_t before = (size_t)(value->at - position), sent = i == 0 ? sending->sent : 0;
-    add_part(parts, text, before);
-    add_part(parts, value->item->value + sent, value->bytes - sent);
+    add_part(call, most, text, before);
+    add_part(call, most, value->item->value + sent, value->bytes - sent);
     text += before;
     position = value->at;
   }
-  add_part(parts, text, (size_t)(connection->out.at + connection->out.end - text));
+  add_part(call, most, text, (size_t)(connection->out.at + connection->out.end - text));
+  call->message = (struct msghdr){ .msg_iov = call->part, .msg_iovlen = call->parts };
+}
+
+void sending_prepare_call(struct connection *connection, struct call *call) {
+  const struct buffer *out = &connection->out;
+  size_t text = buffer_size(out);
+  call->connection = connection;
+  call->file = connection->file;
+  call->sends = true;
+  call->parts = 0;
+  if (connection->sending.count > 0) {
+    gather(connection, call, SENT_AT_ONCE);
+  } else {
+    call->at = out->at + out->begin;
+    call->bytes = text < SENT_AT_ONCE ? text : SENT_AT_ONCE;
+  }
 }
 
 /* So many bytes were sent: of text, and of values where they come. */
@@ -111,34 +122,38 @@ static void note_sent(struct connection *connection, size_t bytes) {
   }
 }
 
-static ssize_t send_parts(const struct connection *connection, size_t most) {
-  struct parts parts = { .left = most };
-  gather(connection, &parts);
-  const struct msghdr message = { .msg_iov = parts.part, .msg_iovlen = parts.count };
-  return sendmsg(connection->file, &message, MSG_NOSIGNAL);
+void sending_note(struct connection *connection, ssize_t sent) {
+  if (sent >= 0) {
+    note_sent(connection, (size_t)sent);
+    count(connection_counters(connection), COUNT_bytes_written, (uint64_t)sent);
+  } else if (sent != -EAGAIN && sent != -EWOULDBLOCK && sent != -EINTR) {
+    connection->ends = true; /* nobody is there to read it */
+    sending_drop(connection);
+  }
 }
 
+static ssize_t send_parts(const struct connection *connection, size_t most) {
+  struct call call;
+  gather(connection, &call, most);
+  return sendmsg(connection->file, &call.message, MSG_NOSIGNAL);
+}
+
+/* So many bytes were sent; or an errno below 0. */
 static ssize_t send_some(const struct connection *connection, size_t most) {
   const struct buffer *out = &connection->out;
-  size_t text = buffer_size(out);
-  if (connection->sending.count > 0) return send_parts(connection, most);
-  return call_send(connection->file, out->at + out->begin, text < most ? text : most);
+  size_t text = buffer_size(out) < most ? buffer_size(out) : most;
+  bool is_text = connection->sending.count == 0;
+  ssize_t sent = is_text ? call_send(connection->file, out->at + out->begin, text) : send_parts(connection, most);
+  return sent < 0 ? -errno : sent;
 }
 
 enum sent sending_go_on(struct connection *connection) {
   for (size_t left = SENT_AT_ONCE; !sending_is_empty(connection);) {
     if (left == 0) return SENT_SOME;
     ssize_t sent = send_some(connection, left);
-    if (sent >= 0) {
-      note_sent(connection, (size_t)sent);
-      left -= (size_t)sent;
-      count(connection_counters(connection), COUNT_bytes_written, (uint64_t)sent);
-    } else if (errno == EAGAIN || errno == EWOULDBLOCK) {
-      return SENT_AS_MUCH_AS_GOES;
-    } else if (errno != EINTR) {
-      connection->ends = true; /* nobody is there to read it */
-      sending_drop(connection);
-    }
+    sending_note(connection, sent);
+    if (sent == -EAGAIN || sent == -EWOULDBLOCK) return SENT_AS_MUCH_AS_GOES;
+    if (sent > 0) left -= (size_t)sent;
   }
   buffer_give_back(connection->thread, &connection->out);
   return SENT_ALL;

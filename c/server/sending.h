@@ -6,8 +6,10 @@
 #include <stdbool.h>
 #include <stddef.h>
 #include <stdint.h>
+#include <sys/types.h>
 #include "item.h"
 
+struct call;
 struct connection;
 
 /* A value that is sent where so much of the connection's text was. */
@@ -48,6 +50,10 @@ enum sent {
   SENT_AS_MUCH_AS_GOES /* until the client read some of it */
 };
 enum sent sending_go_on(struct connection *connection);
+
+/* The same by a call that is made with others': how it is to be made, and what came of it. */
+void sending_prepare_call(struct connection *connection, struct call *call);
+void sending_note(struct connection *connection, ssize_t sent);
 
 /* Gives up what isn't sent. */
 void sending_drop(struct connection *connection);

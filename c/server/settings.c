@@ -25,6 +25,7 @@ struct settings settings = { .port = 11211,
                              .prefix_delimiter = ':',
                              .begins_crawling = true,
                              .maintains = true,
+                             .uses_io_uring = true,
                              .memory = 64 << 20,
                              .hot_percent = 20,
                              .warm_percent = 40,
@@ -119,6 +120,7 @@ static const char HELP[] =
     "    lru_crawler, no_lru_crawler        look for expired items, or don't\n"
     "    lru_maintainer, no_lru_maintainer  age lists in a thread of their own, or don't\n"
     "    modern, no_modern          both, or none\n"
+    "    no_io_uring                make each of the system's calls by itself\n"
     "    track_sizes                count items by their sizes from the start on, for stats sizes\n"
     "\n"
     "Not here: UDP (-U has no effect), authentication (-S, -Y), encryption (-Z), storage on disk.\n";
@@ -207,6 +209,7 @@ static void read_extended(char *text) {
     else if (strcmp(name, "track_sizes") == 0) settings.counts_sizes = true;
     else if (strcmp(name, "lru_maintainer") == 0) settings.maintains = true;
     else if (strcmp(name, "no_lru_maintainer") == 0) settings.maintains = false;
+    else if (strcmp(name, "no_io_uring") == 0) settings.uses_io_uring = false;
     else if (value != NULL && read_valued(name, value)) continue;
     else if (strncmp(name, "ssl_", 4) == 0) wrong(name, "there is no TLS here: let a proxy speak it");
     else if (!is_without_effect(name)) wrong("-o", name);

@@ -49,6 +49,7 @@ struct settings {
   bool wants_large_pages;
   bool begins_crawling;
   bool maintains;
+  bool uses_io_uring; /* where the kernel lets it */
   bool walks;            /* the end frees each item, though the process's end frees all */
   bool may_move_time;    /* for tests */
   uint64_t bytes_before; /* said to be in use already: for tests */

@@ -475,7 +475,7 @@ static bool step_bump(struct connection *connection) {
   }
   uint32_t class = next_class(connection);
   if (class == 0) {
-    tell_counters(connection, COUNT_get_busy, COUNT_get_stale);
+    tell_counters(connection, COUNT_get_busy, COUNT_calls_together);
     tell(connection, "bytes_under_way", items_under_way());
     tell_memory(connection);
     return true;

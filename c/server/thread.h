@@ -10,10 +10,12 @@
 #include "counters.h"
 #include "settings.h"
 
+struct calls;
 struct connection;
+struct queues;
 
-/* Blocks of buffers that a thread has for its next ones. */
-enum { SPARE_BLOCKS_MOST = 8 };
+/* Blocks of buffers that a thread has for its next ones: for all that it receives from at once, and some more. */
+enum { SPARE_BLOCKS_MOST = 14 };
 
 struct thread {
   alignas(64) uint32_t number; /* of its worker in each shelf */
@@ -29,6 +31,8 @@ struct thread {
   _Atomic uint64_t turns;         /* how often it began and ended to serve them: odd while it does */
   char *spare_block[SPARE_BLOCKS_MOST]; /* of buffers: buffer.h */
   int spare_blocks;
+  struct calls *receives, *sends; /* of several connections, that are made at once */
+  struct queues *queues;          /* by which they are; NULL: one by one */
   struct counters counters;
 };
 

@@ -7,6 +7,7 @@ from pathlib import Path
 from c_checks import tell
 from client import Client
 from started import Server
+from together import Together
 
 HERE = Path(__file__).resolve().parent
 ITEMS, HOLES = 500_000, 35_000
@@ -49,7 +50,7 @@ def ask_much(client, request):
     return b"".join(parts)[:-len(end)]
 
 
-class Turns:
+class Turns(Together):
     def check_turns(self):
         for left in reversed(range(TRIES)):
             with self.served("-m", 1024) as server:
