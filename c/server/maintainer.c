@@ -16,6 +16,9 @@ enum { PAUSE_LEAST = 1000000, PAUSE_FEW = 8000000, PAUSE_MOST = 100000000, MUCH 
 /* Chunks of a shelf that are looked at in one go, and in one round of a second. */
 enum { CRAWLED_WITH_LOCK = 50, CRAWLED_AT_ONCE = 5000 };
 
+/* Where less than a WORTH_PART-th expired, a shelf rests longer and longer, up to so many seconds. */
+enum { WORTH_PART = 100, CRAWL_REST_MOST = 60 };
+
 /* How often it makes room in one round, before it looks at the rings again. */
 enum { PAYS_AT_ONCE = 20 };
 
@@ -31,7 +34,10 @@ static bool crawl_some(struct shelf *shelf, struct counters *counters, uint32_t 
   struct crawled *crawled = &shelf->crawled;
   uint64_t examined = counted(counters, COUNT_crawler_items_checked);
   uint64_t reclaimed = counted(counters, COUNT_crawler_reclaimed);
-  if (crawled->begins == 0) *crawled = (struct crawled){ .begins = now };
+  if (crawled->begins == 0) {
+    crawled->begins = now;
+    crawled->examined = crawled->reclaimed = 0;
+  }
   uint32_t next = shelf_crawl(shelf, counters, shelf->crawled_to, CRAWLED_WITH_LOCK, now);
   shelf->crawled_to = next == BUMP_NONE ? 0 : next;
   crawled->examined += counted(counters, COUNT_crawler_items_checked) - examined;
@@ -39,12 +45,23 @@ static bool crawl_some(struct shelf *shelf, struct counters *counters, uint32_t 
   return next == BUMP_NONE;
 }
 
+/* A round is over. To look at 100,000 items a second takes a hundredth of a processor's time, though none expires. */
+static void rest_from_crawling(struct crawled *crawled, uint32_t now) {
+  bool was_worth_it = crawled->reclaimed > 0 && crawled->reclaimed * WORTH_PART >= crawled->examined;
+  uint32_t longer = crawled->rests * 2 + 1;
+  crawled->rests = was_worth_it ? 0 : longer < CRAWL_REST_MOST ? longer : CRAWL_REST_MOST;
+  crawled->rests_since = now;
+}
+
 /* Goes on with looking for expired items, from where it stopped in the second before. */
 static void crawl(struct shelf *shelf, struct counters *counters, uint32_t now) {
+  struct crawled *crawled = &shelf->crawled;
+  if (crawled->begins == 0 && clock_since(crawled->rests_since, now) < crawled->rests) return;
   for (uint32_t looked = 0; looked < CRAWLED_AT_ONCE; looked += CRAWLED_WITH_LOCK) {
     if (!crawl_some(shelf, counters, now)) continue;
-    watchers_tell_crawl(shelf->class, &shelf->crawled, now);
-    shelf->crawled.begins = 0;
+    rest_from_crawling(crawled, now);
+    watchers_tell_crawl(shelf->class, crawled, now);
+    crawled->begins = 0;
     atomic_fetch_add(&crawls, 1);
     return;
   }

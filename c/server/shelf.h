@@ -20,10 +20,12 @@
 #include "counters.h"
 #include "item.h"
 
-/* What the maintainer found in all chunks of a shelf, as it looked for expired items: since when, and how many. */
+/* What the maintainer found in all chunks of a shelf, as it looked for expired items: since when, and how many. Before
+ * it does so again it rests. */
 struct crawled {
-  uint32_t begins; /* a tick; 0: it begins with the next one */
+  uint32_t begins; /* a tick; 0: it rests */
   uint64_t examined, reclaimed;
+  uint32_t rests, rests_since; /* seconds, and a tick */
 };
 
 /* What `stats items` tells, by its names. */

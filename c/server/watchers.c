@@ -201,14 +201,14 @@ void watchers_tell_store(const struct thread *thread, const struct watched_store
              name.text, status, COMMANDS[store->how], ttl, store->class, thread->file, store->bytes);
 }
 
-/* There is no mark for how many would be worth a round, as it is made all the time. */
+/* The mark for how many would be worth a round is a part of them, and isn't told. */
 void watchers_tell_crawl(uint32_t class, const struct crawled *crawled, uint32_t now) {
   if (!is_watched(WATCHED_SYSTEM)) return;
   uint32_t elapsed = clock_since(crawled->begins, now);
   write_line(WATCHED_SYSTEM,
              "lru_crawler crawler=%" PRIu32 " lru=all low_mark=0 next_reclaims=0 since_run=%" PRIu32
-             " next_run=1 elapsed=%" PRIu32 " examined=%" PRIu64 " reclaimed=%" PRIu64 "\n",
-             class, elapsed, elapsed, crawled->examined, crawled->reclaimed);
+             " next_run=%" PRIu32 " elapsed=%" PRIu32 " examined=%" PRIu64 " reclaimed=%" PRIu64 "\n",
+             class, elapsed, crawled->rests, elapsed, crawled->examined, crawled->reclaimed);
 }
 
 void watchers_tell_connection(const struct watched_connection *told) {

@@ -116,10 +116,16 @@ class WatchChecks:
             time.sleep(0.5)
             client.ask(b"get end\r\n")
             lines = [line for line in watcher.lines_until("end") if "type=lru_crawler" in line]
-            like = re.compile(HEAD + r"lru_crawler crawler=1 lru=all low_mark=0 next_reclaims=0 since_run=\d+ next_run=1 elapsed=\d+ examined=\d+ reclaimed=(\d+)")
+            like = re.compile(HEAD + r"lru_crawler crawler=1 lru=all low_mark=0 next_reclaims=0 since_run=\d+ next_run=\d+ elapsed=\d+ examined=\d+ reclaimed=(\d+)")
             found = [like.fullmatch(line) for line in lines]
             right = gone and all(found) and sum(int(one.group(1)) for one in found) == 70
             tell(f"{len(lines)} rounds of looking for expired items are told", "" if right else f"{lines[:4]}")
+            for _ in range(40):
+                client.ask(b"debugtime 1\r\n")
+                time.sleep(0.15)
+            client.ask(b"get end\r\n")
+            rounds = sum("type=lru_crawler" in line for line in watcher.lines_until("end"))
+            tell(f"there are {rounds} in the next 40 seconds, in which nothing expires", "" if 3 <= rounds <= 10 else "more and more seldom ones are wanted")
             tell("then it ends with nothing left", server.end())
 
     def check_comings(self):
