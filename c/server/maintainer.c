@@ -10,8 +10,12 @@
 #include "watchers.h"
 
 /* It sleeps for a millisecond while there is MUCH to do: bumps, moves of items. While there is less it sleeps longer
- * and longer, up to PAUSE_FEW, and while there is nothing up to PAUSE_MOST. */
-enum { PAUSE_LEAST = 1000000, PAUSE_FEW = 8000000, PAUSE_MOST = 100000000, MUCH = 64 };
+ * and longer, up to PAUSE_FEW, and while there is nothing up to PAUSE_MOST: since a round looks at each list's end, and
+ * so waits for memory some hundreds of times. A ring has room for four times as many as are MUCH. */
+enum { PAUSE_LEAST = 1000000, PAUSE_FEW = 8000000, PAUSE_MOST = 100000000, MUCH = 256 };
+
+/* In a shelf it is a SHARE_PART-th of the items, so that its lists keep their shares; but no less than some. */
+enum { SHARE_PART = 8, SOME = 8 };
 
 /* Chunks of a shelf that are looked at in one go, and in one round of a second. */
 enum { CRAWLED_WITH_LOCK = 50, CRAWLED_AT_ONCE = 5000 };
@@ -75,12 +79,17 @@ static void rest(const struct thread *thread, long nanoseconds) {
   if (ppoll(&wait, 1, &time, NULL) > 0) eventfd_read(thread->wake, &times);
 }
 
+static bool is_much(const struct shelf *shelf, uint32_t did) {
+  uint64_t items = atomic_load_explicit(&shelf->charged, memory_order_relaxed) / class_size(shelf->class);
+  return did >= SOME && (uint64_t)did * SHARE_PART >= items;
+}
+
 /* What comes again and again of a shelf. How much there was to do. */
 static uint32_t attend_shelf(struct thread *thread, struct shelf *shelf, uint32_t now, bool crawls_now) {
   uint32_t did = shelf_drain(shelf, now);
   if (settings.maintains) did += shelf_juggle(shelf, &thread->counters, now);
   if (crawls_now) crawl(shelf, &thread->counters, now);
-  return did;
+  return is_much(shelf, did) ? MUCH : did;
 }
 
 /* One round. How much there was to do. */
