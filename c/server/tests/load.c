@@ -379,7 +379,7 @@ int main(int count, char **words) {
   double took = now() - begins;
   printf(
       "requests/s %.0f  gets %llu  hits %llu  rate %.2f  sets %llu  refused %llu  wrong %llu  errors %llu  "
-      "p50 %llu  p99 %llu  p99.9 %llu  seconds %.1f\n",
+      "p50 %llu  p99 %llu  p99.9 %llu  seconds %.3f\n",
       (double)sum.requests / took, (unsigned long long)sum.gets, (unsigned long long)sum.hits,
       sum.gets != 0 ? 100.0 * (double)sum.hits / (double)sum.gets : 0, (unsigned long long)sum.sets,
       (unsigned long long)sum.not_stored, (unsigned long long)sum.wrong, (unsigned long long)sum.errors,
