@@ -11,7 +11,7 @@ from pathlib import Path
 
 from c_checks import tell, why
 from client import Client, is_right, value_for
-from started import Server, run
+from started import ENDED, Server, run
 
 HERE = Path(__file__).resolve().parent
 MEGABYTE = 1 << 20
@@ -167,6 +167,12 @@ class Memory:
         with Server(program, "-m", 16, environment={"BUMP_SERVER_DEBUGTIME": "1", **(environment or {})}) as server:
             tell(f"{name}: values of other sizes come, and are right", "; ".join(self.change_sizes(server, False)[:3]))
             tell(f"{name}: it ends with nothing left and nothing said", server.end() or self.more_than_end(server))
+
+    @staticmethod
+    def more_than_end(server):
+        """What another build says beside its end."""
+        said = [line for line in server.words().splitlines() if not ENDED.search(line)]
+        return "; ".join(said[:5])
 
     @staticmethod
     def store_and_read(server, number, size, count, wrong):
