@@ -5,7 +5,7 @@ use Rattle.bump_steps.specs.Rule.{RowPredicate}
 use Rattle.bump_ring.specs.Ends.{Ring}
 use Rattle.cache_readers.specs.Looks.{Finds, HasWords, Hits, Peeks, Sees}
 use Rattle.cache_readers.specs.declared.misses.Miss.{Miss}
-use Rattle.cache_readers.specs.Readers.{ReadsMissed, ReaderView}
+use Rattle.cache_readers.specs.Readers.{Misses, ReadsMissed, ReaderView}
 use Rattle.keyed_hash.specs.declared.seed.Seed.{Seed}
 use Rattle.keyed_hash.specs.Hashes.{hash_of}
 use Rattle.cache_config.specs.Choosing.{part_of}
@@ -37,6 +37,15 @@ pub record InPart (Does : ReaderView → ReaderView → Type 0) (key : List ℕ)
 -- searches ended at lives that had ended.
 abbrev pub MissesKey : Seed → List ℕ → ℕ → ReaderView → ReaderView → Type 0
 MissesKey seed key now = ReadsMissed (hash_of seed key) key now
+
+-- A get of a key of this hash found nothing, counted a miss, and noted why.
+pub record MissesBy (hash : ℕ) (key : List ℕ) (now : ℕ) (before after : ReaderView) : Type 0 where
+  pub missed : Misses key now before after
+  pub absent : ReadsMissed hash key now before after
+
+-- by its hash with this seed
+abbrev pub MissesItem : Seed → List ℕ → ℕ → ReaderView → ReaderView → Type 0
+MissesItem seed key = MissesBy (hash_of seed key) key
 
 -- why a part's reader found nothing when it last did
 abbrev pub missed_of : ReaderView → Miss

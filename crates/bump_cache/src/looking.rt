@@ -5,7 +5,7 @@ ghost use Rattle.cache_readers.specs.Readers.{ReaderView as TheReaderView};
 ghost use Rattle.cache_config.specs.Choosing.{IsPartCount};
 ghost use Rattle.bump_cache.specs.Opening.{most_words};
 ghost use Rattle.bump_cache.specs.Pairs.{IsPair};
-ghost use Rattle.bump_cache.specs.Readers.{FindsValue, HitsItem, HoldsValue, InPart, KeepsRings, MissesKey, PeeksValue, SeesItem, readers_by};
+ghost use Rattle.bump_cache.specs.Readers.{FindsValue, HitsItem, HoldsValue, InPart, KeepsRings, MissesBy, MissesItem, MissesKey, PeeksValue, SeesItem, readers_by};
 
 use crate::held::PairHold;
 use crate::law::{MOST_WORDS, PairLaw};
@@ -95,7 +95,7 @@ fn hold_by<N: Name, K: Packed, V: Packed>(
         now hold reader.old reader.new) }
     ensures counted { IfSome result (λ hold. CountsHit reader.old reader.new) }
     ensures value { IfSome result (λ hold. HoldsValue V.fits V.as_words K.width hold) }
-    ensures missed { IfNone result (Misses (K.as_words _key.now) now reader.old reader.new) }
+    ensures missed { IfNone result (MissesBy hash (K.as_words _key.now) now reader.old reader.new) }
     ensures ring { KeepsRing reader.old reader.new }
 {
     let Some(hold) = reader.hold(hash, words, now) else {
@@ -202,7 +202,7 @@ pub(crate) fn hold_in<N: Name, K: Packed, V: Packed>(
     ensures counted { IfSome result (λ hold. InPart CountsHit (K.as_words key.now) (readers_by seed parts.old)
         (readers_by seed parts.new)) }
     ensures value { IfSome result (λ hold. HoldsValue V.fits V.as_words K.width hold) }
-    ensures missed { IfNone result (InPart (Misses (K.as_words key.now) now) (K.as_words key.now)
+    ensures missed { IfNone result (InPart (MissesItem seed (K.as_words key.now) now) (K.as_words key.now)
         (readers_by seed parts.old) (readers_by seed parts.new)) }
     ensures ring { KeepsRings (readers_by seed parts.old) (readers_by seed parts.new) }
 {

@@ -4,7 +4,7 @@ ghost use Rattle.cache_readers.specs.Readers.{CountsHit, CountsNothing, Misses, 
 ghost use Rattle.cache_config.specs.Choosing.{IsPartCount};
 ghost use Rattle.bump_cache.specs.Opening.{most_words};
 ghost use Rattle.bump_cache.specs.Pairs.{IsPair};
-ghost use Rattle.bump_cache.specs.Readers.{FindsValue, HitsItem, HoldsValue, InPart, KeepsRings, MissesKey, PeeksValue, SeesItem, missed_of, part_for};
+ghost use Rattle.bump_cache.specs.Readers.{FindsValue, HitsItem, HoldsValue, InPart, KeepsRings, MissesItem, MissesKey, PeeksValue, SeesItem, missed_of, part_for};
 ghost use Rattle.cache_config.specs.Sums.{AddsUp, bumps_of, dropped_of, hits_of, misses_of};
 
 use crate::held::HeldItem;
@@ -125,7 +125,7 @@ impl<N: Name, K: Packed, V: Packed> CacheReader<N, K, V> {
     #[inline(always)]
     pub fn get_with(&mut self, key: &K, now: u64) -> Option<HeldItem<'_, N, K, V>>
         ensures* missed { sem 𝓛 (EndsIfNone N.row K.row V.row N.Name K.Packed V.Packed self.entry result
-            (InPart (Misses (K.as_words key.now) now) (K.as_words key.now) self.old)) }
+            (InPart (MissesItem self.old.seed (K.as_words key.now) now) (K.as_words key.now) self.old)) }
         ensures loan { IfSome result (λ held. loan_of held ≡ self.entry.ghost_name) }
         ensures found { IfSome result (λ held. InPart (HitsItem (IsPair K.fits K.as_words V.fits V.as_words)
             (K.as_words key.now) now (hold_of held)) (K.as_words key.now) self.old (reader_of held)) }

@@ -2,11 +2,12 @@
 use Rattle.std.specs.Prelude.{◌≡◌, ◌≢◌, ℕ, ◌+◌, ◌<◌, ◌≤◌, Bool, true, false, List, length, min, replicate, slice_get, slice_index, slice_set, None, Some}
 use Rattle.bump_steps.specs.declared.views.HoldSheet.{HoldSheet}
 use Rattle.bump_steps.specs.References.{word_of_row}
-use Rattle.cache_readers.specs.Readers.{ReaderView, CountsHit, Misses, ReadsMissed}
+use Rattle.cache_readers.specs.Readers.{ReaderView, CountsHit}
 use Rattle.keyed_hash.specs.declared.seed.Seed.{Seed}
 use Rattle.keyed_hash.specs.Hashes.{hash_of}
 use Rattle.packed_words.specs.Spelling.{long_string}
 use Rattle.bump_cache.specs.Readers.{FindsValue, HitsItem, InPart}
+pub use Rattle.bump_cache.specs.Readers.{MissesBy, MissesItem}
 use Rattle.cache_handles.specs.declared.reading.GetTold.{GetTold}
 use Rattle.cache_handles.specs.declared.reading.GetTold.TheVariants as got
 use Rattle.cache_handles.specs.declared.reading.HeldTold.{HeldTold}
@@ -42,11 +43,6 @@ pub record ReadsFirst (key : List ℕ) (value_words now flags value_length : ℕ
   pub value : TellsValue (slice_index read) flags value_length
   pub words : told ≡ eight_words (slice_index read) 2 (length read)
 
--- A get of a key of this hash found nothing, counted a miss, and noted why.
-pub record MissesBy (hash : ℕ) (key : List ℕ) (now : ℕ) (before after : ReaderView) : Type 0 where
-  pub missed : Misses key now before after
-  pub absent : ReadsMissed hash key now before after
-
 -- what a get comes to, in the reader of the key's part, by the key's hash
 abbrev pub GetsBy : ℕ → List ℕ → ℕ → ℕ → GetTold → ReaderView → ReaderView → Type 0
 GetsBy hash key value_words now (got.Found value words) before after =
@@ -57,9 +53,6 @@ GetsBy hash key value_words now got.KeyBytes before after = ⊥
 -- by its hash with this seed
 abbrev pub Gets : Seed → List ℕ → ℕ → ℕ → GetTold → ReaderView → ReaderView → Type 0
 Gets seed key = GetsBy (hash_of seed key) key
-
-abbrev pub MissesItem : Seed → List ℕ → ℕ → ReaderView → ReaderView → Type 0
-MissesItem seed key = MissesBy (hash_of seed key) key
 
 -- What reading a value comes to: exactly where the key is too long that is told, and nothing is changed; else the reader
 -- of the key's part does this.

@@ -3,14 +3,15 @@ use Rattle.std.proofs.Common.{◌≡◌, ◌≢◌, ℕ, zero, suc, ◌+◌, ◌
 use Rattle.std.proofs.lemmas.Bool.{cases_lt, cases_eq}
 use Rattle.std.proofs.lemmas.List.Sums.{sum_by-set}
 use Rattle.seen_words.specs.declared.views.Moment.{Moment}
-use Rattle.seen_words.specs.Past.{moment}
+use Rattle.seen_words.specs.Past.{moment, note_of}
 use Rattle.cache_index.specs.declared.led.Way.{Way}
 use Rattle.cache_index.specs.Tags.{tag_in}
 use Rattle.cache_index.specs.Places.{IsPlace, tag_at, passed_at, nest_of, lane_of, home_of, steps_to}
 use Rattle.cache_index.specs.Changes.{OneMorePassed, HasNewTag}
 use Rattle.cache_index.specs.Leads.{chunk_in, no_way, way_to, passes, LeadsTo, AreLed}
-use Rattle.cache_index.specs.History.{rows_of, ways_of, IsReached, IsIndex, AreNoted}
+use Rattle.cache_index.specs.History.{rows_of, ways_of, IsReached, IsIndex, AreNoted, KeepHashes, KeepsHashes}
 use Rattle.cache_index.proofs.StepsLemmas.{one_below, one_below-yes, one_below-no}
+use Rattle.cache_index.proofs.RoomLemmas.{zero_tag_at}
 use Rattle.cache_index.proofs.LedLemmas.{one_pass, chunk_of_way, one_chunk, tag_some, way_here, way_elsewhere}
 use Rattle.cache_index.proofs.ChangeLemmas.{one_pass-steps, passed_apart, tags_apart}
 
@@ -19,32 +20,114 @@ pub ways_back : (ways : List Way) → ways_of (rows_of ways) ≡ ways
 ways_back [] = refl
 ways_back (way ∷ ways) = ap (λ (ws : List Way). way ∷ ws) (ways_back ways)
 
--- a moment that is as readers need it is lawful
-pub law_of : (nests : ℕ) (words : List ℕ) (ways : List Way) (past : List Moment) → length words ≡ 8 * nests
-    → IsReached nests words ways → IsIndex past (moment words (rows_of ways))
-law_of nests words ways past size reached =
-    λ (n : ℕ) (full : length words ≡ 8 * n).
-    let same : nests ≡ n = omega (arith, size, full) in
-    subst (λ (k : ℕ). IsReached k words (ways_of (rows_of ways))) same
-    (subst (λ (ws : List Way). IsReached nests words ws) (sym (ways_back ways)) reached)
+-- one list of ways keeps its hashes: no two of them lead to one lane
+pub keep_same : (nests : ℕ) (words : List ℕ) (ways : List Way) → IsReached nests words ways → KeepHashes ways ways
+keep_same nests words ways reached was is some same =
+    let on : 0 < (way_to ways is).place = omega (arith, some, same) in
+    let one : is ≡ was = sym (reached.leads is on).life
+    ∙ (ap (λ (p : ℕ). chunk_in (get_or words p 0)) same ∙ (reached.leads was some).life) in
+    ap (λ (c : ℕ). (way_to ways c).hash) one
 
--- at the start nothing is noted
-pub first_law : (words : List ℕ) → IsIndex [] (moment words [])
-first_law words = λ (n : ℕ) (full : length words ≡ 8 * n). record {
-  leads = λ (chunk : ℕ) (some : 0 < (way_to [] chunk).place). absurd (omega (arith, some));
-  passed = λ (nest : ℕ) (within : nest < n). omega arith;
+-- and so where the ways before are those that were noted
+pub keep_noted : (note : List (List ℕ)) (before now : List Way) → AreNoted note before → KeepHashes before now
+    → KeepHashes (ways_of note) now
+keep_noted note before now noted keeps was is some same =
+    let at : way_to (ways_of note) was ≡ way_to before was = noted was in
+    keeps was is (subst (λ (w : Way). 0 < w.place) at some) (same ∙ ap (λ (w : Way). w.place) at)
+    ∙ sym (ap (λ (w : Way). w.hash) at)
+
+-- a chunk's way is gone
+pub keep_without : (ways : List Way) (chunk : ℕ) → chunk < length ways → KeepHashes ways ways
+    → KeepHashes ways (set ways chunk no_way)
+keep_without ways chunk within keeps was is some same = ⊎_elim
+    (λ here.
+    let gone : (way_to (set ways chunk no_way) is).place ≡ 0 =
+    ap (λ (k : ℕ). (way_to (set ways chunk no_way) k).place) here
+    ∙ ap (λ (w : Way). w.place) (way_here ways chunk no_way within) in
+    absurd (omega (arith, gone, same, some)))
+    (λ apart.
+    let there = way_elsewhere ways chunk is no_way apart in
+    ap (λ (w : Way). w.hash) there ∙ keeps was is some (sym (ap (λ (w : Way). w.place) there) ∙ same))
+    (cases_eq is chunk)
+
+-- a chunk's way is another one, to a lane that was off or kept its hash
+pub keep_with : (before now : List Way) (chunk : ℕ) (way : Way) → chunk < length now → KeepHashes before now
+    → ((was : ℕ) → 0 < (way_to before was).place → way.place ≡ (way_to before was).place
+    → way.hash ≡ (way_to before was).hash) → KeepHashes before (set now chunk way)
+keep_with before now chunk way within keeps this was is some same = ⊎_elim
+    (λ here.
+    let there : way_to (set now chunk way) is ≡ way =
+    ap (λ (k : ℕ). way_to (set now chunk way) k) here ∙ way_here now chunk way within in
+    ap (λ (w : Way). w.hash) there ∙ this was some (sym (ap (λ (w : Way). w.place) there) ∙ same))
+    (λ apart.
+    let there = way_elsewhere now chunk is way apart in
+    ap (λ (w : Way). w.hash) there ∙ keeps was is some (sym (ap (λ (w : Way). w.place) there) ∙ same))
+    (cases_eq is chunk)
+
+-- so it is of all moments, where it is of the last one
+keeps_past : (past : List Moment) (ways : List Way) → KeepHashes (ways_of (note_of past)) ways
+    → KeepsHashes past (rows_of ways)
+keeps_past [] ways keeps = record {}
+keeps_past (last ∷ older) ways keeps =
+    subst (λ (ws : List Way). KeepHashes (ways_of last.note) ws) (sym (ways_back ways)) keeps
+
+-- a moment that is as readers need it, with ways that keep their hashes, is lawful
+pub law_of : (nests : ℕ) (words : List ℕ) (ways : List Way) (past : List Moment) → length words ≡ 8 * nests
+    → IsReached nests words ways → KeepHashes (ways_of (note_of past)) ways → IsIndex past (moment words (rows_of ways))
+law_of nests words ways past size reached keeps = record {
+  reached = λ (n : ℕ) (full : length words ≡ 8 * n).
+      let same : nests ≡ n = omega (arith, size, full) in
+      subst (λ (k : ℕ). IsReached k words (ways_of (rows_of ways))) same
+      (subst (λ (ws : List Way). IsReached nests words ws) (sym (ways_back ways)) reached);
+  keeps = keeps_past past ways keeps;
+}
+
+-- at the start nothing is noted, and all lanes are off
+pub first_law : (count : ℕ) → IsIndex [] (moment (replicate count 0) [])
+first_law count = record {
+  reached = λ (n : ℕ) (full : length (replicate {A = ℕ} count 0) ≡ 8 * n). record {
+    leads = λ (chunk : ℕ) (some : 0 < (way_to [] chunk).place). absurd (omega (arith, some));
+    back = λ (place : ℕ) (is : IsPlace n place) (on : 0 < tag_at (replicate count 0) place).
+        absurd (omega (arith, on, zero_tag_at count place));
+    passed = λ (nest : ℕ) (within : nest < n). omega arith;
+  };
+  keeps = record {};
 }
 
 -- words and ways that agree
 pub led_reached : (nests : ℕ) (words : List ℕ) (ways : List Way) → AreLed nests words ways → IsReached nests words ways
 led_reached nests words ways led = record {
   leads = led.leads;
+  back = led.back;
   passed = λ (nest : ℕ) (within : nest < nests). let e = led.passed nest within in omega (arith, e);
 }
 
+-- ways that agree with words keep their hashes
+pub keep_led : (nests : ℕ) (words : List ℕ) (ways : List Way) → AreLed nests words ways → KeepHashes ways ways
+keep_led nests words ways led = keep_same nests words ways (led_reached nests words ways led)
+
+-- with one more way, to a lane that was off
+pub keep_laid : (nests : ℕ) (words : List ℕ) (ways : List Way) (chunk : ℕ) (way : Way) → AreLed nests words ways
+    → chunk < length ways → tag_at words way.place ≡ 0 → KeepHashes ways (set ways chunk way)
+keep_laid nests words ways chunk way led within off =
+    keep_with ways ways chunk way within (keep_led nests words ways led)
+    (λ was some same.
+    let there : tag_at words way.place ≡ tag_at words (way_to ways was).place = ap (λ (p : ℕ). tag_at words p) same in
+    absurd (omega (arith, (led.leads was some).tag, there, off, tag_some (way_to ways was).hash)))
+
+-- and with a way that goes over to another chunk
+pub keep_relaid : (nests : ℕ) (words : List ℕ) (ways : List Way) (old chunk : ℕ) (way : Way) → AreLed nests words ways
+    → 0 < (way_to ways old).place → chunk < length ways → way ≡ way_to ways old
+    → KeepHashes ways (set (set ways old no_way) chunk way)
+keep_relaid nests words ways old chunk way led some within is =
+    let keeps = keep_led nests words ways led in
+    keep_with ways (set ways old no_way) chunk way (let e = length-set ways old no_way in omega (arith, e, within))
+    (keep_without ways old (chunk_of_way ways old some) keeps)
+    (λ was on same. ap (λ (w : Way). w.hash) is ∙ keeps was old on (sym (ap (λ (w : Way). w.place) is) ∙ same))
+
 -- other words whose lanes are the same, and whose nests count no less
 reached_like : (nests : ℕ) (before after : List ℕ) (ways : List Way) → IsReached nests before ways
-    → ((place : ℕ) → IsPlace nests place → 0 < tag_at before place → tag_at after place ≡ tag_at before place)
+    → ((place : ℕ) → IsPlace nests place → tag_at after place ≡ tag_at before place)
     → ((place : ℕ) → IsPlace nests place → 0 < tag_at before place → get_or after place 0 ≡ get_or before place 0)
     → ((nest : ℕ) → nest < nests → passed_at before nest ≤ passed_at after nest) → IsReached nests after ways
 reached_like nests before after ways reached tags lives counts = record {
@@ -54,9 +137,12 @@ reached_like nests before after ways reached tags lives counts = record {
       let on : 0 < tag_at before way.place = (let t = old.tag in let s = tag_some way.hash in omega (arith, t, s)) in
       record {
         place = old.place;
-        tag = tags way.place old.place on ∙ old.tag;
+        tag = tags way.place old.place ∙ old.tag;
         life = ap chunk_in (lives way.place old.place on) ∙ old.life;
       };
+  back = λ (place : ℕ) (is : IsPlace nests place) (on : 0 < tag_at after place).
+      let was : 0 < tag_at before place = (let e = tags place is in omega (arith, on, e)) in
+      ap (λ (n : ℕ). (way_to ways (chunk_in n)).place) (lives place is was) ∙ reached.back place is was;
   passed = λ (nest : ℕ) (within : nest < nests).
       let a = reached.passed nest within in let b = counts nest within in omega (arith, a, b);
 }
@@ -66,7 +152,7 @@ pub pass_reached : (nests home steps : ℕ) (before after : List ℕ) (ways : Li
     → OneMorePassed nests home steps before after → IsReached nests after ways
 pass_reached nests home steps before after ways reached passed =
     reached_like nests before after ways reached
-    (λ (place : ℕ) (is : IsPlace nests place) (on : 0 < tag_at before place).
+    (λ (place : ℕ) (is : IsPlace nests place).
     ap (λ (n : ℕ). tag_in n (lane_of place)) (passed.others (8 * nest_of place) (λ e. absurd (omega (arith, e)))))
     (λ (place : ℕ) (is : IsPlace nests place) (on : 0 < tag_at before place).
     passed.others place (λ e. absurd (omega (arith, e, is.lane))))
@@ -77,7 +163,7 @@ pub life_reached : (nests place number : ℕ) (before : List ℕ) (ways : List W
     → IsPlace nests place → tag_at before place ≡ 0 → IsReached nests (set before place number) ways
 life_reached nests place number before ways reached is off =
     reached_like nests before (set before place number) ways reached
-    (λ (other : ℕ) (is_other : IsPlace nests other) (on : 0 < tag_at before other).
+    (λ (other : ℕ) (is_other : IsPlace nests other).
     ap (λ (n : ℕ). tag_in n (lane_of other))
     (get_or-set_other before place (8 * nest_of other) number 0 (tags_apart nests place (nest_of other) is)))
     (λ (other : ℕ) (is_other : IsPlace nests other) (on : 0 < tag_at before other).
@@ -128,6 +214,17 @@ off_reached nests words off ways chunk led some tag =
                 ∙ old.life;
           }))
           (cases_eq c chunk);
+      back = λ (lane : ℕ) (is : IsPlace nests lane) (on : 0 < tag_at off lane).
+          let other : lane ≢ place = (λ e. let same : tag_at off lane ≡ tag_at off place = ap (λ (p : ℕ). tag_at off p) e in
+          absurd (omega (arith, same, on, tag.here))) in
+          let was : 0 < tag_at words lane = (let e = tag.elsewhere lane is other in omega (arith, on, e)) in
+          let life : get_or off lane 0 ≡ get_or words lane 0 =
+          tag.others lane (λ e. tags_apart nests lane (nest_of place) is (sym e)) in
+          let old = led.back lane is was in
+          let apart : chunk_in (get_or words lane 0) ≢ chunk =
+          (λ e. other (sym old ∙ ap (λ (k : ℕ). (way_to ways k).place) e)) in
+          ap (λ (n : ℕ). (way_to (set ways chunk no_way) (chunk_in n)).place) life
+          ∙ (ap (λ (w : Way). w.place) (way_elsewhere ways chunk (chunk_in (get_or words lane 0)) no_way apart) ∙ old);
       passed = λ (nest : ℕ) (inside : nest < nests).
           let word : passed_at off nest ≡ passed_at words nest =
           tag.others (8 * nest + 1) (λ e. absurd (omega (arith, e))) in
@@ -156,6 +253,13 @@ unpass_reached nests steps words off after ways chunk led some tag near passed =
                 (sym (passed.others (8 * nest_of w.place) (λ e. absurd (omega (arith, e))))) ∙ old.tag;
             life = ap chunk_in (sym (passed.others w.place (λ e. absurd (omega (arith, e, old.place.lane))))) ∙ old.life;
           };
+      back = λ (lane : ℕ) (is : IsPlace nests lane) (on : 0 < tag_at after lane).
+          let tags : tag_at off lane ≡ tag_at after lane = ap (λ (n : ℕ). tag_in n (lane_of lane))
+          (passed.others (8 * nest_of lane) (λ e. absurd (omega (arith, e)))) in
+          let life : get_or off lane 0 ≡ get_or after lane 0 =
+          passed.others lane (λ e. absurd (omega (arith, e, is.lane))) in
+          ap (λ (n : ℕ). (way_to (set ways chunk no_way) (chunk_in n)).place) (sym life)
+          ∙ reached.back lane is (let e : 0 < tag_at off lane = omega (arith, on, tags) in e);
       passed = λ (nest : ℕ) (inside : nest < nests).
           let word : passed_at off nest ≡ passed_at words nest =
           tag.others (8 * nest + 1) (λ e. absurd (omega (arith, e))) in
@@ -219,8 +323,8 @@ pub tag_law : (nests place tag next tags word : ℕ) (words mid : List ℕ) (way
     → tag_in next (lane_of place) ≡ tag
     → ((other : ℕ) → other ≢ lane_of place → tag_in next other ≡ tag_in tags other)
     → ((ws : List ℕ) → HasNewTag nests place tag words ws → IsReached nests ws ways)
-    → IsIndex past (moment (set mid word next) (rows_of ways))
-tag_law nests place tag next tags word words mid ways past size is at same read here elsewhere reached =
+    → KeepHashes (ways_of (note_of past)) ways → IsIndex past (moment (set mid word next) (rows_of ways))
+tag_law nests place tag next tags word words mid ways past size is at same read here elsewhere reached keeps =
     let there : word ≡ 8 * nest_of place = omega (arith, at) in
     let old : tags ≡ get_or words (8 * nest_of place) 0 = read ∙ ap (λ (w : ℕ). get_or words w 0) there in
     let new : HasNewTag nests place tag words (set words (8 * nest_of place) next) =
@@ -230,7 +334,7 @@ tag_law nests place tag next tags word words mid ways past size is at same read 
     ap (λ (ws : List ℕ). set ws word next) same ∙ ap (λ (w : ℕ). set words w next) there in
     subst (λ (ws : List ℕ). IsIndex past (moment ws (rows_of ways))) (sym is_there)
     (law_of nests (set words (8 * nest_of place) next) ways past (length-set words (8 * nest_of place) next ∙ size)
-    (reached (set words (8 * nest_of place) next) new))
+    (reached (set words (8 * nest_of place) next) new) keeps)
 
 -- the writer's calls, by what the code reads
 

@@ -32,7 +32,7 @@ module _ (nests : ℕ) (before after : EyeView) (sees : Sees before after) (size
       let all : AllLawful IsIndex (sees.lawful.now ∷ sees.lawful.older) =
       subst (AllLawful IsIndex) sees.lawful.is sees.lawful.all in
       let full : length (words_of after.seen) ≡ 8 * nests = sees.size (omega (arith, size, some)) ∙ size in
-      all.0 nests (sym (ap (λ (ws : List ℕ). length ws) words_now) ∙ full)
+      all.0.reached nests (sym (ap (λ (ws : List ℕ). length ws) words_now) ∙ full)
 
 -- a way that leads to a lane at a moment
 module _ (nests hash place : ℕ) (m : Moment) (reached : IsReached nests m.words (ways_of m.note)) (by : LeadsBy hash place m)

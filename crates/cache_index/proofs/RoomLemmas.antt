@@ -112,16 +112,18 @@ no_way_of n i =
 zero_tag : (lane : ℕ) → tag_in 0 lane ≡ 0
 zero_tag lane = ap (λ (n : ℕ). n % 256) (zero-div (2 ^ (8 * lane))) ∙ zero-mod 256
 
+-- where all words are 0, each lane is off
+pub zero_tag_at : (count place : ℕ) → tag_at (replicate count 0) place ≡ 0
+zero_tag_at count place =
+    ap (λ (n : ℕ). tag_in n (lane_of place)) (zero_word count (8 * nest_of place)) ∙ zero_tag (lane_of place)
+
 -- new nests, all of whose words are 0, lead nowhere
 pub new_is_led : (nests chunks : ℕ) → AreLed nests (replicate (8 * nests) 0) (replicate chunks no_way)
 new_is_led nests chunks = record {
   size = length-replicate {A = ℕ} (8 * nests) 0;
   leads = λ chunk some.
       let none = ap (λ (w : Way). w.place) (no_way_of chunks chunk) in absurd (omega (arith, none, some));
-  back = λ place is on.
-      let off : tag_at (replicate (8 * nests) 0) place ≡ 0 =
-      ap (λ (n : ℕ). tag_in n (lane_of place)) (zero_word (8 * nests) (8 * nest_of place)) ∙ zero_tag (lane_of place) in
-      absurd (omega (arith, off, on));
+  back = λ place is on. absurd (omega (arith, zero_tag_at (8 * nests) place, on));
   passed = λ nest within.
       let word : passed_at (replicate (8 * nests) 0) nest ≡ 0 = zero_word (8 * nests) (8 * nest + 1) in
       let none = sum_by-replicate (λ (w : Way). one_pass nests nest w) chunks no_way in

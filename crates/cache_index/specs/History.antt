@@ -5,7 +5,7 @@ use Rattle.seen_words.specs.Past.{EyeView, Extends, IsLawful, words_of}
 use Rattle.cache_index.specs.declared.led.Way.{Way}
 use Rattle.seen_words.specs.Windows.{AtOneWithin, NotAlways}
 use Rattle.bump_rules.specs.declared.items.ItemId.{ItemId}
-use Rattle.cache_index.specs.Places.{IsPlace, passed_at}
+use Rattle.cache_index.specs.Places.{IsPlace, passed_at, tag_at}
 use Rattle.cache_index.specs.Views.{IndexReaderView, Led, ReaderSearchView, led_at}
 use Rattle.cache_index.specs.Walks.{IsAhead}
 use Rattle.cache_index.specs.Leads.{LeadsTo, chunk_in, generation_in, passes, way_to}
@@ -23,15 +23,29 @@ way_of noted = record { hash = slice_index noted 0; place = slice_index noted 1 
 abbrev pub ways_of : List (List ℕ) → List Way
 ways_of note = map way_of note
 
--- Each way leads to its chunk, and each nest counts the ways that pass it, or more. That is what readers need; it holds
--- also between the stores of one call of the writer.
+-- Each way leads to its chunk, each lane that is on is that of the chunk to which it leads, and each nest counts the ways
+-- that pass it, or more. That is what readers need; it holds also between the stores of one call of the writer.
 pub record IsReached (nests : ℕ) (words : List ℕ) (ways : List Way) : Type 0 where
   pub leads : (chunk : ℕ) → 0 < (way_to ways chunk).place → LeadsTo nests words chunk (way_to ways chunk)
+  pub back : (place : ℕ) → IsPlace nests place → 0 < tag_at words place →
+      (way_to ways (chunk_in (slice_index words place))).place ≡ place
   pub passed : (nest : ℕ) → nest < nests → count_by (passes nests nest) ways ≤ passed_at words nest
 
--- the law of each moment
-abbrev pub IsIndex : List Moment → Moment → Type 0
-IsIndex older now = (nests : ℕ) → length now.words ≡ 8 * nests → IsReached nests now.words (ways_of now.note)
+-- a lane to which a way led, and to which one leads now, is that of the same hash
+abbrev pub KeepHashes : List Way → List Way → Type 0
+KeepHashes before now = (was is : ℕ) → 0 < (way_to before was).place
+    → (way_to now is).place ≡ (way_to before was).place → (way_to now is).hash ≡ (way_to before was).hash
+
+-- so it is of the ways that are noted and those that were noted last, if there were any
+abbrev pub KeepsHashes : List Moment → List (List ℕ) → Type 0
+KeepsHashes [] note = Unit {0}
+KeepsHashes (last ∷ older) note = KeepHashes (ways_of last.note) (ways_of note)
+
+-- The law of each moment: what is noted are the ways to the lanes that are on, and a lane that stays on keeps its hash. So
+-- nothing can be noted of a lane but what was noted when it went on.
+pub record IsIndex (older : List Moment) (now : Moment) : Type 0 where
+  pub reached : (nests : ℕ) → length now.words ≡ 8 * nests → IsReached nests now.words (ways_of now.note)
+  pub keeps : KeepsHashes older now.note
 
 -- at a moment a way of this hash leads to this place
 pub record LeadsBy (hash place : ℕ) (m : Moment) : Type 0 where

@@ -8,7 +8,7 @@ ghost use Rattle.cache_index.specs.Places.{tag_at, passed_at, place_in, tag_behi
 ghost use Rattle.cache_index.specs.Changes.{OneMorePassed, HasNewTag};
 ghost use Rattle.std.specs.Int.{bit_at};
 ghost use Rattle.seen_words.specs.Past.{note_of, words_of};
-ghost use Rattle.cache_index.specs.History.{IsReached, Sees, rows_of};
+ghost use Rattle.cache_index.specs.History.{AreNoted, IsReached, KeepHashes, Sees, rows_of, ways_of};
 
 use crate::law::LeadsOn;
 use crate::led::Way;
@@ -245,7 +245,9 @@ impl Nests {
         requires size { length pen.old.words ≡ 8 * self.now.nests }
         requires few { (nest : ℕ) → nest < self.now.nests → passed_at pen.old.words nest < 2 ^ 32 }
         requires reached { IsReached self.now.nests pen.old.words ways.now.items }
+        requires noted { AreNoted (note_of pen.old.past) ways.now.items }
         ensures table { pen.new.table ≡ pen.old.table }
+        ensures noted { AreNoted (note_of pen.new.past) ways.now.items }
         ensures place { IfSome result (λ place. IsPlace self.now.nests place) }
         ensures off { IfSome result (λ place. tag_at pen.old.words place ≡ 0) }
         ensures words { IfSome result (λ place. let home = home_of self.now.nests hash in
@@ -313,11 +315,12 @@ impl Nests {
         requires passed { let home = home_of self.now.nests hash in (nest : ℕ) → nest < self.now.nests →
             steps_to self.now.nests home nest < steps_to self.now.nests home (nest_of place) →
             0 < passed_at pen.old.words nest }
+        requires noted { AreNoted (note_of pen.old.past) ways.now.items }
         ensures table { pen.new.table ≡ pen.old.table }
         ensures words { let home = home_of self.now.nests hash in
             OneMorePassed self.now.nests home (steps_to self.now.nests home (nest_of place))
             pen.new.words pen.old.words }
-        ensures noted { note_of pen.old.past ≡ rows_of ways.now.items → note_of pen.new.past ≡ rows_of ways.now.items }
+        ensures noted { AreNoted (note_of pen.new.past) ways.now.items }
     {
         for steps in 0..self.steps(hash, place) {
             let word = (NEST_WORDS * self.nest(hash, steps) + PASSED) as usize;
@@ -331,10 +334,11 @@ impl Nests {
         requires pen { pen.old.table ≡ self.now.table }
         requires size { length pen.old.words ≡ 8 * self.now.nests }
         requires reached { IsReached self.now.nests (slice_set pen.old.words place life) ways.now.items }
+        requires keeps { KeepHashes (ways_of (note_of pen.old.past)) ways.now.items }
         requires place { nest_of place < self.now.nests }
         ensures table { pen.new.table ≡ pen.old.table }
         ensures words { pen.new.words ≡ slice_set pen.old.words place life }
-        ensures noted { note_of pen.new.past ≡ rows_of ways.now.items }
+        ensures noted { AreNoted (note_of pen.new.past) ways.now.items }
     {
         self.words.write(pen, place as usize, life, ways);
     }
@@ -344,12 +348,13 @@ impl Nests {
         requires pen { pen.old.table ≡ self.now.table }
         requires reached { (words : List ℕ) → HasNewTag self.now.nests place tag pen.old.words words →
             IsReached self.now.nests words ways.now.items }
+        requires keeps { KeepHashes (ways_of (note_of pen.old.past)) ways.now.items }
         requires size { length pen.old.words ≡ 8 * self.now.nests }
         requires place { IsPlace self.now.nests place }
         requires tag { tag < 256 }
         ensures table { pen.new.table ≡ pen.old.table }
         ensures words { HasNewTag self.now.nests place tag pen.old.words pen.new.words }
-        ensures noted { note_of pen.new.past ≡ rows_of ways.now.items }
+        ensures noted { AreNoted (note_of pen.new.past) ways.now.items }
     {
         let word = (place / NEST_WORDS * NEST_WORDS) as usize;
         let tags = self.words.read(pen, word);

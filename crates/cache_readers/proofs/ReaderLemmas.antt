@@ -8,7 +8,7 @@ use Rattle.bump_unlocked.specs.Workers.{WorkerState}
 use Rattle.seen_words.specs.Past.{EyeView}
 use Rattle.cache_index.specs.History.{Looks}
 use Rattle.cache_index.specs.Views.{IndexReaderView}
-use Rattle.cache_index.proofs.ReaderLemmas.{looks_none}
+use Rattle.cache_index.proofs.ReaderLemmas.{looks_more, looks_none}
 use Rattle.cache_readers.specs.declared.misses.Miss.{Miss}
 use Rattle.cache_readers.specs.Misses.{IsMissed}
 use Rattle.cache_readers.proofs.MissLemmas.{HoldsMore, holds_glanced, missed_earlier}
@@ -41,18 +41,30 @@ behind_glance Holds id before after config anew glanced same count holds =
 -- a hit behind a glance is one
 pub hit_behind : (id : ItemId) (before between after : ReaderView) → GlancedAt id before between
     → CountsHit between after → CountsHit before after
-hit_behind id before between after glanced hit = hit
-    ∙ ap (λ (r : ReaderView). record r { eye = after.eye; worker = after.worker; hits = one_more r.hits; anew = after.anew }) glanced.worker
+hit_behind id before between after glanced hit = record {
+  is = hit.is
+      ∙ ap (λ (r : ReaderView). record r { eye = after.eye; worker = after.worker; hits = one_more r.hits; anew = after.anew })
+      glanced.worker;
+  sees = looks_more before.eye between.eye after.eye glanced.sees hit.sees;
+}
 
 -- and so is a miss
+pub miss_behind : (id : ItemId) (before between after : ReaderView) → GlancedAt id before between
+    → CountsMiss between after → CountsMiss before after
+miss_behind id before between after glanced missed = record {
+  is = missed.is
+      ∙ ap (λ (r : ReaderView). record r { eye = after.eye; worker = after.worker; misses = one_more r.misses; anew = after.anew; missed = after.missed })
+      glanced.worker;
+  sees = looks_more before.eye between.eye after.eye glanced.sees missed.sees;
+}
+
+-- with what it found
 pub missed_behind : (key : List ℕ) (now : ℕ) (id : ItemId) (before between after : ReaderView)
     → GlancedAt id before between → ReadsNothing key now before after → CountsMiss between after
     → KeepsRing between after → Misses key now before after
 missed_behind key now id before between after glanced nothing missed ring = record {
   nothing = nothing;
-  missed = missed
-      ∙ ap (λ (r : ReaderView). record r { eye = after.eye; worker = after.worker; misses = one_more r.misses; anew = after.anew; missed = after.missed })
-      glanced.worker;
+  missed = miss_behind id before between after glanced missed;
   ring = ring ∙ ap (λ (w : WorkerState). w.sender.ring) glanced.glances.is;
 }
 

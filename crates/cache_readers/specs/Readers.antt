@@ -1,5 +1,5 @@
 -- What contracts see of a reader of a cache, and what a get that found nothing leaves of it.
-use Rattle.std.specs.Prelude.{◌≡◌, ℕ, Bool, true, false, List}
+use Rattle.std.specs.Prelude.{◌≡◌, ℕ, Bool, true, List}
 use Rattle.bump_rules.specs.declared.configs.Config.{Config}
 use Rattle.bump_rules.specs.declared.items.ItemId.{ItemId}
 use Rattle.bump_unlocked.specs.Workers.{WorkerState}
@@ -72,20 +72,23 @@ no_counts config first worker = record {
 }
 
 -- The reader's worker made steps, and no get is counted. Where something was found, why nothing was found last is as before.
-abbrev pub CountsNothing : Bool → ReaderView → ReaderView → Type 0
-CountsNothing true before after = after ≡ record before { eye = after.eye; worker = after.worker; anew = after.anew }
-CountsNothing false before after = after ≡ record before
-    { eye = after.eye; worker = after.worker; anew = after.anew; missed = after.missed }
+-- Its eye has seen what it had seen, and what more there was.
+pub record CountsNothing (found : Bool) (before after : ReaderView) : Type 0 where
+  pub is : after ≡ record before { eye = after.eye; worker = after.worker; anew = after.anew; missed = after.missed }
+  pub why : found ≡ true → after.missed ≡ before.missed
+  pub sees : Looks before.eye after.eye
 
 -- the same, but a hit is counted
-abbrev pub CountsHit : ReaderView → ReaderView → Type 0
-CountsHit before after = after ≡ record before
-    { eye = after.eye; worker = after.worker; hits = one_more before.hits; anew = after.anew }
+pub record CountsHit (before after : ReaderView) : Type 0 where
+  pub is : after ≡ record before
+      { eye = after.eye; worker = after.worker; hits = one_more before.hits; anew = after.anew }
+  pub sees : Looks before.eye after.eye
 
 -- the same, but a miss is counted
-abbrev pub CountsMiss : ReaderView → ReaderView → Type 0
-CountsMiss before after = after ≡ record before
-    { eye = after.eye; worker = after.worker; misses = one_more before.misses; anew = after.anew; missed = after.missed }
+pub record CountsMiss (before after : ReaderView) : Type 0 where
+  pub is : after ≡ record before
+      { eye = after.eye; worker = after.worker; misses = one_more before.misses; anew = after.anew; missed = after.missed }
+  pub sees : Looks before.eye after.eye
 
 -- the ring of the reader's worker is the one that it had
 abbrev pub KeepsRing : ReaderView → ReaderView → Type 0

@@ -1,5 +1,5 @@
 //! Looks at the chunks to which the index leads.
-ghost use Rattle.std.specs.Prelude.{◌≡◌, ◌≢◌, ◌+◌, ◌≤◌, true, false, None, IfOk, IfSome, IfNone, length};
+ghost use Rattle.std.specs.Prelude.{◌≡◌, ◌≢◌, ◌+◌, ◌≤◌, true, false, None, IfOk, IfSome, length};
 ghost use Rattle.std.specs.Result.{IfErr};
 ghost use Rattle.bump_readers.specs.Glances.{IsGlancing};
 ghost use Rattle.cache_index.specs.History.{Looks, SeesIndex};

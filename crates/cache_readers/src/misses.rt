@@ -11,7 +11,7 @@ pub enum Miss {
     /// The key's item was there, and had expired: it was held, and given back.
     Expired,
 
-    /// It gave up: a thousand searches ended at lives that had ended meanwhile, or whose chunk couldn't be held. No get of a
-    /// new reader told this yet.
+    /// It gave up: a thousand searches ended at lives that had ended meanwhile, or whose chunk couldn't be held. A reader
+    /// that always found something tells this, too.
     Unknown,
 }

@@ -18,6 +18,8 @@ mod many;
 #[cfg(test)]
 mod memory;
 #[cfg(test)]
+mod misses;
+#[cfg(test)]
 mod model;
 #[cfg(test)]
 mod numbered;

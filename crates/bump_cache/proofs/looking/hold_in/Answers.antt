@@ -1,6 +1,8 @@
-use Rattle.cache_readers.specs.Readers.{CountsHit, Misses}
+use Rattle.std.proofs.Common.{IfNone, ap, ◌∙◌, subst}
+use Rattle.cache_readers.specs.Readers.{CountsHit}
 use Rattle.bump_cache.specs.Pairs.{IsPair}
-use Rattle.bump_cache.specs.Readers.{HitsItem}
+use Rattle.keyed_hash.specs.Hashes.{hash_of}
+use Rattle.bump_cache.specs.Readers.{HitsItem, MissesBy, MissesItem}
 use Rattle.bump_cache.proofs.Choices.{chosen_in, in_part_none, in_part_some, keeps_rings}
 use Rattle.bump_cache.proofs.looking.hold_in.Goals as goal
 
@@ -24,7 +26,10 @@ returns-clause-missed g c =
     in_part_none c.args.seed (g.K.Packed.as_words c.args.key.now) c.args.parts.now _ _ _
     (chosen_in c.args.seed (g.K.Packed.as_words c.args.key.now) c.pack.new.to c.args.parts.now _ c.hold_by.new.reader
     c.hash-hash.result c.pack.ensures.packed c.hash-hash.ensures c.part_in.ensures.part)
-    c.hold_by.result (Misses (g.K.Packed.as_words c.args.key.now) c.args.now) c.hold_by.ensures.missed
+    c.hold_by.result (MissesItem c.args.seed (g.K.Packed.as_words c.args.key.now) c.args.now)
+    (subst (λ hash. IfNone c.hold_by.result (MissesBy hash (g.K.Packed.as_words c.args.key.now) c.args.now
+    c.part_in.result.now c.hold_by.new.reader)) (c.hash-hash.ensures ∙ ap (hash_of c.args.seed) c.pack.ensures.packed)
+    c.hold_by.ensures.missed)
 
 pub returns-clause-ring : goal.returns-clause-ring
 returns-clause-ring g c =

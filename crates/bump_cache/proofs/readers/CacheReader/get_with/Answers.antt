@@ -1,9 +1,10 @@
 use Rattle.std.proofs.Common.{rules, ◌≡◌, length, refl, sym, ap, ◌∙◌, subst, arith}
 use Rattle.bump_steps.specs.declared.views.HoldSheet.{HoldSheet}
+use Rattle.keyed_hash.specs.declared.seed.Seed.{Seed}
 use Rattle.cache_readers.specs.Readers.{CountsHit}
 use Rattle.bump_cache.specs.Held.{hold_of, loan_of, reader_of}
 use Rattle.bump_cache.specs.Pairs.{IsPair}
-use Rattle.bump_cache.specs.Readers.{CacheReaderView, HitsItem, HoldsValue, InPart, KeepsRings, readers_by}
+use Rattle.bump_cache.specs.Readers.{CacheReaderView, HitsItem, HoldsValue, InPart, KeepsRings, MissesItem, readers_by}
 use Rattle.bump_cache.proofs.Choices.{in_same, written}
 use Rattle.bump_cache.proofs.readers.CacheReader.get_with.Goals as goal
 
@@ -49,7 +50,13 @@ returns-in_default g c =
     ap (readers_by c.self.inside.seed) c.deref_mut.ensures.value ∙ c.self.view_is in
     let long : length c.hold_in.new.parts ≡ c.self.inside.parts.len =
     omega (arith, c.hold_in.auto.parts, c.deref_mut.ensures.len) in
-    let after = written c.self.inside.seed c.self.inside.parts c.hold_in.new.parts long in (
-      (refl, (λ w. tt), in_same _ _ _ _ _ _ before after c.in_default.ensures.missed),
+    let after = written c.self.inside.seed c.self.inside.parts c.hold_in.new.parts long in
+    let words = g.K.Packed.as_words c.args.key.now in
+    let seed : c.self.inside.seed ≡ c.args.self.now.seed = ap (λ (r : CacheReaderView). r.seed) c.self.view_is in
+    let missed : InPart (MissesItem c.args.self.now.seed words c.args.now) words
+    (readers_by c.self.inside.seed c.deref_mut.result.now) (readers_by c.self.inside.seed c.hold_in.new.parts) =
+    subst (λ (s : Seed). InPart (MissesItem s words c.args.now) words (readers_by c.self.inside.seed c.deref_mut.result.now)
+    (readers_by c.self.inside.seed c.hold_in.new.parts)) seed c.in_default.ensures.missed in (
+      (refl, (λ w. tt), in_same _ _ _ _ _ _ before after missed),
       record { missed = tt; loan = tt; found = tt; counted = tt; value = tt; ring = tt },
     )

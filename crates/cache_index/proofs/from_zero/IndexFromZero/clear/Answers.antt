@@ -1,4 +1,4 @@
-use Rattle.std.proofs.Common.{◌≡◌, ℕ, List, sym, ap, ◌∙◌}
+use Rattle.std.proofs.Common.{◌≡◌, ℕ, List, slice_set, sym, ap, ◌∙◌}
 use Rattle.std.specs.Arc.{arc_value}
 use Rattle.std.proofs.lemmas.List.{get_or_read}
 use Rattle.cache_index.specs.declared.led.Way.{Way}
@@ -6,7 +6,7 @@ use Rattle.cache_index.specs.Leads.{no_way, way_to}
 use Rattle.cache_index.proofs.LedLemmas.{chunk_of_way, lifted_is_led}
 use Rattle.cache_index.proofs.WriterLemmas.{some_way, place_like, roomy_set, clear_passed}
 use Rattle.cache_index.proofs.WriterLemmas.{clear_lifted, table_clear}
-use Rattle.cache_index.proofs.HistoryLemmas.{clear_off, clear_unpass, noted_are}
+use Rattle.cache_index.proofs.HistoryLemmas.{clear_off, clear_unpass, keep_led, keep_noted, keep_without}
 use Rattle.cache_index.proofs.from_zero.IndexFromZero.clear.Goals as goal
 
 pub set_tag-requires-clause-place : goal.set_tag-requires-clause-place
@@ -64,7 +64,7 @@ invariant_of-self c =
       c.pass_no_more.ensures.table ∙ (c.set_tag.ensures.table ∙ c.self.invariant.0),
       lifted_is_led nests words c.pass_no_more.new.pen.words ways c.args.chunk c.self.invariant.1 some lifted,
       roomy_set nests ways c.args.chunk no_way c.self.invariant.2,
-      noted_are _ _ (c.pass_no_more.ensures.noted c.set_tag.ensures.noted),
+      c.pass_no_more.ensures.noted,
     )
 
 pub returns-clause-table : goal.returns-clause-table
@@ -108,3 +108,13 @@ pass_no_more-requires-clause-reached c = λ (steps : ℕ) (after : List ℕ) nea
     clear_unpass nests c.deref.result.now.nests c.deref-2.result.now.nests steps words c.set_tag.new.pen.words after ways
     c.args.chunk c.index-way.result.now nests_is nests_is_2 c.self.invariant.1 some way_is c.set_tag.ensures.words near
     passed
+
+pub set_tag-requires-clause-keeps : goal.set_tag-requires-clause-keeps
+set_tag-requires-clause-keeps c =
+    let nests = (arc_value c.self.inside.nests).nests in
+    let words = c.self.inside.pen.words in
+    let ways = c.self.inside.ways.items in
+    let some = some_way c.args.self.now nests words ways c.args.chunk (sym c.self.view_is) c.requires in
+    keep_noted _ ways (slice_set ways c.args.chunk no_way) c.self.invariant.3
+    (keep_without ways c.args.chunk (chunk_of_way ways c.args.chunk some)
+    (keep_led nests words ways c.self.invariant.1))

@@ -9,7 +9,7 @@ use Rattle.cache_index.proofs.LedLemmas.{chunk_of_way, led_anew}
 use Rattle.cache_index.proofs.WriterLemmas.{some_way, none_way, chunk_within, place_like, roomy_set}
 use Rattle.cache_index.proofs.WriterLemmas.{table_lead}
 use Rattle.cache_index.specs.History.{IsReached}
-use Rattle.cache_index.proofs.HistoryLemmas.{led_reached, noted_are}
+use Rattle.cache_index.proofs.HistoryLemmas.{keep_noted, keep_relaid, led_reached}
 use Rattle.cache_index.proofs.from_zero.IndexFromZero.lead.Goals as goal
 
 pub set_life-requires-clause-place : goal.set_life-requires-clause-place
@@ -47,7 +47,7 @@ invariant_of-self c =
           some within anew way_is),
       roomy_set nests (slice_set ways c.args.old no_way) chunk way (roomy_set nests ways c.args.old no_way
           c.self.invariant.2),
-      noted_are _ _ c.set_life.ensures.noted,
+      c.set_life.ensures.noted,
     )
 
 pub returns-clause-table : goal.returns-clause-table
@@ -88,3 +88,16 @@ set_life-requires-clause-reached c =
     (led_reached nests (slice_set words way.place (life_number chunk c.args.life.generation)) next
     (led_anew nests words ways c.args.old chunk c.args.life.generation way c.self.invariant.1 c.self.invariant.2
     some within anew way_is)))
+
+pub set_life-requires-clause-keeps : goal.set_life-requires-clause-keeps
+set_life-requires-clause-keeps c =
+    let nests = (arc_value c.self.inside.nests).nests in
+    let words = c.self.inside.pen.words in
+    let ways = c.self.inside.ways.items in
+    let some = some_way c.args.self.now nests words ways c.args.old (sym c.self.view_is) c.requires.old in
+    let way = c.index-way.result.now in
+    let way_is = get_or_read ways c.args.old way (chunk_of_way ways c.args.old some) c.index-way.ensures no_way in
+    let chunk = c.args.life.chunk in
+    keep_noted _ ways (slice_set (slice_set ways c.args.old no_way) chunk way) c.self.invariant.3
+    (keep_relaid nests words ways c.args.old chunk way c.self.invariant.1 some
+    (chunk_within c.args.self.now nests words ways chunk (sym c.self.view_is) c.requires.chunk) way_is)

@@ -6,9 +6,15 @@ use Rattle.cache_index.specs.Views.{NestsView}
 use Rattle.cache_index.proofs.LedLemmas.{laid_is_led}
 use Rattle.cache_index.proofs.WriterLemmas.{none_way, chunk_within, place_like, roomy_set, put_laid, table_put}
 use Rattle.cache_index.specs.History.{IsReached}
-use Rattle.cache_index.proofs.HistoryLemmas.{led_reached, noted_are, put_life}
+use Rattle.cache_index.proofs.HistoryLemmas.{keep_laid, keep_led, keep_noted, led_reached, put_life}
 use Rattle.cache_index.proofs.AnswerLemmas.{is_off}
 use Rattle.cache_index.proofs.from_zero.IndexFromZero.put.Goals as goal
+
+pub take_place-requires-clause-reached : goal.take_place-requires-clause-reached
+take_place-requires-clause-reached c =
+    let nests_is = ap (λ (v : NestsView). v.nests) c.deref.ensures in
+    subst (λ (n : ℕ). IsReached n c.self.inside.pen.words c.self.inside.ways.items) (sym nests_is)
+    (led_reached (arc_value c.self.inside.nests).nests c.self.inside.pen.words c.self.inside.ways.items c.self.invariant.1)
 
 pub unreachable-requires : goal.unreachable-requires
 unreachable-requires c =
@@ -39,7 +45,7 @@ invariant_of-self c =
           (none_way c.args.self.now nests words ways chunk (sym c.self.view_is) c.requires.anew)
           place c.in-Some.ensures.off laid,
       roomy_set nests ways chunk way c.self.invariant.2,
-      noted_are _ _ c.set_tag.ensures.noted,
+      c.set_tag.ensures.noted,
     )
 
 pub returns-clause-table : goal.returns-clause-table
@@ -61,12 +67,6 @@ returns-clause-table c =
     (sym c.self.view_is) c.self.invariant.1 c.self.invariant.2
     (chunk_within c.args.self.now nests words ways chunk (sym c.self.view_is) c.requires.chunk)
     place c.in-Some.ensures.off laid
-
-pub take_place-requires-clause-reached : goal.take_place-requires-clause-reached
-take_place-requires-clause-reached c =
-    let nests_is = ap (λ (v : NestsView). v.nests) c.deref.ensures in
-    subst (λ (n : ℕ). IsReached n c.self.inside.pen.words c.self.inside.ways.items) (sym nests_is)
-    (led_reached (arc_value c.self.inside.nests).nests c.self.inside.pen.words c.self.inside.ways.items c.self.invariant.1)
 
 pub set_life-requires-clause-reached : goal.set_life-requires-clause-reached
 set_life-requires-clause-reached c =
@@ -103,3 +103,20 @@ set_tag-requires-clause-reached c = λ (tagged : List ℕ) tag_is.
     (chunk_within c.args.self.now nests words ways chunk (sym c.self.view_is) c.requires.chunk)
     (none_way c.args.self.now nests words ways chunk (sym c.self.view_is) c.requires.anew)
     place c.in-Some.ensures.off laid))
+
+pub set_life-requires-clause-keeps : goal.set_life-requires-clause-keeps
+set_life-requires-clause-keeps c =
+    let ways = c.self.inside.ways.items in
+    keep_noted _ ways ways c.take_place.ensures.noted
+    (keep_led (arc_value c.self.inside.nests).nests c.self.inside.pen.words ways c.self.invariant.1)
+
+pub set_tag-requires-clause-keeps : goal.set_tag-requires-clause-keeps
+set_tag-requires-clause-keeps c =
+    let nests = (arc_value c.self.inside.nests).nests in
+    let words = c.self.inside.pen.words in
+    let ways = c.self.inside.ways.items in
+    let chunk = c.args.life.chunk in
+    let way : Way = record { hash = c.args.hash; place = c.in-Some.place } in
+    keep_noted _ ways (slice_set ways chunk way) c.set_life.ensures.noted
+    (keep_laid nests words ways chunk way c.self.invariant.1
+    (chunk_within c.args.self.now nests words ways chunk (sym c.self.view_is) c.requires.chunk) c.in-Some.ensures.off)

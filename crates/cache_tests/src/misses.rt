@@ -1,0 +1,150 @@
+//! What reads find, and why they found nothing, in small caches behind each sequence of a few calls.
+
+ghost use Rattle.bump_cache.specs.Opening.{IsNamed};
+
+use crate::stands::{Entry, Stand, config_of};
+use bump_cache::{CacheBlank, LogName, Miss, Name};
+use std::alloc::{AllocError, Global};
+use std::marker::Brand;
+use std::process::Abort;
+use std::sync::Wait;
+use std::test::Fail;
+
+// A sequence has so many calls, each one of so many kinds.
+const CALLS: u32 = 4;
+
+const KINDS: u32 = 7;
+
+// Nothing is ever put under this key.
+const NEVER_PUT: u64 = 2;
+
+// A cache of one or two items, the ticks at which those of the keys 0 and 1 expire, and the time.
+#[derive(Drop)]
+struct Small<N: Name + LogName> {
+    stand: Stand<N, u64, u64>,
+    holds_one: bool,
+    zero: Option<u64>,
+    one: Option<u64>,
+    now: u64,
+}
+
+impl<N: Name + LogName> Small<N> {
+    // When the item of a key expires, or 0 where it doesn't; None where there is none.
+    fn expires(&self, key: u64) -> Option<u64> {
+        match key {
+            0 => self.zero,
+            1 => self.one,
+            _ => None,
+        }
+    }
+
+    // Where the cache holds one item, that of the other key is evicted.
+    fn put<R: Wait + Abort>(&mut self, rt: &R, key: u64, expires: u64) {
+        let entry = Entry { key, value: key };
+        let put = self.stand.put_until(rt, &entry, expires, self.now);
+        assert!(rt; put.is_ok());
+        if self.holds_one {
+            self.zero = None;
+            self.one = None;
+        }
+        if key == 0 {
+            self.zero = Some(expires);
+        } else {
+            self.one = Some(expires);
+        }
+    }
+
+    fn remove<R: Wait + Abort>(&mut self, rt: &R, key: u64) {
+        self.stand.remove(rt, &key, self.now);
+        if key == 0 {
+            self.zero = None;
+        } else {
+            self.one = None;
+        }
+    }
+
+    // One more call of a sequence, by its kind.
+    fn call<R: Wait + Abort>(&mut self, rt: &R, kind: u32) {
+        let soon = self.now.saturating_add(1);
+        match kind {
+            0 => self.put(rt, 0, 0),
+            1 => self.put(rt, 1, 0),
+            2 => self.put(rt, 0, soon),
+            3 => self.put(rt, 1, soon),
+            4 => self.remove(rt, 0),
+            5 => self.remove(rt, 1),
+            _ => self.now = soon,
+        }
+    }
+
+    // Each read of a key finds what is there, and where it finds nothing it says why. A read of another key comes before
+    // each, so that what was said before is another answer.
+    fn check<R: Wait + Abort>(&mut self, rt: &R, key: u64) {
+        let expires = self.expires(key);
+        let is_there = expires.is_some_and(|at| at == 0 || self.now < at);
+        let wanted = if is_there { Some(key) } else { None };
+        let miss = if expires.is_some() {
+            Miss::Expired
+        } else {
+            Miss::Absent
+        };
+        assert_eq!(rt; self.stand.look(rt, &key, self.now), wanted);
+        for read in 0..3 {
+            assert!(rt; !self.stand.contains(0, &NEVER_PUT, self.now));
+            let found = match read {
+                0 => self.stand.get(0, &key, self.now),
+                1 => self.stand.peek(0, &key, self.now),
+                _ => self.stand.contains(0, &key, self.now).then_some(key),
+            };
+            assert_eq!(rt; found, wanted, "read {read} of key {key}");
+            let told = if is_there { Miss::Absent } else { miss };
+            assert_eq!(rt;
+                self.stand.last_miss(0, &key),
+                Some(told),
+                "read {read} of key {key}"
+            );
+        }
+    }
+}
+
+// Makes the calls of a sequence, and reads behind each.
+fn follow<N: Name + LogName, R: Wait + Abort>(
+    rt: &R,
+    alloc: Global,
+    blank: CacheBlank<u64, u64>,
+    holds_one: bool,
+    sequence: u32,
+) -> Result<(), AllocError>
+    requires { IsNamed N.table N.book N.name N.parts blank }
+{
+    let stand = Stand::<N, u64, u64>::open(alloc, rt, blank)?;
+    let mut small = Small {
+        stand,
+        holds_one,
+        zero: None,
+        one: None,
+        now: 1,
+    };
+    let mut rest = sequence;
+    for _ in 0..CALLS {
+        small.call(rt, rest % KINDS);
+        rest /= KINDS;
+        for key in 0..3 {
+            small.check(rt, key);
+        }
+    }
+    Ok(())
+}
+
+#[test]
+fn each_read_says_what_is_there_or_why_nothing_is(rt: HostRuntime) -> Result<(), Fail> {
+    let alloc = rt.alloc();
+    for items in [1, 2, 3] {
+        for sequence in 0..KINDS.pow(CALLS) {
+            let config = config_of(items, 1, 20, 40, 2);
+            let blank = CacheBlank::<u64, u64>::new(alloc, &config)?;
+            follow::<Brand, _>(&rt, alloc, blank, items == 1, sequence)?;
+        }
+    }
+    Ok(())
+}
