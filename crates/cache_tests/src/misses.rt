@@ -18,7 +18,7 @@ const KINDS: u32 = 7;
 // Nothing is ever put under this key.
 const NEVER_PUT: u64 = 2;
 
-// A cache of one or two items, the ticks at which those of the keys 0 and 1 expire, and the time.
+// A cache of one to three items, the ticks at which those of the keys 0 and 1 expire, and the time.
 #[derive(Drop)]
 struct Small<N: Name + LogName> {
     stand: Stand<N, u64, u64>,
