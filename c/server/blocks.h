@@ -1,6 +1,7 @@
 /* Blocks of memory for values that lie out of line. Those of four pages and more are mappings of their own, which go
  * back to the system by themselves: among malloc's pieces, small ones would come where a large one was, and none of its
- * pages could go back. */
+ * pages could go back. But the system lets a process have so many mappings: where these have their part of them, malloc
+ * makes further ones. */
 #ifndef BLOCKS_H
 #define BLOCKS_H
 

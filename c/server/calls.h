@@ -74,7 +74,7 @@ struct queues *queues_open(void);
 void queues_close(struct queues *queues);
 
 /* Makes all of them: each has its result then, and none waited. How many were made together: all, or without queues
- * none. */
+ * none. Where io_uring fails and fails, the rest is made one by one, as all are from then on, by each thread. */
 uint32_t calls_make(struct calls *calls, struct queues *queues);
 
 #endif

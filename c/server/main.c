@@ -37,11 +37,19 @@ static void take_signals(sigset_t *before) {
   pthread_sigmask(SIG_BLOCK, &ours, before);
 }
 
+/* A thread's stack: it needs some tens of kilobytes. Where memory is locked (-k) the process has all of it, and the
+ * usual one has eight megabytes. */
+enum { STACK_BYTES = 1 << 19 };
+
 /* The name is what tools show of a thread: at most 15 letters. */
 static void start_thread(struct thread *thread, uint32_t number, const char *name, void *(*run)(void *)) {
+  pthread_attr_t attributes;
   thread->number = number;
   if (!network_prepare(thread)) process_fail("can't wait for connections");
-  if (pthread_create(&thread->id, NULL, run, thread) != 0) process_fail("can't start a thread");
+  if (pthread_attr_init(&attributes) != 0 || pthread_attr_setstacksize(&attributes, STACK_BYTES) != 0 ||
+      pthread_create(&thread->id, &attributes, run, thread) != 0)
+    process_fail("can't start a thread");
+  pthread_attr_destroy(&attributes);
   pthread_setname_np(thread->id, name);
 }
 

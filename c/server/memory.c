@@ -7,12 +7,16 @@
 #include <stdatomic.h>
 #include <stdio.h>
 #include <stdlib.h>
+#include <sys/mman.h>
 #include <time.h>
 #include <unistd.h>
 #include "pages.h"
 #include "settings.h"
 
 enum { BEFORE_BLOCK = sizeof(size_t) };
+
+/* Where memory is locked (-k) pages go back by this alone, which Linux has from 5.18 on, and headers later. */
+enum { DONTNEED_LOCKED = 24 };
 
 /* Pieces that come free before they are put in order. For a block of SORTING_BYTES malloc looks at all of them: few
  * pieces have just this size, of which it would take the first. */
@@ -43,6 +47,7 @@ static struct {
 } taken[MEMORY_KIND_COUNT];
 static _Atomic uint64_t now_resident, exceeded;
 static uint64_t at_start; /* what the process had before it had any of these */
+static uint64_t mappings; /* that the process may have */
 
 /* The maintainer's: what counts so that more items go, of that what came last, and what the process had before. */
 static struct {
@@ -63,13 +68,30 @@ static uint64_t resident(void) {
   return strtoull(second, NULL, 10) * (uint64_t)sysconf(_SC_PAGESIZE);
 }
 
+/* Linux's own number, where it tells none; and the part that malloc may have of them. */
+enum { MAPPINGS_USUAL = 65530, MAPPINGS_PART = 8 };
+
+static uint64_t mappings_allowed(void) {
+  char text[32] = "";
+  int file = open("/proc/sys/vm/max_map_count", O_RDONLY | O_CLOEXEC);
+  if (file < 0) return MAPPINGS_USUAL;
+  uint64_t number = read(file, text, sizeof text - 1) > 0 ? strtoull(text, NULL, 10) : 0;
+  close(file);
+  return number > 0 ? number : MAPPINGS_USUAL;
+}
+
+uint64_t memory_mappings(void) { return mappings; }
+
 /* All threads have one heap: with a heap for each, what one frees no other one could use, and the process would take
  * several times -m. A mapping goes back to the system by itself: always, where malloc would choose by what was freed
- * before. The end of the heap doesn't, since it may be large, and whoever frees would wait: pages_give_back does it. */
+ * before. The end of the heap doesn't, since it may be large, and whoever frees would wait: pages_give_back does it.
+ * Where malloc has its part of the mappings, large pieces lie in the heap, too. */
 void memory_begin(void) {
+  mappings = settings.mappings > 0 ? settings.mappings : mappings_allowed();
 #ifdef __GLIBC__
   mallopt(M_ARENA_MAX, 1);
   mallopt(M_MMAP_THRESHOLD, MEMORY_MAPPED_LEAST);
+  mallopt(M_MMAP_MAX, mappings / MAPPINGS_PART < INT_MAX ? (int)(mappings / MAPPINGS_PART) : INT_MAX);
   mallopt(M_TRIM_THRESHOLD, INT_MAX);
   mallopt(M_MXFAST, 0); /* else small pieces are joined when a large one is asked for: all at once */
 #endif
@@ -85,6 +107,11 @@ void memory_free(void *block) {
   void *volatile sorts = malloc(SORTING_BYTES); /* or the compiler would leave both out */
   free(sorts);
 #endif
+}
+
+void memory_give_pages(void *at, size_t bytes) {
+  if (madvise(at, bytes, MADV_DONTNEED) == 0) return;
+  madvise(at, bytes, DONTNEED_LOCKED); /* or they stay: there is nothing else to be done */
 }
 
 void memory_take(enum memory_kind kind, uint64_t bytes) {

@@ -18,6 +18,12 @@ enum { MEMORY_MAPPED_LEAST = 1 << 17 };
 /* Says how the C library is to take and give back memory. Before any other thread is there. */
 void memory_begin(void);
 
+/* How many mappings the system lets the process have, as it was at the start. */
+uint64_t memory_mappings(void);
+
+/* Gives whole pages back to the system. Their addresses stay, and have pages again when they are written to. */
+void memory_give_pages(void *at, size_t bytes);
+
 /* free, for what many come free of at a time: malloc puts what came free in order when it is called next, and takes
  * 3 milliseconds for 10,000 pieces. So this has it do that for a few at a time. */
 void memory_free(void *block);

@@ -89,10 +89,10 @@ static bool listen_on_path(const char *path) {
 static bool listen_on_address(const struct addrinfo *info, const char *what) {
   int on = 1, file = socket(info->ai_family, info->ai_socktype | SOCK_NONBLOCK | SOCK_CLOEXEC, info->ai_protocol);
   if (file < 0) return perror(what), errno == EAFNOSUPPORT; /* a host may have addresses that this machine hasn't */
-  setsockopt(file, SOL_SOCKET, SO_REUSEADDR, &on, sizeof on);
-  setsockopt(file, SOL_SOCKET, SO_KEEPALIVE, &on, sizeof on); /* accepted ones have it, too: so who vanished goes */
-  if (info->ai_family == AF_INET6) setsockopt(file, IPPROTO_IPV6, IPV6_V6ONLY, &on, sizeof on);
-  if (bind(file, info->ai_addr, info->ai_addrlen) == 0) return add_listener(file, what);
+  bool all = setsockopt(file, SOL_SOCKET, SO_REUSEADDR, &on, sizeof on) == 0;
+  all &= setsockopt(file, SOL_SOCKET, SO_KEEPALIVE, &on, sizeof on) == 0; /* accepted ones have it: who vanished goes */
+  all &= info->ai_family != AF_INET6 || setsockopt(file, IPPROTO_IPV6, IPV6_V6ONLY, &on, sizeof on) == 0;
+  if (all && bind(file, info->ai_addr, info->ai_addrlen) == 0) return add_listener(file, what);
   perror(what);
   close(file);
   return false;
@@ -223,17 +223,32 @@ static void tell_watchers(const struct connection *connection, const char *reaso
                                                          .reason = reason });
 }
 
-/* Both under the lock: so the thread can't end a connection that it isn't told of yet. */
-static bool add_connection(struct connection *connection) {
+/* Puts a connection first in its thread's list. Under the lock of the list. */
+static void link_connection(struct connection *connection) {
   struct thread *thread = connection->thread;
-  struct epoll_event event = { .events = EPOLLIN, .data.ptr = connection };
-  pthread_mutex_lock(&thread->lock);
   connection->previous = &thread->connections;
   connection->next = thread->connections;
   if (connection->next != NULL) connection->next->previous = &connection->next;
   thread->connections = connection;
+}
+
+/* Takes it out, where it is in the list. */
+static void unlink_connection(struct connection *connection) {
+  pthread_mutex_lock(&connection->thread->lock);
+  if (connection->next != NULL) connection->next->previous = connection->previous;
+  if (connection->previous != NULL) *connection->previous = connection->next;
+  pthread_mutex_unlock(&connection->thread->lock);
+}
+
+/* Both under the lock: so the thread, which is told of it at once, ends none that isn't in its list yet. false: the
+ * epoll has no room, and the thread knows nothing of it. */
+static bool add_connection(struct connection *connection) {
+  struct thread *thread = connection->thread;
+  struct epoll_event event = { .events = EPOLLIN, .data.ptr = connection };
+  pthread_mutex_lock(&thread->lock);
   connection->awaits = event.events;
   bool added = epoll_ctl(thread->events, EPOLL_CTL_ADD, connection->file, &event) == 0;
+  if (added) link_connection(connection);
   pthread_mutex_unlock(&thread->lock);
   return added;
 }
@@ -241,10 +256,7 @@ static bool add_connection(struct connection *connection) {
 static void end_connection(struct connection *connection) {
   static const char *const REASONS[] = { "error", "normal", "idle_timeout", "shutdown" };
   struct thread *thread = connection->thread;
-  pthread_mutex_lock(&thread->lock);
-  if (connection->next != NULL) connection->next->previous = connection->previous;
-  *connection->previous = connection->next;
-  pthread_mutex_unlock(&thread->lock);
+  unlink_connection(connection);
   sit(connection->file, NULL);
   watchers_leave(connection);
   tell_watchers(connection, REASONS[connection->closing]);
@@ -270,7 +282,7 @@ static void reject(int file) {
 static void take_in(int file) {
   static uint32_t turn;
   int on = 1;
-  setsockopt(file, IPPROTO_TCP, TCP_NODELAY, &on, sizeof on);
+  setsockopt(file, IPPROTO_TCP, TCP_NODELAY, &on, sizeof on); /* refused by a socket of -s, which doesn't delay */
   struct connection *connection = calloc(1, sizeof *connection);
   if (connection == NULL) {
     count(&FIRST_THREAD->counters, COUNT_malloc_fails, 1);
@@ -307,7 +319,7 @@ void network_accept(const sigset_t *blocked) {
   struct pollfd wait[LISTENERS_MOST];
   for (int i = 0; i < listeners_count; i++) wait[i] = (struct pollfd){ .fd = listeners[i], .events = POLLIN };
   while (!atomic_load(&is_ending)) {
-    if (ppoll(wait, (nfds_t)listeners_count, NULL, blocked) <= 0) continue;
+    if (ppoll(wait, (nfds_t)listeners_count, NULL, blocked) <= 0) continue; /* a signal */
     for (int i = 0; i < listeners_count; i++)
       if (wait[i].revents != 0) accept_some(listeners[i]);
   }
@@ -324,8 +336,10 @@ bool network_prepare(struct thread *thread) {
   return epoll_ctl(thread->events, EPOLL_CTL_ADD, thread->wake, &event) == 0;
 }
 
+/* Refused where it was written to very often and never read: then the thread is woken anyway. */
 void network_wake(struct thread *thread) { eventfd_write(thread->wake, 1); }
 
+/* The file is in the epoll, where a change needs no memory: so it isn't refused. */
 static void wait_for(struct connection *connection, uint32_t events) {
   if (connection->awaits == events) return;
   connection->awaits = events;
@@ -447,11 +461,11 @@ static bool attend_event(struct connection *connection, bool is_alone) {
   return connection->ends = true;
 }
 
-/* Some of the connections that watch have lines to take. */
+/* The thread was woken: some of the connections that watch may have lines to take. */
 static void attend_watchers(struct thread *thread) {
   eventfd_t times;
   uint32_t from = 0;
-  eventfd_read(thread->wake, &times);
+  eventfd_read(thread->wake, &times); /* it was written to, and nobody else reads it */
   for (struct connection *connection; (connection = watchers_of(thread, &from)) != NULL;)
     if (!connection->is_yielded) attend(connection);
 }
@@ -561,16 +575,23 @@ static int64_t milliseconds(void) {
   return (int64_t)time.tv_sec * 1000 + time.tv_nsec / 1000000;
 }
 
+/* Under the lock of the list: a last connection may just be accepted. */
+static struct connection *first_connection(struct thread *thread) {
+  pthread_mutex_lock(&thread->lock);
+  struct connection *first = thread->connections;
+  pthread_mutex_unlock(&thread->lock);
+  return first;
+}
+
 /* Sends what was answered, as long as there is time, and closes all connections. Nobody gets more time by asking on, or
  * by reading a little at a time. */
 static void farewell(struct thread *thread) {
   const int64_t end = milliseconds() + FAREWELL_MILLISECONDS;
   while (thread->yielded != NULL && milliseconds() < end) attend_each(&thread->yielded);
-  while (thread->connections != NULL) {
-    struct connection *connection = thread->connections;
+  for (struct connection *connection; (connection = first_connection(thread)) != NULL;) {
     struct pollfd wait = { .fd = connection->file, .events = POLLOUT };
     for (int64_t left; sending_go_on(connection) != SENT_ALL && (left = end - milliseconds()) > 0;)
-      poll(&wait, 1, (int)left);
+      poll(&wait, 1, (int)left); /* whatever it tells: sending tells what goes */
     end_connection(connection);
   }
   buffers_free(thread);
@@ -595,7 +616,7 @@ void *network_serve(void *given) {
   bool are_idle = false;
   while (!atomic_load(&is_ending)) {
     bool is_woken = false, are_due = false; /* those that watch, and those that are parked */
-    int events = call_wait(thread->events, event, EVENTS_MOST, patience(thread, are_idle));
+    int events = call_wait(thread->events, event, EVENTS_MOST, patience(thread, are_idle)); /* -1: none, and a signal */
     thread_turns(thread);
     thread->now = clock_now();
     bool is_another_tick = thread->now != looked;

@@ -36,7 +36,8 @@ void *network_serve(void *thread);
 /* Accepts connections until the server is to end. Between, signals come that aren't in this set. */
 void network_accept(const sigset_t *blocked);
 
-/* Wakes a thread, so that it sees that the server is to end. */
+/* Wakes a thread, so that it sees what there is for it: that the server is to end, lines for those who watch, values
+ * that wait for others; for the maintainer, room to be made, or a shelf to be opened. */
 void network_wake(struct thread *thread);
 
 #endif

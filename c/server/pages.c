@@ -3,7 +3,6 @@
 #include <stddef.h>
 #include <stdint.h>
 #include <stdlib.h>
-#include <sys/mman.h>
 #include <unistd.h>
 #include "memory.h"
 
@@ -38,7 +37,7 @@ static bool take(size_t bytes) {
   taken = piece;
   first = (first + sizeof *piece + PAGE - 1) / PAGE * PAGE;
   behind = behind / PAGE * PAGE;
-  if (first < behind) madvise((void *)first, behind - first, MADV_DONTNEED);
+  if (first < behind) memory_give_pages((void *)first, behind - first);
   return true;
 }
 

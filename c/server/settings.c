@@ -285,10 +285,11 @@ static void read_measure(int option) {
 }
 
 /* What memcached's own tests want of a build for tests: as many bytes in use before the start, and a command by which
- * time passes faster. Here the environment asks for them. */
+ * time passes faster. Here the environment asks for them, and for a system with few mappings. */
 static void read_environment(void) {
-  const char *before = getenv("T_MEMD_INITIAL_MALLOC");
+  const char *before = getenv("T_MEMD_INITIAL_MALLOC"), *mappings = getenv("BUMP_SERVER_MAPPINGS");
   if (before != NULL) settings.bytes_before = strtoull(before, NULL, 10);
+  if (mappings != NULL) settings.mappings = strtoull(mappings, NULL, 10);
   settings.may_move_time = getenv("BUMP_SERVER_DEBUGTIME") != NULL;
 }
 

@@ -53,6 +53,7 @@ struct settings {
   bool walks;            /* the end frees each item, though the process's end frees all */
   bool may_move_time;    /* for tests */
   uint64_t bytes_before; /* said to be in use already: for tests */
+  uint64_t mappings;     /* that the process may have: for tests; 0: as the system says */
   _Atomic int verbosity;
   _Atomic uint64_t memory;
   _Atomic int hot_percent;

@@ -115,10 +115,6 @@ uint64_t shelf_class_charged(uint32_t class);
 /* Where a key's item of a class is to stand: one that gets new items, or the first one. */
 uint16_t shelf_number(uint32_t class, uint32_t hash);
 
-/* Lets a shelf get new items, and opens it for that: the first of its class, or the one behind those that are open.
- * false: no memory. */
-bool shelf_feed(struct shelf *shelf);
-
 /* Has an item's shelf open, where it is to be linked. Its own may have been closed since it was chosen, if its value
  * came in parts: then it gets another one. false: no memory. */
 bool shelf_choose(struct item *item);

@@ -122,8 +122,9 @@ static bool open_next(struct shelf *shelf) {
   return is_made;
 }
 
-/* Of those who store none waits for it, but others of this class that find no chunk. */
-bool shelf_feed(struct shelf *shelf) {
+/* Lets a shelf get new items, and opens it for that: the first of its class, or the one behind those that are open. Of
+ * those who store none waits for it, but others of this class that find no chunk. false: no memory. */
+static bool feed(struct shelf *shelf) {
   struct of_class *class = &of_class[shelf->class];
   if (shelf->number < behind_fed(shelf->class)) return true;
   pthread_mutex_lock(&class->changing);
@@ -138,7 +139,7 @@ bool shelf_choose(struct item *item) {
   uint32_t class = shelves[item->shelf].class;
   if (item->shelf < behind_fed(class)) return true;
   item->shelf = shelf_number(class, item->hash);
-  return shelf_feed(&shelves[item->shelf]);
+  return feed(&shelves[item->shelf]);
 }
 
 /* Whether a class gains by one more shelf: not where memory is full, and nearly all items are its own. Then it would
@@ -179,7 +180,7 @@ static void open_ahead(uint32_t class, bool forgets) {
   uint32_t behind = behind_fed(class);
   if (behind == shelf_first(class) || !atomic_load(&shelves[behind - 1].is_nearly_full)) return;
   struct shelf *next = next_to_feed(class);
-  if (next != NULL && is_nearly_full(&shelves[behind - 1])) shelf_feed(next);
+  if (next != NULL && is_nearly_full(&shelves[behind - 1])) feed(next);
   else if (forgets) atomic_store(&shelves[behind - 1].is_nearly_full, false);
 }
 
@@ -211,7 +212,7 @@ struct shelf *shelf_lock_for(struct item *item) {
   uint32_t class = own->class, first = shelf_first(class), number = behind_fed(class);
   while (number > first)
     if (lock_with_chunk(&shelves[--number])) return &shelves[item->shelf = (uint16_t)number];
-  while ((next = next_to_feed(class)) != NULL && shelf_feed(next))
+  while ((next = next_to_feed(class)) != NULL && feed(next))
     if (lock_with_chunk(next)) return &shelves[item->shelf = (uint16_t)next->number];
   for (;; own = &shelves[item->shelf = (uint16_t)first]) {
     shelf_lock(own);

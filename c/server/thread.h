@@ -20,9 +20,9 @@ enum { SPARE_BLOCKS_MOST = 14 };
 struct thread {
   alignas(64) uint32_t number; /* of its worker in each shelf */
   int events;                  /* an epoll of its connections */
-  int wake;                    /* written to when it is to end */
+  int wake;                    /* written to when there is something for it, beside its connections */
   pthread_t id;
-  pthread_mutex_t lock;           /* of the list */
+  pthread_mutex_t lock;           /* of the list, to which the first thread adds */
   struct connection *connections; /* its own */
   struct connection *yielded;     /* those that have more to do, in a ring: the last one */
   struct connection *parked;      /* those whose values wait for others to end, in another ring */

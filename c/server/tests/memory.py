@@ -11,7 +11,7 @@ from pathlib import Path
 
 from c_checks import tell, why
 from client import Client, is_right, value_for
-from started import ENDED, Server, run
+from started import ENDED, WHO, Server, run
 
 HERE = Path(__file__).resolve().parent
 MEGABYTE = 1 << 20
@@ -23,6 +23,15 @@ IDLE = 10_000
 
 def resident(server):
     return int(Path(f"/proc/{server.process.pid}/statm").read_text().split()[1]) * resource.getpagesize()
+
+
+def addresses(server):
+    """The bytes of addresses that it has, with pages or without."""
+    return int(Path(f"/proc/{server.process.pid}/statm").read_text().split()[0]) * resource.getpagesize()
+
+
+def mappings(server):
+    return len(Path(f"/proc/{server.process.pid}/maps").read_text().splitlines())
 
 
 def most_for(megabytes, busy=1):
@@ -64,6 +73,8 @@ class Memory:
         self.check_mixes()
         self.check_wide_mix()
         self.check_few_mappings()
+        self.check_many_mappings()
+        self.check_locked()
         self.check_sizes_in_turn()
         self.check_three_sizes()
         self.check_deaf()
@@ -115,21 +126,84 @@ class Memory:
             tell("then it ends with nothing left", server.end())
 
     def check_few_mappings(self):
-        """Where the system has no mapping more to cut one in two, pages go back all the same, and values are right."""
+        """Where the system has no mapping more, values find memory all the same, their pages go back, and they are right."""
         shared = self.folder / "few_mappings.so"
         if not tell("few_mappings.c compiles", why(run(["gcc", "-std=c11", "-O2", "-Wall", "-Wextra", "-Werror", "-shared", "-fPIC", HERE / "few_mappings.c", "-o", shared]))):
             return
         with Server(self.program, "-m", 64, environment={"LD_PRELOAD": str(shared)}) as server:
-            client, draw, wrong, hits = Client(server.port), random.Random(2), 0, 0
-            for number in range(10_000):
-                key, value = b"k%d" % draw.randrange(3000), value_for(b"few", number, int(10_000 * 12 ** draw.random()))
-                if draw.random() < 0.6:
-                    client.socket.sendall(b"set %s 0 0 %d noreply\r\n%s\r\n" % (key, len(value), value))
-                else:
-                    value = client.get(key)
-                    hits, wrong = hits + (value is not None), wrong + (value is not None and not is_right(b"few", value))
-            tell(f"{hits} gets hit while mappings can't be given up", f"{wrong} are wrong" if wrong else "" if hits > 500 else "too few")
-            self.tell_resident("-m 64, with such values", server, most_for(64))
+            client, draw, before = Client(server.port), random.Random(2), addresses(server)
+            for name, sizes in (("10,000 to 120,000", [int(10_000 * 12 ** draw.random()) for _ in range(5000)]),
+                                ("140,000 to 1,000,000", [draw.randrange(7, 50) * 20_000 for _ in range(3000)])):
+                hits, wrong = self.ask_at_random(client, draw, sizes)
+                tell(f"{hits} gets of {name} bytes hit while mappings can't be given up", f"{wrong} are wrong" if wrong else "" if hits > 100 else "too few")
+                self.tell_resident("-m 64, with such values", server, most_for(64))
+            fails = client.stats()["malloc_fails"]
+            tell("all of them find memory", "" if fails == "0" else f"{fails} don't")
+            # Of each of 43 sizes as many mappings at most as there were values at once.
+            has = (addresses(server) - before) / MEGABYTE
+            tell(f"they have {has:.0f} megabytes of addresses", "" if has < 200 else "more than 200")
+            tell("then it ends with nothing left", server.end())
+        with Server(self.program, "-m", 64, environment={"LD_PRELOAD": str(shared), "FEW_MAPPINGS": "kept"}) as server:
+            client, other, before = Client(server.port), Client(server.port), addresses(server)
+            for size in (500_000, 90_000):
+                wrong = [i for i in range(400) if not self.set_in_parts(client, other, b"p%d" % (i % 3), value_for(b"p", i, size))]
+                has = (addresses(server) - before) / MEGABYTE
+                tell(f"400 values of {size:,} bytes in parts, for three keys, have {has:.0f} megabytes of addresses", f"{wrong[:5]} are wrong" if wrong else
+                     "" if has < 20 else "more than 20")
+            tell("then it ends with nothing left", server.end())
+
+    @staticmethod
+    def set_in_parts(client, other, key, value):
+        """Whether it is stored, and is what comes back. The other client is answered between: so the first part was received before."""
+        client.socket.sendall(b"set %s 0 0 %d\r\n%s" % (key, len(value), value[:20_000]))
+        time.sleep(0.001)
+        other.ask(b"mn\r\n")
+        return client.ask(value[20_000:] + b"\r\n") == b"STORED\r\n" and client.get(key) == value
+
+    @staticmethod
+    def ask_at_random(client, draw, sizes):
+        """Sets a value of each size, or gets one. How many gets hit, and how many were wrong."""
+        hits, wrong = 0, 0
+        for number, size in enumerate(sizes):
+            key, value = b"k%d" % draw.randrange(300_000_000 // max(sizes)), value_for(b"few", number, size)
+            if draw.random() < 0.6:
+                client.socket.sendall(b"set %s 0 0 %d noreply\r\n%s\r\n" % (key, len(value), value))
+            else:
+                value = client.get(key)
+                hits, wrong = hits + (value is not None), wrong + (value is not None and not is_right(b"few", value))
+        return hits, wrong
+
+    def check_many_mappings(self):
+        """Values have a part of the mappings that the system lets a process have, though they go at random: the others are malloc's."""
+        for size, allowed, most in ((17_000, 2000, 500), (140_000, 200, 100)):
+            with Server(self.program, "-m", 128, environment={"BUMP_SERVER_MAPPINGS": str(allowed)}) as server:
+                client, draw, before, wrong, has = Client(server.port), random.Random(3), mappings(server), 0, []
+                keys = [b"m%d" % i for i in range(110 * MEGABYTE // size)]
+                for _ in range(4):
+                    for key in draw.sample(keys, len(keys)):
+                        value = value_for(key, len(has), size)
+                        client.socket.sendall(b"set %s 0 0 %d noreply\r\n%s\r\n" % (key, len(value), value))
+                    there = [(key, client.get(key)) for key in keys[::7]]
+                    wrong += sum(value is not None and not is_right(key, value) for key, value in there)
+                    client.ask(b"".join(b"delete %s noreply\r\n" % key for key in keys if draw.random() < 0.5))
+                    has.append(mappings(server) - before)
+                hits = sum(value is not None for _, value in there)
+                tell(f"{hits} of {len(there)} values of {size:,} bytes were there, by {max(has)} mappings", f"{wrong} are wrong" if wrong else
+                     "" if max(has) < most + 50 and hits > len(there) * 0.8 else "more mappings, or fewer values, than there should be")
+                self.tell_resident("-m 128, with such values", server, most_for(128))
+                tell("then it ends with nothing left", server.end())
+
+    def check_locked(self):
+        """By -k the process has little more than without: stacks and libraries wholly."""
+        if not WHO:
+            print("missing: root: memory that is locked isn't tried", flush=True)
+            return
+        with Server(self.program, "-m", 64, "-k") as server:
+            client, draw = Client(server.port), random.Random(3)
+            many = [draw.randrange(1, 2000) for _ in range(5000)]
+            for name, mix in (("values of 1 to 2,000 bytes", many), ("then of 20 bytes", [20]), ("then of 10,000 bytes", [10_000])):
+                store(client, b"a", mix, 100 * MEGABYTE)
+                self.tell_resident(f"-m 64 -k, {name}", server, most_for(68), lambda mix=mix: store(client, b"b", mix, 8 * MEGABYTE))
             tell("then it ends with nothing left", server.end())
 
     def check_sizes_in_turn(self):
