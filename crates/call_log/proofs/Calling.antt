@@ -3,8 +3,8 @@ use Rattle.std.proofs.Common.{◌≡◌, ℕ, ◌+◌, ◌<◌, List, [], ◌∷
 use Rattle.std.proofs.lemmas.List.{get_or_append_left}
 use Rattle.std.specs.Prelude.{slice_index_or}
 use mathlib.Core.List.{IsPrefix}
-use Rattle.call_log.specs.Calls.{CallerView, MakesOne, NotesCall, OnlyLooks, ShowsCalls, before_last, from_of, last_of, to_of}
-use Rattle.call_log.specs.Fronts.{AreNumbered, Extends, FrontView, IsAdded}
+use Rattle.call_log.specs.Calls.{CallerView, NotesCall, ShowsCalls, before_last, last_of}
+use Rattle.call_log.specs.Fronts.{AreNumbered, FrontView, IsAdded, IsSeen}
 use Rattle.call_log.specs.Logs.{LogView, Notes, calls_of, state_of}
 use Rattle.call_log.proofs.Beginnings.{prefix_length}
 use Rattle.call_log.proofs.States.{before_added, calls_added, calls_of_one, last_added, same_of_one, state_added, state_same}
@@ -94,16 +94,16 @@ module _ {S : Type 0} (number_of : S → ℕ) (number : ℕ) (this that after : 
         }
 
   -- whoever was shown a log that has as many states of its value's knows all of these
-  pub shows : Extends this after → Extends that after → calls_of number_of number after.log ≡ calls_of number_of number this.log
-      → number < this.values → AreNumbered number_of this.values this.log → AreNumbered number_of after.values after.log
+  pub shows : IsSeen number_of number this that after → number < this.values → AreNumbered number_of this.values this.log
       → (calls parts calls' parts' : ℕ) → calls' ≡ calls → parts' ≡ parts
       → ShowsCalls number_of (log_of number this) (caller_of that calls parts) (caller_of after calls' parts')
-  shows mine theirs same few all all' calls parts calls' parts' none even = record {
-    look = record { first = theirs.first; seen = theirs.seen; calls = none; parts = even };
-    to = ap (λ (s : S). state_of number_of number s after.log) mine.first
-        ∙ state_same number_of number this.first this.log after.log mine.seen same;
-    calls = same;
-    first = mine.first;
-    seen = mine.seen;
-    alone = one_same number_of number this few all after.log (subst (λ (n : ℕ). AreNumbered number_of n after.log) mine.values all') mine.seen same;
+  shows seen few all calls parts calls' parts' none even = record {
+    look = record { first = seen.theirs.first; seen = seen.theirs.seen; calls = none; parts = even };
+    to = ap (λ (s : S). state_of number_of number s after.log) seen.mine.first
+        ∙ state_same number_of number this.first this.log after.log seen.mine.seen seen.calls;
+    calls = seen.calls;
+    first = seen.mine.first;
+    seen = seen.mine.seen;
+    alone = one_same number_of number this few all after.log
+        (subst (λ (n : ℕ). AreNumbered number_of n after.log) seen.mine.values seen.numbered) seen.mine.seen seen.calls;
   }

@@ -1,6 +1,9 @@
+pub mod Asked
 pub mod Blanks
 pub mod Calls
 pub mod Counts
 pub mod Fronts
 pub mod Laws
 pub mod Logs
+pub mod Steps
+pub mod Tallies

@@ -7,7 +7,8 @@ use crate::fronts::{Front, Head};
 use crate::law::{Begin, Law};
 use crate::logs::Log;
 use crate::names::{LogName, State};
-use logbook::{Pens, Seen, Start, Word};
+use crate::tallies::Tallies;
+use logbook::{Pens, Seen, Word};
 use std::marker::Model;
 use std::sync::ledger::{Blank, Share, Total};
 
@@ -16,6 +17,7 @@ use std::sync::ledger::{Blank, Share, Total};
 pub struct LogBlank<E: State> {
     pens: Pens,
     seen: Seen<(E, u64), u64, Law>,
+    tallies: Tallies,
     calls: Blank,
     values: u32,
 }
@@ -34,6 +36,7 @@ impl<E: State> Model for LogBlank<E> {
     } };
 
     ghost invariant = { λ b. (b.pens.book ≡ b.seen.book) × (b.pens.next ≡ 0) × (b.pens.left ≡ b.values)
+        × (b.seen.names ≡ b.tallies.name ∷ []) × (b.tallies.next ≡ 0) × (b.tallies.left ≡ b.values)
         × (b.seen.log ≡ (E.some_state, b.values) ∷ []) × (b.values ≤ b.calls.parts) };
 }
 
@@ -47,14 +50,16 @@ impl<E: State> LogBlank<E> {
         ensures parts { result.parts ≡ callers + values }
         ensures values { result.values ≡ values }
     {
+        let (start, tallies) = Tallies::begin::<E>(values);
         let (seen, pens) = Seen::<(E, u64), u64, Law>::open_row::<u32, Begin>(
             &values,
-            Start::alone(),
+            start,
             values as usize,
         );
         LogBlank {
             pens,
             seen,
+            tallies,
             calls: Blank::new(callers + values as u64),
             values,
         }
@@ -77,10 +82,11 @@ impl<E: State> LogBlank<E> {
         let LogBlank {
             pens,
             seen,
+            tallies,
             calls,
             values,
         } = self;
-        let front = Front::new(seen, values);
+        let front = Front::new(seen, values, &tallies);
         let (book, mut share) = calls.open::<N>();
         let (left, total) = allot(book, &mut share, values);
         let caller = Caller {
@@ -91,6 +97,7 @@ impl<E: State> LogBlank<E> {
             Logs {
                 front,
                 pens,
+                tallies,
                 left,
                 total,
             },
@@ -104,6 +111,7 @@ impl<E: State> LogBlank<E> {
 pub struct Logs<N: LogName, E: State> {
     front: Front<N, E>,
     pens: Pens,
+    tallies: Tallies,
     // what the calls of these values cost
     left: Share<N>,
     // the sum of all shares, where there is one value
@@ -120,8 +128,12 @@ impl<N: LogName, E: State> Model for Logs<N, E> {
     ghost view = { λ l. record { next = l.pens.next; left = l.pens.left } };
 
     ghost invariant = { λ l.
-        (l.front ≡ record { first = E.some_state; log = []; values = l.pens.next + l.pens.left })
-        × (l.pens.book ≡ N.book) × (l.left.parts ≡ l.pens.left) × (l.left.amount ≡ most_calls * l.pens.left)
+        (l.front ≡ record {
+          first = E.some_state;
+          log = [];
+          values = l.pens.next + l.pens.left;
+          name = l.tallies.name;
+        }) × (l.tallies.next ≡ l.pens.next) × (l.tallies.left ≡ l.pens.left) × (l.pens.book ≡ N.book) × (l.left.parts ≡ l.pens.left) × (l.left.amount ≡ most_calls * l.pens.left)
         × IfSome l.total (λ t. (t.amount ≡ most_calls) × (t.parts ≡ N.parts))
         × (l.pens.next + l.pens.left ≡ 1 → 0 < l.pens.left → is_some l.total ≡ true) };
 }
@@ -142,6 +154,6 @@ impl<N: LogName, E: State> Logs<N, E> {
         let head = Head::new(Word::tracked(0, &mut pen));
         let left = self.left.split_off(1, u64::MAX);
         let count = Count::new(left, self.total.take());
-        Log::new(head, self.front.again(), count)
+        Log::new(head, self.front.again(), count, self.tallies.take())
     }
 }

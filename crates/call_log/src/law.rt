@@ -1,14 +1,15 @@
-//! The rule of a log: it has a word for each value, which counts the value's calls.
-use crate::names::{Shows, State};
+//! The rule of a log: it has a word for each value, and keeps how many calls each value had.
+use crate::fronts::Head;
+use crate::names::{LogName, Shows, State};
 use logbook::{Gain, Opening, Plain, Play, Rule};
 
-/// The log begins from a state, and each of its words is how many of the states behind that one are of its value.
+/// The log begins from a state, and beside it lies how many of the states behind that one are of each value.
 pub(crate) struct Law;
 
 impl<E: State> Rule<(E, u64), u64> for Law {
     ghost use Rattle.std.specs.Prelude.{[]};
-    ghost use base.Fml.{ftrue};
     ghost use Rattle.call_log.specs.Laws.{IsKept};
+    ghost use Rattle.call_log.specs.Tallies.{IsDone, keeps_tallies};
 
     ghost holds = { λ cells log. IsKept E.number cells log };
 
@@ -16,20 +17,20 @@ impl<E: State> Rule<(E, u64), u64> for Law {
 
     ghost hinted = { λ n log. Unit {0} };
 
-    ghost shows = { λ log. [] };
+    ghost shows = { λ log. log };
 
-    ghost keeps = { λ names log. ftrue };
+    ghost keeps = { λ names log. keeps_tallies E.number names log };
 
-    ghost moves = { λ ask before after answer. Unit {0} };
+    ghost moves = { λ ask before after answer. IsDone E.number ask before after answer };
 }
 
-/// Callers trade nothing.
-pub(crate) struct Nothing;
+/// What a value has once its request was done: its part of the number again, and that the answer is as it was known.
+pub(crate) struct Counted;
 
-impl<E> Gain<(E, u64), u64> for Nothing {
-    ghost use base.Fml.{ftrue};
+impl<E> Gain<(E, u64), u64> for Counted {
+    ghost use Rattle.call_log.specs.Tallies.{gains_tally};
 
-    ghost after = { λ names about answer. ftrue };
+    ghost after = { λ names known answer. gains_tally names known answer };
 }
 
 /// A log begins with one state, which stands for nothing: there is no value then. Beside it stands how many there will
@@ -42,25 +43,18 @@ impl<E: State> Opening<u32, (E, u64)> for Begin {
     ghost log = { λ count about. (E.some_state, count) ∷ [] };
 }
 
-/// A step that counts a value's states.
-pub(crate) struct Look;
+/// A step that does what a request asks for.
+pub(crate) struct Step;
 
-impl<E: State> Play<(E, u64), u64> for Look {
-    ghost use Rattle.call_log.specs.Laws.{Looks};
+impl<E: State> Play<(E, u64), u64> for Step {
+    ghost use Rattle.call_log.specs.Steps.{Steps};
 
-    ghost then = { Looks E.number };
+    ghost then = { Steps E.number };
 }
 
-/// A step that adds a state.
+/// A request to add a state.
 pub(crate) struct Add;
 
-impl<E: State> Play<(E, u64), u64> for Add {
-    ghost use Rattle.call_log.specs.Laws.{Adds};
-
-    ghost then = { Adds E.number };
-}
-
-/// What a step asks for: the state that the value shows.
 impl<E: State, V: Shows<E>> Plain<V, (E, u64), u64> for Add {
     ghost use Rattle.std.specs.Prelude.{None};
 
@@ -69,11 +63,13 @@ impl<E: State, V: Shows<E>> Plain<V, (E, u64), u64> for Add {
     ghost state = { λ value. None };
 }
 
-/// What a step that looks asks for: nothing that is heard.
-impl<E: State> Plain<u64, (E, u64), u64> for Look {
-    ghost use Rattle.std.specs.Prelude.{None};
+/// A request to look at a value.
+pub(crate) struct Look;
 
-    ghost ask = { λ count. (E.some_state, 0) };
+impl<N: LogName, E: State> Plain<Head<N, E>, (E, u64), u64> for Look {
+    ghost use Rattle.std.specs.Prelude.{None, suc};
 
-    ghost state = { λ count. None };
+    ghost ask = { λ head. (E.some_state, suc head) };
+
+    ghost state = { λ head. None };
 }

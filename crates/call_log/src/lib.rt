@@ -2,12 +2,11 @@
 //!
 //! A lock tells nothing of the value that it guards: a function that takes the lock, does nothing and answers meets
 //! any contract that speaks of the answer alone. Here a log lies beside the value: the state behind each call. No
-//! state is kept or copied: the log exists in proofs alone. What runs is a number that counts the calls, and a word
-//! that counts them too.
+//! state is kept or copied: the log exists in proofs alone. What runs is a number that counts the calls, and a load of
+//! a word, which is never written: it is the step at which the log gets the state.
 //!
 //! One log may go with several values, each under a lock of its own: then it has the states of all of them, in the
-//! order of the calls, and each value has a number, from 0 on. A call takes the lock of its value alone, and counts
-//! in that value's word.
+//! order of the calls, and each value has a number, from 0 on. A call takes the lock of its value alone.
 //!
 //! A log's entries have a type of their own, E, which stands for the values' states. No value of it is made. It can't
 //! be a value's own type V where that one has the log's name in it: `Brand` picks a name at a call, and the types of
@@ -28,7 +27,8 @@
 //!
 //! - The call was made, under the lock, and once. Each entry of the log costs one of the ledger's counts, and those
 //!   that are left lie under the locks beside the values: so whoever adds to a log past the lock, or notes twice, or
-//!   not at all, has no proof.
+//!   not at all, has no proof. And how many calls a value had is kept in two parts, of which one lies beside the value:
+//!   a step needs both, so no other thread's step adds a state of the value.
 //! - The two states that the clauses speak of are states that one value had under its lock, one right behind the
 //!   other: what the log has between them is of other values. Before its first call, which `Logged::new` makes, a
 //!   value had none.
@@ -54,6 +54,7 @@ mod law;
 mod logged;
 mod logs;
 mod names;
+mod tallies;
 
 pub use blanks::{LogBlank, Logs};
 pub use callers::Caller;

@@ -3,12 +3,14 @@ ghost use Rattle.std.specs.Prelude.{◌≡◌, ◌+◌, ◌<◌, [], length, tru
 ghost use mathlib.Core.List.{IsPrefix};
 ghost use Rattle.std.specs.Bool.{OnTrue, OnFalse};
 ghost use Rattle.call_log.specs.Logs.{Notes, calls_of, last_state};
-ghost use Rattle.call_log.specs.Calls.{MakesOne, NotesCall, OnlyLooks, ShowsCalls, from_of, now_of, to_of};
+ghost use Rattle.call_log.specs.Asked.{IsTally};
+ghost use Rattle.call_log.specs.Calls.{MakesOne, NotesCall, OnlyLooks, from_of, now_of, to_of};
 
 use crate::callers::Caller;
 use crate::counts::Count;
 use crate::fronts::{Front, Head};
 use crate::names::{LogName, Shows, State};
+use crate::tallies::Tally;
 use std::marker::Model;
 use std::sync::Wait;
 
@@ -19,11 +21,13 @@ use std::sync::Wait;
 pub struct Log<N: LogName, E: State> {
     head: Head<N, E>,
     count: Count<N>,
+    tally: Tally,
     front: Front<N, E>,
 }
 
 impl<N: LogName, E: State> Model for Log<N, E> {
     ghost use Rattle.std.specs.Prelude.{◌≡◌, ◌<◌, true};
+    ghost use Rattle.call_log.specs.Asked.{IsTally};
     ghost use Rattle.call_log.specs.Fronts.{AreNumbered};
     ghost use Rattle.call_log.specs.Logs.{LogView, calls_of};
 
@@ -37,18 +41,30 @@ impl<N: LogName, E: State> Model for Log<N, E> {
     } };
 
     ghost invariant = { λ l. (l.head < l.front.values) × (l.count.calls ≡ calls_of E.number l.head l.front.log)
-        × AreNumbered E.number l.front.values l.front.log × (l.front.values ≡ 1 → l.count.alone ≡ true) };
+        × AreNumbered E.number l.front.values l.front.log × (l.front.values ≡ 1 → l.count.alone ≡ true)
+        × IsTally l.front.name l.head l.count.calls l.tally };
 }
 
 impl<N: LogName, E: State> Log<N, E> {
-    pub(crate) fn new(head: Head<N, E>, front: Front<N, E>, count: Count<N>) -> Log<N, E>
+    pub(crate) fn new(
+        head: Head<N, E>,
+        front: Front<N, E>,
+        count: Count<N>,
+        tally: Tally,
+    ) -> Log<N, E>
         requires number { head < front.values }
         requires log { front.log ≡ [] }
         requires calls { count.calls ≡ 0 }
+        requires tally { IsTally front.name head 0 tally }
         requires alone { front.values ≡ 1 → count.alone ≡ true }
         ensures { result ≡ record { first = front.first; log = []; number = head; values = front.values } }
     {
-        Log { head, count, front }
+        Log {
+            head,
+            count,
+            tally,
+            front,
+        }
     }
 
     /// How many calls its value had.
@@ -59,7 +75,7 @@ impl<N: LogName, E: State> Log<N, E> {
         self.count.calls()
     }
 
-    // Notes a call, if the log can be seen to have all of its value's states.
+    // Notes a call, if its value may have one more.
     fn try_to_note<V: Shows<E>>(&mut self, me: &mut Caller<N, E>, value: &V) -> bool
         requires part { 0 < me.old.parts }
         requires number { E.number (V.shown value.now) ≡ self.old.number }
@@ -68,13 +84,12 @@ impl<N: LogName, E: State> Log<N, E> {
             → length me.new.log ≡ me.new.calls) }
         ensures unchanged { OnFalse result ((self.new ≡ self.old) × (me.new ≡ me.old)) }
     {
-        let count = self.count.calls();
-        if count == u64::MAX {
+        if self.count.calls() == u64::MAX {
             return false;
         }
-        let Some(front) = self.front.add(&me.front, &self.head, count, value) else {
-            return false;
-        };
+        let front = self
+            .front
+            .add(&me.front, &self.head, &mut self.tally, value);
         self.count.pay(&mut me.share);
         self.count.audit(&mut me.share);
         me.front = front.again();
@@ -82,26 +97,10 @@ impl<N: LogName, E: State> Log<N, E> {
         true
     }
 
-    // Shows a caller the log, if it can be seen to have all of its value's states.
-    fn try_to_show(&mut self, me: &mut Caller<N, E>) -> bool
-        ensures log { self.new ≡ self.old }
-        ensures shown { OnTrue result (ShowsCalls E.number self.old me.old me.new) }
-        ensures whole { self.old.values ≡ 1 → me.old.parts + 1 ≡ N.parts → length self.old.log ≡ me.old.calls }
-        ensures unchanged { OnFalse result (me.new ≡ me.old) }
-    {
-        self.count.audit(&mut me.share);
-        let Some(front) = self.front.look(&me.front, &self.head, self.count.calls()) else {
-            return false;
-        };
-        me.front = front;
-        true
-    }
-
     /// Notes a call that a caller made: `value` is what the call left, and the log has the state that it shows, which
     /// is of the log's value. Whoever changes a logged value notes it before it lets the lock go, once for each call.
     ///
-    /// It waits for nobody: `rt` stands there since the proof can't see that what lies under a lock has all of the
-    /// value's states. It wouldn't return behind 2^64 - 1 calls.
+    /// It waits for nobody: `rt` stands there since it wouldn't return behind 2^64 - 1 calls.
     pub fn note<W: Wait, V: Shows<E>>(&mut self, rt: &W, me: &mut Caller<N, E>, value: &V)
         requires part { 0 < me.old.parts }
         requires number { E.number (V.shown value.now) ≡ self.old.number }
@@ -123,7 +122,7 @@ impl<N: LogName, E: State> Log<N, E> {
     /// Shows a caller what the log has now: all calls of its value up to now, and none that it made itself. Of the
     /// other values it has those that came before, and maybe more.
     ///
-    /// It waits for nobody: `rt` stands there as in `note`.
+    /// It waits for nobody, and makes no use of `rt`, which its callers have for `note`.
     pub fn show<W: Wait>(&mut self, rt: &W, me: &mut Caller<N, E>)
         ensures log { self.new ≡ self.old }
         ensures look { OnlyLooks me.old me.new }
@@ -133,11 +132,8 @@ impl<N: LogName, E: State> Log<N, E> {
         ensures alone { self.old.values ≡ 1 → me.new.log ≡ self.old.log }
         ensures whole { self.old.values ≡ 1 → me.old.parts + 1 ≡ N.parts → length me.new.log ≡ me.old.calls }
     {
-        for _ in rt.forever() {
-            if self.try_to_show(me) {
-                return;
-            }
-        }
-        unreachable!()
+        let _ = rt;
+        self.count.audit(&mut me.share);
+        me.front = self.front.look(&me.front, &self.head, &mut self.tally);
     }
 }

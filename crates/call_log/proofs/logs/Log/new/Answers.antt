@@ -12,4 +12,10 @@ invariant_of-result g c = (
   subst (λ (l : List g.row.E.Denot). AreNumbered g.E.State.number c.args.front.values l) (sym c.requires.log)
       (All-nil (λ s. g.E.State.number s < c.args.front.values)),
   c.requires.alone,
+  record {
+    named = c.requires.tally.named;
+    of = c.requires.tally.of;
+    here = c.requires.tally.here;
+    counts = c.requires.tally.counts ∙ sym c.requires.calls;
+  },
 )
