@@ -10,13 +10,13 @@ ghost use Rattle.cache_shelf.specs.Shelves.{with_ended, with_put, with_tended};
 ghost use Rattle.cache_shelf.specs.Turns.{TendsShelf};
 ghost use Rattle.cache_shelf.specs.Visiting.{entry_at};
 ghost use Rattle.bump_cache.specs.Changing.{HadUntil};
-ghost use Rattle.bump_cache.specs.Ending.{TakesValue};
+ghost use Rattle.bump_cache.specs.Ending.{EvictsValue, TakesValue};
 ghost use Rattle.bump_cache.specs.Putting.{IsPairOfWords, IsTimedValue, PutsValue, RefusesValue, RemovesValue, TellsEvicted, TellsValue, cause_of};
 ghost use Rattle.bump_cache.specs.Setting.{PutsWords, RefusesWords};
 ghost use Rattle.bump_cache.specs.Visiting.{TellsEntry};
 
 use crate::answers::{Cause, Evicted, Full, NoRoom, Put};
-use crate::ending::take_row;
+use crate::ending::{evict_row, take_row};
 use crate::law::PairLaw;
 use crate::setting::set_row;
 use bump_heads::Name;
@@ -398,5 +398,12 @@ impl<N: Name, K: Packed, V: Packed> Pairs<N, K, V> {
         ensures { TakesValue K.as_words V.as_words now result self.old self.new }
     {
         take_row(&mut self.shelf, &mut self.evicted, now)
+    }
+
+    /// Evicts the item whose turn it is, as `Shelf::evict` does, and tells it.
+    pub(crate) fn evict(&mut self, now: u64) -> Option<Evicted<K, V>>
+        ensures { EvictsValue K.as_words V.as_words now result self.old self.new }
+    {
+        evict_row(&mut self.shelf, &mut self.evicted, now)
     }
 }

@@ -28,15 +28,12 @@ sees_chunk nests words ways now chunk led same noted =
     subst P (sym (led_by-some words way some)) (record {
       place = way.place;
       by = record {
-        by = record {
-          chunk = chunk;
-          some = some;
-          at = ap (λ (w : Way). w.place) (noted chunk);
-          of = ap (λ (w : Way). w.hash) (noted chunk);
-        };
-        to = omega (arith, there);
+        chunk = chunk;
+        some = some;
+        at = ap (λ (w : Way). w.place) (noted chunk);
+        of = ap (λ (w : Way). w.hash) (noted chunk);
       };
-      generation = ap (λ (ws : List ℕ). generation_in (get_or ws way.place 0)) (sym same);
+      has = (omega (arith, there), ap (λ (ws : List ℕ). generation_in (get_or ws way.place 0)) (sym same));
     }))
     (λ none. subst P (sym (led_by-none words way (omega (arith, none)))) tt)
     (cases_lt 0 way.place))
@@ -53,8 +50,8 @@ numbered : (first chunk : ℕ) (now : Moment) (led : Led) → first ≤ chunk �
     → LeadsAs led 0 (chunk - first) now → LeadsAs led first chunk now
 numbered first chunk now led high few leads = record {
   place = leads.place;
-  by = record { by = leads.by.by; to = (let to = leads.by.to in omega (arith, to, high, few)) };
-  generation = leads.generation;
+  by = leads.by;
+  has = (let to = leads.has.0 in omega (arith, to, high, few), leads.has.1);
 }
 
 -- and to all of an index whose chunks are numbered from another number on

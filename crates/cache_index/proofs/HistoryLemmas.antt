@@ -9,7 +9,7 @@ use Rattle.cache_index.specs.Tags.{tag_in}
 use Rattle.cache_index.specs.Places.{IsPlace, tag_at, passed_at, nest_of, lane_of, home_of, steps_to}
 use Rattle.cache_index.specs.Changes.{OneMorePassed, HasNewTag}
 use Rattle.cache_index.specs.Leads.{chunk_in, no_way, way_to, passes, LeadsTo, AreLed}
-use Rattle.cache_index.specs.History.{rows_of, ways_of, IsReached, IsIndex, AreNoted, KeepHashes, KeepsHashes}
+use Rattle.cache_index.specs.History.{rows_of, ways_of, IsReached, IsIndex, AreNoted, KeepHashes, KeepNotedHashes}
 use Rattle.cache_index.proofs.StepsLemmas.{one_below, one_below-yes, one_below-no}
 use Rattle.cache_index.proofs.RoomLemmas.{zero_tag_at}
 use Rattle.cache_index.proofs.LedLemmas.{one_pass, chunk_of_way, one_chunk, tag_some, way_here, way_elsewhere}
@@ -20,53 +20,9 @@ pub ways_back : (ways : List Way) → ways_of (rows_of ways) ≡ ways
 ways_back [] = refl
 ways_back (way ∷ ways) = ap (λ (ws : List Way). way ∷ ws) (ways_back ways)
 
--- one list of ways keeps its hashes: no two of them lead to one lane
-pub keep_same : (nests : ℕ) (words : List ℕ) (ways : List Way) → IsReached nests words ways → KeepHashes ways ways
-keep_same nests words ways reached was is some same =
-    let on : 0 < (way_to ways is).place = omega (arith, some, same) in
-    let one : is ≡ was = sym (reached.leads is on).life
-    ∙ (ap (λ (p : ℕ). chunk_in (get_or words p 0)) same ∙ (reached.leads was some).life) in
-    ap (λ (c : ℕ). (way_to ways c).hash) one
-
--- and so where the ways before are those that were noted
-pub keep_noted : (note : List (List ℕ)) (before now : List Way) → AreNoted note before → KeepHashes before now
-    → KeepHashes (ways_of note) now
-keep_noted note before now noted keeps was is some same =
-    let at : way_to (ways_of note) was ≡ way_to before was = noted was in
-    keeps was is (subst (λ (w : Way). 0 < w.place) at some) (same ∙ ap (λ (w : Way). w.place) at)
-    ∙ sym (ap (λ (w : Way). w.hash) at)
-
--- a chunk's way is gone
-pub keep_without : (ways : List Way) (chunk : ℕ) → chunk < length ways → KeepHashes ways ways
-    → KeepHashes ways (set ways chunk no_way)
-keep_without ways chunk within keeps was is some same = ⊎_elim
-    (λ here.
-    let gone : (way_to (set ways chunk no_way) is).place ≡ 0 =
-    ap (λ (k : ℕ). (way_to (set ways chunk no_way) k).place) here
-    ∙ ap (λ (w : Way). w.place) (way_here ways chunk no_way within) in
-    absurd (omega (arith, gone, same, some)))
-    (λ apart.
-    let there = way_elsewhere ways chunk is no_way apart in
-    ap (λ (w : Way). w.hash) there ∙ keeps was is some (sym (ap (λ (w : Way). w.place) there) ∙ same))
-    (cases_eq is chunk)
-
--- a chunk's way is another one, to a lane that was off or kept its hash
-pub keep_with : (before now : List Way) (chunk : ℕ) (way : Way) → chunk < length now → KeepHashes before now
-    → ((was : ℕ) → 0 < (way_to before was).place → way.place ≡ (way_to before was).place
-    → way.hash ≡ (way_to before was).hash) → KeepHashes before (set now chunk way)
-keep_with before now chunk way within keeps this was is some same = ⊎_elim
-    (λ here.
-    let there : way_to (set now chunk way) is ≡ way =
-    ap (λ (k : ℕ). way_to (set now chunk way) k) here ∙ way_here now chunk way within in
-    ap (λ (w : Way). w.hash) there ∙ this was some (sym (ap (λ (w : Way). w.place) there) ∙ same))
-    (λ apart.
-    let there = way_elsewhere now chunk is way apart in
-    ap (λ (w : Way). w.hash) there ∙ keeps was is some (sym (ap (λ (w : Way). w.place) there) ∙ same))
-    (cases_eq is chunk)
-
--- so it is of all moments, where it is of the last one
+-- ways that keep the hashes of those which were noted last keep them, if there were any
 keeps_past : (past : List Moment) (ways : List Way) → KeepHashes (ways_of (note_of past)) ways
-    → KeepsHashes past (rows_of ways)
+    → KeepNotedHashes past (rows_of ways)
 keeps_past [] ways keeps = record {}
 keeps_past (last ∷ older) ways keeps =
     subst (λ (ws : List Way). KeepHashes (ways_of last.note) ws) (sym (ways_back ways)) keeps
@@ -101,29 +57,6 @@ led_reached nests words ways led = record {
   back = led.back;
   passed = λ (nest : ℕ) (within : nest < nests). let e = led.passed nest within in omega (arith, e);
 }
-
--- ways that agree with words keep their hashes
-pub keep_led : (nests : ℕ) (words : List ℕ) (ways : List Way) → AreLed nests words ways → KeepHashes ways ways
-keep_led nests words ways led = keep_same nests words ways (led_reached nests words ways led)
-
--- with one more way, to a lane that was off
-pub keep_laid : (nests : ℕ) (words : List ℕ) (ways : List Way) (chunk : ℕ) (way : Way) → AreLed nests words ways
-    → chunk < length ways → tag_at words way.place ≡ 0 → KeepHashes ways (set ways chunk way)
-keep_laid nests words ways chunk way led within off =
-    keep_with ways ways chunk way within (keep_led nests words ways led)
-    (λ was some same.
-    let there : tag_at words way.place ≡ tag_at words (way_to ways was).place = ap (λ (p : ℕ). tag_at words p) same in
-    absurd (omega (arith, (led.leads was some).tag, there, off, tag_some (way_to ways was).hash)))
-
--- and with a way that goes over to another chunk
-pub keep_relaid : (nests : ℕ) (words : List ℕ) (ways : List Way) (old chunk : ℕ) (way : Way) → AreLed nests words ways
-    → 0 < (way_to ways old).place → chunk < length ways → way ≡ way_to ways old
-    → KeepHashes ways (set (set ways old no_way) chunk way)
-keep_relaid nests words ways old chunk way led some within is =
-    let keeps = keep_led nests words ways led in
-    keep_with ways (set ways old no_way) chunk way (let e = length-set ways old no_way in omega (arith, e, within))
-    (keep_without ways old (chunk_of_way ways old some) keeps)
-    (λ was on same. ap (λ (w : Way). w.hash) is ∙ keeps was old on (sym (ap (λ (w : Way). w.place) is) ∙ same))
 
 -- other words whose lanes are the same, and whose nests count no less
 reached_like : (nests : ℕ) (before after : List ℕ) (ways : List Way) → IsReached nests before ways

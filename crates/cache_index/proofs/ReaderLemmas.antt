@@ -15,14 +15,14 @@ use Rattle.cache_index.specs.Places.{IsPlace, tag_at, passed_at, nest_of, lane_o
 use Rattle.cache_index.specs.Leads.{chunk_in, generation_in, way_to}
 use Rattle.cache_index.specs.Views.{IndexReaderView, ReaderSearchView}
 use Rattle.cache_index.specs.Walks.{HasLane, IsAhead, IsBehind, TakesLowest}
-use Rattle.cache_index.specs.History.{ways_of, IsReached, IsIndex, LeadsBy, Sees, Looks, ComesPast, BeginsPast, EndsPast, AnswersPast, HasLife, SeesIndex}
+use Rattle.cache_index.specs.History.{ways_of, IsReached, IsIndex, LeadsBy, SeesMoment, Looks, ComesPast, BeginsPast, EndsPast, AnswersPast, HasLife, SeesIndex}
 use Rattle.cache_index.proofs.StepsLemmas.{steps_to-lt, steps_to-nest_behind, nest_behind-steps_to}
 use Rattle.cache_index.proofs.LedLemmas.{one_pass, chunk_of_way}
 use Rattle.cache_index.proofs.ChangeLemmas.{one_pass-steps, one_of_count}
 use Rattle.cache_index.proofs.BitLemmas.{bit_lowest, bit_stays}
 
 -- the moment that was seen last is as readers need it
-module _ (nests : ℕ) (before after : EyeView) (sees : Sees before after) (size : length (words_of before.seen) ≡ 8 * nests)
+module _ (nests : ℕ) (before after : EyeView) (sees : SeesMoment before after) (size : length (words_of before.seen) ≡ 8 * nests)
     (some : 0 < nests) where
   pub words_now : words_of after.seen ≡ sees.lawful.now.words
   words_now = ap (λ (s : List Moment). words_of s) sees.lawful.is
@@ -135,7 +135,7 @@ further nests home k q in_home in_q in_nest some few =
     omega (arith, far, near, some)
 
 -- the lanes of a nest that was come to
-module _ (nests hash word lanes : ℕ) (before after : EyeView) (sees : Sees before after) (some : 0 < nests)
+module _ (nests hash word lanes : ℕ) (before after : EyeView) (sees : SeesMoment before after) (some : 0 < nests)
     (bits : (lane : ℕ) → lane < 6 → bit_at lanes (8 * lane + 7)
     ≡ cond (eqb (tag_in (get_or (words_of after.seen) word 0) lane) (tag_of hash)) 1 0) where
   pub in_nest : (nest place : ℕ) → word ≡ 8 * nest → length (words_of before.seen) ≡ 8 * nests → IsPlace nests place
@@ -160,7 +160,7 @@ module _ (nests hash word lanes : ℕ) (before after : EyeView) (sees : Sees bef
       (cases_eq (tag_in tags (lane_of place)) (tag_of hash))
 
 -- a search that has begun
-pub begins_past : (nests hash word nest lanes : ℕ) (to : ReaderSearchView) (before after : EyeView) → Sees before after
+pub begins_past : (nests hash word nest lanes : ℕ) (to : ReaderSearchView) (before after : EyeView) → SeesMoment before after
     → nest < nests → word ≡ 8 * nest
     → ((lane : ℕ) → lane < 6 → bit_at lanes (8 * lane + 7)
     ≡ cond (eqb (tag_in (get_or (words_of after.seen) word 0) lane) (tag_of hash)) 1 0)
@@ -194,7 +194,7 @@ ahead_behind search place none (inl here) =
 ahead_behind search place none (inr behind) = behind
 
 -- a search that walks on to the next nest
-pub walks_past : (hash word lanes : ℕ) (from to : ReaderSearchView) (before after : EyeView) → Sees before after
+pub walks_past : (hash word lanes : ℕ) (from to : ReaderSearchView) (before after : EyeView) → SeesMoment before after
     → from.nest < from.nests → from.lanes ≡ 0 → word ≡ 8 * to.nest
     → ((lane : ℕ) → lane < 6 → bit_at lanes (8 * lane + 7)
     ≡ cond (eqb (tag_in (get_or (words_of after.seen) word 0) lane) (tag_of hash)) 1 0)
@@ -221,7 +221,7 @@ walks_past hash word lanes from to before after sees within none at bits nests_i
     (cases_lt 0 (steps_to nests to.nest q))
 
 -- no key passed the nest at which a search is, and none of its lanes is left: so it ends
-pub ends_past : (hash word : ℕ) (search : ReaderSearchView) (before after : EyeView) → Sees before after
+pub ends_past : (hash word : ℕ) (search : ReaderSearchView) (before after : EyeView) → SeesMoment before after
     → search.nest < search.nests → search.later < search.nests → home_of search.nests hash < search.nests
     → IsBehind search.nests (home_of search.nests hash) search.nest search.later → search.lanes ≡ 0 → word ≡ 8 * search.nest
     → get_or (words_of after.seen) (word + 1) 0 ≡ 0 → EndsPast search.nests hash search before after
@@ -253,7 +253,7 @@ ends_last hash search eye none last size place is ahead =
     let behind = ahead_behind search place none ahead in
     let a = behind.0 in let b = behind.1 in absurd (omega (arith, a, b, last))
 
-pub sees_looks : (before after : EyeView) → Sees before after → Looks before after
+pub sees_looks : (before after : EyeView) → SeesMoment before after → Looks before after
 sees_looks before after sees = record { table = sees.table; seen = sees.seen; size = sees.size }
 
 pub looks_none : (eye : EyeView) → Looks eye eye
@@ -315,7 +315,7 @@ index_seen index before after sees looks = record {
 
 -- a search answers the life of the lowest lane that is left
 pub takes_past : (hash word number taken : ℕ) (life : ItemId) (from to : ReaderSearchView) (before after : EyeView)
-    → Sees before after → word ≡ 8 * from.nest → (takes : TakesLowest from.lanes to.lanes) → 0 < from.lanes
+    → SeesMoment before after → word ≡ 8 * from.nest → (takes : TakesLowest from.lanes to.lanes) → 0 < from.lanes
     → from.lanes < 2 ^ 64 → taken ≡ trailing_zeros w64 from.lanes / 8
     → number ≡ get_or (words_of after.seen) (word + 2 + taken) 0
     → ((chunk_in number + from.first) % 2 ^ 32 ≡ life.chunk) × (generation_in number ≡ life.generation)

@@ -37,15 +37,15 @@ KeepHashes before now = (was is : ℕ) → 0 < (way_to before was).place
     → (way_to now is).place ≡ (way_to before was).place → (way_to now is).hash ≡ (way_to before was).hash
 
 -- so it is of the ways that are noted and those that were noted last, if there were any
-abbrev pub KeepsHashes : List Moment → List (List ℕ) → Type 0
-KeepsHashes [] note = Unit {0}
-KeepsHashes (last ∷ older) note = KeepHashes (ways_of last.note) (ways_of note)
+abbrev pub KeepNotedHashes : List Moment → List (List ℕ) → Type 0
+KeepNotedHashes [] note = Unit {0}
+KeepNotedHashes (last ∷ older) note = KeepHashes (ways_of last.note) (ways_of note)
 
 -- The law of each moment: what is noted are the ways to the lanes that are on, and a lane that stays on keeps its hash. So
 -- nothing can be noted of a lane but what was noted when it went on.
 pub record IsIndex (older : List Moment) (now : Moment) : Type 0 where
   pub reached : (nests : ℕ) → length now.words ≡ 8 * nests → IsReached nests now.words (ways_of now.note)
-  pub keeps : KeepsHashes older now.note
+  pub keeps : KeepNotedHashes older now.note
 
 -- at a moment a way of this hash leads to this place
 pub record LeadsBy (hash place : ℕ) (m : Moment) : Type 0 where
@@ -55,7 +55,7 @@ pub record LeadsBy (hash place : ℕ) (m : Moment) : Type 0 where
   pub of : (way_to (ways_of m.note) chunk).hash ≡ hash
 
 -- an eye has seen a moment, no earlier than the last that it had seen
-pub record Sees (before after : EyeView) : Type 0 where
+pub record SeesMoment (before after : EyeView) : Type 0 where
   pub table : after.table ≡ before.table
   pub seen : Extends before.seen after.seen
   pub size : 0 < length (words_of before.seen) → length (words_of after.seen) ≡ length (words_of before.seen)
@@ -82,7 +82,7 @@ abbrev pub EndsPast : ℕ → ℕ → ReaderSearchView → EyeView → EyeView �
 EndsPast nests hash from before after = length (words_of before.seen) ≡ 8 * nests → (place : ℕ) → IsPlace nests place
     → IsAhead from place → NotAlways (LeadsBy hash place) before.seen after.seen
 
--- at a moment this life stands in a lane, its chunk counted from 0 on
+-- at a moment this life stands in a lane, whose word counts chunks from 0 on, and the life from the first one
 abbrev pub HasLife : ℕ → ℕ → ItemId → Moment → Type 0
 HasLife first place life m = ((chunk_in (slice_index m.words place) + first) % 2 ^ 32 ≡ life.chunk)
     × (generation_in (slice_index m.words place) ≡ life.generation)
@@ -95,16 +95,11 @@ AnswersPast nests hash life from to before after = length (words_of before.seen)
     → IsAhead to place ⊎ (NotAlways (LeadsBy hash place) before.seen after.seen
     ⊎ AtOneWithin (HasLife from.first place life) before.seen after.seen)
 
--- at a moment a way of this hash leads to this place, and a life of this chunk stands there
-pub record LeadsByTo (hash place first chunk : ℕ) (m : Moment) : Type 0 where
-  pub by : LeadsBy hash place m
-  pub to : (chunk_in (slice_index m.words place) + first) % 2 ^ 32 ≡ chunk
-
 -- at a moment the index leads to a chunk's life: from its hash, by a lane in which the life stands
 pub record LeadsAs (led : Led) (first chunk : ℕ) (m : Moment) : Type 0 where
   pub place : ℕ
-  pub by : LeadsByTo led.hash place first chunk m
-  pub generation : generation_in (slice_index m.words place) ≡ led.generation
+  pub by : LeadsBy led.hash place m
+  pub has : HasLife first place (record { chunk = chunk; generation = led.generation }) m
 
 -- at a moment the index leads to all of this, by chunk
 abbrev pub LeadsAll : ℕ → List (Option Led) → Moment → Type 0

@@ -10,8 +10,6 @@ mod led;
 mod nests;
 mod readers;
 mod tags;
-#[cfg(test)]
-mod tests;
 
 pub use exact::ExactSearch;
 pub use index::{Index, MOST_CHUNKS, nests_for};

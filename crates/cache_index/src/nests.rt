@@ -8,7 +8,7 @@ ghost use Rattle.cache_index.specs.Places.{tag_at, passed_at, place_in, tag_behi
 ghost use Rattle.cache_index.specs.Changes.{OneMorePassed, HasNewTag};
 ghost use Rattle.std.specs.Int.{bit_at};
 ghost use Rattle.seen_words.specs.Past.{note_of, words_of};
-ghost use Rattle.cache_index.specs.History.{AreNoted, IsReached, KeepHashes, Sees, rows_of, ways_of};
+ghost use Rattle.cache_index.specs.History.{AreNoted, IsReached, KeepHashes, SeesMoment, ways_of};
 
 use crate::law::LeadsOn;
 use crate::led::Way;
@@ -152,7 +152,7 @@ impl Nests {
         requires nest { nest < self.now.nests }
         requires tag { tag < 256 }
         ensures narrow { result < 2 ^ 48 }
-        ensures eye { Sees eye.old eye.new }
+        ensures eye { SeesMoment eye.old eye.new }
         ensures lanes { (lane : ℕ) → lane < lanes → bit_at result (8 * lane + 7)
             ≡ (if tag_in (slice_index (words_of eye.new.seen) (8 * nest)) lane == tag then 1 else 0) }
     {
@@ -172,7 +172,7 @@ impl Nests {
     pub(crate) fn is_passed_now(&self, eye: &mut Eye, nest: u32) -> bool
         requires eye { eye.old.table ≡ self.now.table }
         requires nest { nest < self.now.nests }
-        ensures eye { Sees eye.old eye.new }
+        ensures eye { SeesMoment eye.old eye.new }
         ensures none { result ≡ false → slice_index (words_of eye.new.seen) (8 * nest + 1) ≡ 0 }
     {
         self.words
@@ -186,7 +186,7 @@ impl Nests {
         requires eye { eye.old.table ≡ self.now.table }
         requires nest { nest < self.now.nests }
         requires lane { lane < lanes }
-        ensures eye { Sees eye.old eye.new }
+        ensures eye { SeesMoment eye.old eye.new }
         ensures life { result ≡ slice_index (words_of eye.new.seen) (8 * nest + 2 + lane) }
     {
         self.words.load(

@@ -1,6 +1,6 @@
 //! Readers, which search the index without a lock while the writer changes it.
 ghost use Rattle.std.specs.Prelude.{◌≡◌, ◌<◌, ◌+◌, ◌^◌, true, false, IfOk, IfSome, IfNone};
-ghost use Rattle.cache_index.specs.History.{AnswersPast, BeginsPast, ComesPast, EndsPast, Looks, Sees};
+ghost use Rattle.cache_index.specs.History.{AnswersPast, BeginsPast, ComesPast, EndsPast, Looks, SeesMoment};
 ghost use Rattle.std.specs.Arc.{arc_value};
 ghost use Rattle.cache_index.specs.Tags.{tag_of};
 ghost use Rattle.cache_index.specs.Places.{home_of, nest_behind};
@@ -115,7 +115,7 @@ impl IndexReader {
         ensures tag { result.tag ≡ tag_of hash }
         ensures home { result.nest ≡ home_of self.now.nests hash }
         ensures later { result.later + 1 ≡ self.now.nests }
-        ensures eye { Sees eye.old eye.new }
+        ensures eye { SeesMoment eye.old eye.new }
         ensures begins { BeginsPast self.now.nests hash result eye.old eye.new }
     {
         let nests: &Nests = &self.nests;
@@ -151,7 +151,7 @@ impl<'a> Search<'a> {
     fn is_end(&self, eye: &mut Eye) -> bool
         requires eye { eye.old.table ≡ self.now.table }
         requires lanes { self.now.lanes ≡ 0 }
-        ensures eye { Sees eye.old eye.new }
+        ensures eye { SeesMoment eye.old eye.new }
         ensures ends { result ≡ true → EndsPast self.now.nests self.now.hash self.now eye.old eye.new }
     {
         !self.nests.is_passed_now(eye, self.nest)
@@ -171,7 +171,7 @@ impl<'a> Search<'a> {
         ensures later { self.new.later + 1 ≡ self.old.later }
         ensures nest { self.new.nest ≡ nest_behind self.old.nests self.old.nest 1 }
         ensures narrow { self.new.lanes < 2 ^ 48 }
-        ensures eye { Sees eye.old eye.new }
+        ensures eye { SeesMoment eye.old eye.new }
         ensures past { ComesPast self.old.nests self.old.hash self.old self.new eye.old eye.new }
     {
         self.later -= 1;

@@ -5,6 +5,7 @@ pub mod PartLemmas
 pub mod FindLemmas
 pub mod HeldLemmas
 pub mod RoomLemmas
+pub mod EvictingLemmas
 pub mod LinkLemmas
 pub mod ClearLemmas
 pub mod TendingLemmas

@@ -1,18 +1,19 @@
 -- What making room leaves.
-use Rattle.std.proofs.Common.{◌≡◌, ◌≢◌, ℕ, Bool, List, Option, Some, None, IsSome, IfSome, IfNone, if◌then◌else◌, slice_set, refl, sym, ap, ◌∙◌, subst, eq-eqb, ne_eqb}
+use Rattle.std.proofs.Common.{◌≡◌, ◌≢◌, ◌≤◌, inr, ℕ, Bool, List, Option, Some, None, IsSome, IfSome, IfNone, if◌then◌else◌, slice_set, refl, sym, ap, ◌∙◌, subst, eq-eqb, ne_eqb}
 use Rattle.bump_steps.specs.declared.views.ClassSheet.{ClassSheet}
 use Rattle.bump_steps.specs.Views.{last_word}
 use Rattle.bump_class.specs.Books.{BookView}
 use Rattle.bump_class.specs.Lanes.{LaneView}
 use Rattle.cache_lists.specs.Counts.{CountedView}
-use Rattle.cache_lists.specs.Items.{IsSameClass, KeepsItems}
+use Rattle.cache_lists.specs.Items.{IsSameClass, KeepsItems, victim}
 use Rattle.cache_lists.specs.Linked.{linked_at}
 use Rattle.cache_index.specs.Views.{IndexView}
 use Rattle.keyed_hash.specs.declared.seed.Seed.{Seed}
 use Rattle.cache_part.specs.Keys.{key_at, IsItemOf}
 use Rattle.cache_part.specs.Looks.{LooksOnly}
 use Rattle.cache_part.specs.Parts.{IsPart}
-use Rattle.cache_part.specs.Putting.{EndsEvicted, EvictsWhereFull, OthersStay, TellsWords, told_if}
+use Rattle.cache_part.specs.Putting.{EndsEvicted, EvictsAndReads, EvictsWhereFull, OthersStay, TellsWords, linked_count, told_if}
+use Rattle.cache_part.specs.Tending.{DrainsWhereHeld}
 use Rattle.cache_part.proofs.Agreements.{some_without}
 use Rattle.cache_part.proofs.KeyLemmas.{words_same, row_same}
 use Rattle.cache_part.proofs.LookLemmas.{looks_keep}
@@ -25,6 +26,18 @@ pub told_same : (tells : Bool) (count : ℕ) (evicted : Option ℕ) (from to : L
 told_same tells count None from to class left same told = told
 told_same tells count (Some chunk) from to class left same told =
     told ∙ ap (λ row. told_if tells row from) (row_same class left chunk count (λ i. same i chunk))
+
+-- where the key has none, and as many as may be are linked, one is evicted, or none is there
+pub evicts_where_full : (items most now : ℕ) (old evicted : Option ℕ) (before : CountedView) (from : List LaneView)
+    (after : CountedView) (to : List LaneView) → old ≡ None → items ≤ linked_count before.book.lists
+    → IfSome evicted (λ chunk. EvictsAndReads most now chunk before from after to)
+    → IfNone evicted (DrainsWhereHeld most now before from after to)
+    → IfNone evicted (victim after.book.lists ≡ None)
+    → EvictsWhereFull items most now old evicted before from after to
+evicts_where_full items most now old None before from after to new full evicts drains none =
+    inr (record { new = new; full = full; drains = drains; none = none })
+evicts_where_full items most now old (Some chunk) before from after to new full evicts drains none =
+    (new, full, evicts)
 
 -- one is evicted only where the key had none
 pub new_evicts : (items most now : ℕ) (old evicted : Option ℕ) (before : CountedView) (from : List LaneView)
@@ -44,7 +57,7 @@ part_evicted seed key_words (Some chunk) seen left from to ends some none is =
     subst (IsPart seed key_words left.sheet) (sym some) (part_ended seed key_words seen left from.table is chunk ends)
 
 -- what an evict leaves of the chunks, of the items and of the words
-evicted_class : (evicted : Option ℕ) (seen left : BookView) → EndsEvicted evicted seen left → IsSameClass seen left
+pub evicted_class : (evicted : Option ℕ) (seen left : BookView) → EndsEvicted evicted seen left → IsSameClass seen left
 evicted_class None seen left ends = ends.class
 evicted_class (Some chunk) seen left ends = ends.class
 

@@ -1,3 +1,4 @@
+pub mod Evicting
 pub mod Expiring
 pub mod Keys
 pub mod Looks

@@ -4,6 +4,7 @@
 
 mod clearing;
 mod ending;
+mod evicting;
 mod expiring;
 mod finding;
 mod parts;

@@ -8,6 +8,7 @@ ghost use Rattle.cache_lists.specs.Counts.{IsFlow, SegmentsAddUp, no_flow, no_ev
 ghost use Rattle.cache_lists.specs.Items.{EndsAt, KeepsItems, IsSameClass};
 ghost use Rattle.cache_lists.specs.Linked.{linked_at};
 ghost use Rattle.cache_lists.specs.Segments.{SameSegments};
+ghost use Rattle.cache_part.specs.Evicting.{EvictsNext};
 ghost use Rattle.cache_part.specs.Expiring.{KeepsUnexpired, LooksAround, LooksInTurn, looks_of};
 ghost use Rattle.cache_part.specs.Keys.{words_from};
 ghost use Rattle.cache_part.specs.Looks.{LooksOnly};
@@ -18,7 +19,9 @@ ghost use Rattle.cache_part.specs.Tending.{BalancesByAge, DrainsEach, Tends};
 ghost use Rattle.cache_part.specs.Visiting.{has_unexpired};
 
 use crate::putting::{NoChunk, PutItem, Settings, make_room};
-use crate::{clearing, ending, expiring, finding, reading, replacing, taking, tending, visiting};
+use crate::{
+    clearing, ending, evicting, expiring, finding, reading, replacing, taking, tending, visiting,
+};
 use bump_class::{Book, RawLane};
 use bump_heads::Name;
 use bump_steps::{AnyRow, RowLaw};
@@ -470,5 +473,41 @@ impl<N: Name, L: RowLaw> Part<N, L> {
         );
         self.cursor = next.cursor;
         next.chunk
+    }
+
+    /// Evicts the item whose turn it is, as a put of a new key does where as many as may be are linked, and tells its
+    /// chunk, and its row in `told`, which has room for a label and a row: the label says when it expires, and the
+    /// words of its key and of its value come behind it. Where COLD's last item is held, bumps that wait are applied
+    /// first, at most `most` of each lane; then the one whose turn it is ends, as by `CountedBook::evict`, whether it
+    /// has expired at `now`, in the caller's ticks, or not, and it is counted as that says. The index leads to it no
+    /// more. It is None exactly where no item is linked, and then nothing changes, and the words of `told` stay.
+    pub fn evict(
+        &mut self,
+        lanes: &mut [RawLane<N, L>],
+        most: u32,
+        told: &mut [u64],
+        now: u64,
+    ) -> Option<u32>
+        requires told { length told.old ≡ suc (self.old.key_words + self.old.value_words) }
+        ensures evicts { EvictsNext most now result self.old lanes.old self.new lanes.new }
+        ensures ends { IfSome result (λ chunk. EndsAt chunk self.old.book self.new.book) }
+        ensures told { TellsRow true result told.old told.new self.old }
+        ensures length { length told.new ≡ length told.old }
+        ensures rest { self.new ≡ record self.old {
+          book = self.new.book;
+          flow = self.new.flow;
+          evictions = self.new.evictions;
+          index = self.new.index;
+        } }
+    {
+        evicting::evict_next(
+            &mut self.lists,
+            &mut self.index,
+            self.settings,
+            told,
+            lanes,
+            most,
+            now,
+        )
     }
 }

@@ -7,7 +7,7 @@ ghost use Rattle.cache_part.specs.Parts.{generation_led};
 ghost use Rattle.cache_part.specs.Putting.{linked_count, DrainsAndSweeps, EndsEvicted, EvictsWhereFull, FreesAtLast, FreesWhereNone, TellsWords};
 
 use crate::putting::Settings;
-use crate::{reading, tending};
+use crate::{evicting, tending};
 use bump_class::RawLane;
 use bump_heads::Name;
 use bump_rules::Place;
@@ -56,14 +56,7 @@ pub(crate) fn evict_where_full<N: Name, L: RowLaw>(
     if count(lists) < u64::from(settings.items) {
         return None;
     }
-    tending::drain_where_held(lists, lanes, most, now);
-    let Some(victim) = lists.evict(now) else {
-        return None;
-    };
-    index.clear(victim.chunk);
-    // The chunk may be the next one that comes free, and the new item be linked there.
-    reading::read_row_where(lists, tells, victim.chunk, told);
-    Some(victim.chunk)
+    evicting::evict(lists, index, settings, tells, told, lanes, most, now)
 }
 
 // Applies the bumps that wait in the lanes, at most `most` of each, since each holds its item; and then frees what

@@ -63,7 +63,7 @@ impl Stats {
         self.evictions.of(Statistic::EvictedActive)
     }
 
-    /// Items that a put's own thread evicted. These are all of them: nobody else evicts.
+    /// Items that the thread of a put, or of an evict, evicted. These are all of them: nobody else evicts.
     pub fn direct_reclaims(&self) -> u64
         ensures { result ≡ count_of Statistic.Evicted self.now.evictions }
     {

@@ -17,7 +17,7 @@ use Rattle.bump_steps.specs.Rule.{chunks as all_chunks}
 use Rattle.bump_steps.specs.Tries.{of_any, last_found, asked_life, asked_refusal}
 use Rattle.bump_unlocked.specs.Gets.{GotAny, get_any_answer}
 use Rattle.bump_unlocked.specs.Workers.{WorkerState}
-use Rattle.cache_index.specs.History.{AnswersPast, BeginsPast, EndsPast, HasLife, LeadsBy, Looks, Sees, SeesIndex}
+use Rattle.cache_index.specs.History.{AnswersPast, BeginsPast, EndsPast, HasLife, LeadsBy, Looks, SeesMoment, SeesIndex}
 use Rattle.cache_index.specs.Places.{IsPlace}
 use Rattle.cache_index.specs.Views.{IndexReaderView, ReaderSearchView}
 use Rattle.cache_index.specs.Walks.{IsAhead}
@@ -284,7 +284,7 @@ missed_behind (Err why) chunk hash key now config index from to before seen betw
 
 -- a search that the index led nowhere
 pub nowhere_absent : (hash : ℕ) (key : List ℕ) (index : IndexReaderView) (search : ReaderSearchView) (worker : WorkerState)
-    (seen sees watched : EyeView) → SeesIndex index seen → Sees seen sees → Looks sees watched
+    (seen sees watched : EyeView) → SeesIndex index seen → SeesMoment seen sees → Looks sees watched
     → search.nests ≡ index.nests → search.hash ≡ hash → BeginsPast index.nests hash search seen sees
     → EndsPast search.nests search.hash search sees watched → IsAbsent hash key index worker seen worker watched
 nowhere_absent hash key index search worker seen sees watched eye sees_now looks nests_is hash_is begins ends =

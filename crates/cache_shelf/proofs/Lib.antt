@@ -4,3 +4,4 @@ pub mod Moving
 pub mod Removing
 pub mod Visiting
 pub mod TakingLemmas
+pub mod EvictingLemmas

@@ -15,6 +15,7 @@ pub use Rattle.cache_lists.specs.Counts
 pub use Rattle.cache_lists.specs.Items
 pub use Rattle.cache_lists.specs.Linked
 pub use Rattle.cache_lists.specs.Segments
+pub use Rattle.cache_part.specs.Evicting
 pub use Rattle.cache_part.specs.Expiring
 pub use Rattle.cache_part.specs.Keys
 pub use Rattle.cache_part.specs.Looks

@@ -67,3 +67,16 @@ with_taken after before = record before {
     cursor = after.part.cursor;
   };
 }
+
+-- an item may have been evicted, for which bumps may have been applied: what may be others where items ended, the counts
+-- of what was evicted, and the lanes; all else stays, also the count of puts
+abbrev pub with_evicted : ShelfView → ShelfView → ShelfView
+with_evicted after before = record before {
+  part = record before.part {
+    book = after.part.book;
+    flow = after.part.flow;
+    evictions = after.part.evictions;
+    index = after.part.index;
+  };
+  lanes = after.lanes;
+}

@@ -3,6 +3,7 @@
 #![tactic(auto)]
 
 mod entries;
+mod evicting;
 mod limits;
 mod shelves;
 mod taking;

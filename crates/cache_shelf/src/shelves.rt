@@ -6,17 +6,19 @@ ghost use Rattle.bump_steps.specs.Views.{last_word, owns};
 ghost use Rattle.cache_lists.specs.Counts.{IsFlow, SegmentsAddUp};
 ghost use Rattle.cache_part.specs.Parts.{IsPart, IsUnknown};
 ghost use Rattle.cache_part.specs.Stats.{stats_of};
+ghost use Rattle.cache_part.specs.Evicting.{EvictsNext};
 ghost use Rattle.cache_part.specs.Expiring.{KeepsUnexpired, LooksInTurn};
 ghost use Rattle.cache_part.specs.Putting.{row_at};
 ghost use Rattle.cache_part.specs.Visiting.{has_unexpired};
 ghost use Rattle.cache_part.specs.Taking.{TakesNext};
 ghost use Rattle.cache_shelf.specs.Limits.{put_rounds};
-ghost use Rattle.cache_shelf.specs.Shelves.{ShelfView as TheShelfView, IsLawful, with_ended, with_put, with_taken, with_tended};
+ghost use Rattle.cache_shelf.specs.Shelves.{ShelfView as TheShelfView, IsLawful, with_ended, with_evicted, with_put, with_taken, with_tended};
 ghost use Rattle.cache_shelf.specs.Entries.{AllKept, AllUnexpiredKept, Evicted, Had, ReadsShelf, key_of_evicted};
 ghost use Rattle.cache_shelf.specs.Putting.{PutsEntry, RefusesEntry, RemovesEntry};
 ghost use Rattle.cache_shelf.specs.Turns.{TendsShelf};
 
 use crate::entries::read_unexpired_entry;
+use crate::evicting::evict_entry;
 use crate::limits::Limits;
 use crate::taking::take_entry;
 use crate::turns::{drain_in_turn, take_turn};
@@ -223,5 +225,23 @@ impl<N: Name, L: RowLaw> Shelf<N, L> {
         ensures same { self.new ≡ with_taken self.new self.old }
     {
         take_entry(&mut self.part, self.limits.looks, told, now)
+    }
+
+    /// Evicts the item whose turn it is, as `Part::evict` and a put of a new key into a full part do, and tells its
+    /// chunk, and when it expires and its row in `told`, which has one word more than a row. Where COLD's last item is
+    /// held, as many bumps of each lane are applied first as the limits say. It is None exactly where no item is
+    /// linked: then nothing changes, and the words of `told` stay. Under each other key stays what was there. It counts
+    /// as no put. `now` is the time of the bumped items, and that by which items have expired, in the caller's ticks.
+    pub fn evict(&mut self, told: &mut [u64], now: u64) -> Option<u32>
+        requires told { length told.old ≡ suc (self.old.part.key_words + self.old.part.value_words) }
+        ensures evicts { EvictsNext self.old.limits.most now result self.old.part self.old.lanes self.new.part
+            self.new.lanes }
+        ensures told { Evicted L.law result told.old told.new self.old.part self.new.part }
+        ensures kept { AllKept (key_of_evicted result self.old.part) self.old.part self.new.part }
+        ensures length { length told.new ≡ length told.old }
+        ensures same { self.new ≡ with_evicted self.new self.old }
+    {
+        let limits = self.limits;
+        evict_entry(&mut self.part, &mut self.lanes, limits.most, told, now)
     }
 }

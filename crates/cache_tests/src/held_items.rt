@@ -1,8 +1,10 @@
-//! An item that a reader holds keeps its words, and its chunk, whatever is put meanwhile.
+//! An item that a reader holds keeps its words, and its chunk, whatever is put or evicted meanwhile.
 
 ghost use Rattle.bump_cache.specs.Opening.{IsNamed};
 
-use bump_cache::{CacheBlank, CacheConfig, Changer, LogName, Name, Opened, Seed, open};
+use bump_cache::{
+    CacheBlank, CacheConfig, Cause, Changer, Evicted, LogName, Name, Opened, Seed, open,
+};
 use std::alloc::Global;
 use std::marker::Brand;
 use std::process::Abort;
@@ -43,6 +45,22 @@ fn run<N: Name + LogName, R: Wait + Abort>(
     assert!(rt; cache.put(rt, &mut changer.me, &1, &12, 4).is_ok());
     assert_eq!(rt; reader.get(&1, 5), Some(12));
     assert!(rt; reader.get_with(&2, 6).is_none());
+    // The item is evicted while it is held, and its key has nothing then; a put takes the other chunk.
+    let Some(mut held) = reader.get_with(&1, 7) else {
+        panic!(rt; "the key has a value")
+    };
+    let evicted = Evicted {
+        key: 1,
+        value: 12,
+        cause: Cause::Room,
+    };
+    assert_eq!(rt; cache.evict(rt, &mut changer.me, 0, 8), Some(evicted));
+    assert_eq!(rt; cache.evict(rt, &mut changer.me, 0, 8), None);
+    assert_eq!(rt; cache.look(rt, &mut changer.me, &1, 8), None);
+    assert!(rt; cache.put(rt, &mut changer.me, &1, &13, 9).is_ok());
+    assert_eq!(rt; held.value(), 12);
+    drop(held);
+    assert_eq!(rt; reader.get(&1, 9), Some(13));
     Ok(())
 }
 

@@ -1,10 +1,12 @@
 //! Tests of a cache: random calls beside a plain map, also those that look and then put, the order in which items are
-//! evicted beside a model of its lists, puts that find no room, items that expire, gets of many keys, keys of one hash,
+//! evicted beside a model of its lists, evictions for which no put asks, puts that find no room, items that expire, gets of many keys, keys of one hash,
 //! keys as text, memory that is counted or refused, visits of all that is there, and readers on threads.
 #![tactic(auto)]
 
 #[cfg(test)]
 mod changes;
+#[cfg(test)]
+mod evictions;
 #[cfg(test)]
 mod expiry;
 #[cfg(test)]

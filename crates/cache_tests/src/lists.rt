@@ -414,15 +414,21 @@ impl Lists {
         }
     }
 
+    /// Evicts the item whose turn it is, and tells its key; None where there is none. Where a bump waits for COLD's last
+    /// one all are applied first.
+    pub fn evict_next(&mut self, now: u64) -> Result<Option<u64>, AllocError> {
+        if self.is_cold_end_held() {
+            self.drain(self.ring, now)?;
+        }
+        self.evict(now)
+    }
+
     // Evicts an item for a key that has none, where there are as many as there may be, and tells its key.
     fn evict_where_full(&mut self, key: u64, now: u64) -> Result<Option<u64>, AllocError> {
         if self.linked() < self.room || self.is_known(key) {
             return Ok(None);
         }
-        if self.is_cold_end_held() {
-            self.drain(self.ring, now)?;
-        }
-        self.evict(now)
+        self.evict_next(now)
     }
 
     // How many items there are.

@@ -3,9 +3,10 @@
 ghost use Rattle.bump_cache.specs.Opening.{IsNamed};
 
 use crate::stands::{Entry, Stand, config_of};
-use bump_cache::{CacheBlank, LogName, Miss, Name};
+use bump_cache::{CacheBlank, CacheConfig, LogName, Miss, Name};
 use std::alloc::{AllocError, Global};
 use std::marker::Brand;
+use std::ops::Range;
 use std::process::Abort;
 use std::sync::Wait;
 use std::test::Fail;
@@ -15,10 +16,10 @@ const CALLS: u32 = 4;
 
 const KINDS: u32 = 7;
 
-// Nothing is ever put under this key.
-const NEVER_PUT: u64 = 2;
+// Nothing is ever put under the keys from this one on, up to the other.
+const NEVER_PUT: Range<u64> = 2..100;
 
-// A cache of one to three items, the ticks at which those of the keys 0 and 1 expire, and the time.
+// A cache of one to four items, the ticks at which those of the keys 0 and 1 expire, and the time.
 #[derive(Drop)]
 struct Small<N: Name + LogName> {
     stand: Stand<N, u64, u64>,
@@ -36,6 +37,15 @@ impl<N: Name + LogName> Small<N> {
             1 => self.one,
             _ => None,
         }
+    }
+
+    // A key of the same part, under which nothing is ever put.
+    fn never_put(&self, key: u64) -> u64 {
+        let part = self.stand.part_of(&key);
+        NEVER_PUT
+            .into_iter()
+            .find(|other| self.stand.part_of(other) == part)
+            .unwrap_or(NEVER_PUT.end)
     }
 
     // Where the cache holds one item, that of the other key is evicted.
@@ -77,8 +87,8 @@ impl<N: Name + LogName> Small<N> {
         }
     }
 
-    // Each read of a key finds what is there, and where it finds nothing it says why. A read of another key comes before
-    // each, so that what was said before is another answer.
+    // Each read of a key finds what is there, and where it finds nothing it says why. A read of another key of its part
+    // comes before each, so that what was said before is another answer.
     fn check<R: Wait + Abort>(&mut self, rt: &R, key: u64) {
         let expires = self.expires(key);
         let is_there = expires.is_some_and(|at| at == 0 || self.now < at);
@@ -89,8 +99,9 @@ impl<N: Name + LogName> Small<N> {
             Miss::Absent
         };
         assert_eq!(rt; self.stand.look(rt, &key, self.now), wanted);
+        let never_put = self.never_put(key);
         for read in 0..3 {
-            assert!(rt; !self.stand.contains(0, &NEVER_PUT, self.now));
+            assert!(rt; !self.stand.contains(0, &never_put, self.now));
             let found = match read {
                 0 => self.stand.get(0, &key, self.now),
                 1 => self.stand.peek(0, &key, self.now),
@@ -139,9 +150,12 @@ fn follow<N: Name + LogName, R: Wait + Abort>(
 #[test]
 fn each_read_says_what_is_there_or_why_nothing_is(rt: HostRuntime) -> Result<(), Fail> {
     let alloc = rt.alloc();
-    for items in [1, 2, 3] {
+    for (items, ring, parts) in [(1, 2, 1), (2, 2, 1), (3, 1, 1), (4, 1, 2)] {
         for sequence in 0..KINDS.pow(CALLS) {
-            let config = config_of(items, 1, 20, 40, 2);
+            let config = CacheConfig {
+                parts,
+                ..config_of(items, parts, 20, 40, ring)
+            };
             let blank = CacheBlank::<u64, u64>::new(alloc, &config)?;
             follow::<Brand, _>(&rt, alloc, blank, items == 1, sequence)?;
         }

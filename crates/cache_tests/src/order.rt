@@ -68,6 +68,13 @@ impl<N: Name + LogName> Pair<N> {
         self.note(old == had);
     }
 
+    fn evict<W: Wait>(&mut self, rt: &W) -> Result<(), AllocError> {
+        let evicted = self.stand.evict(rt, 0, self.now).map(|lost| lost.key);
+        let wanted = self.lists.evict_next(self.now)?;
+        self.note(evicted == wanted);
+        Ok(())
+    }
+
     fn tend<W: Wait>(&mut self, rt: &W) -> Result<(), AllocError> {
         self.stand.tend(rt, self.now);
         self.lists.tend(self.now)
@@ -173,6 +180,7 @@ impl<N: Name + LogName> Pair<N> {
             0..=3 => self.remove(rt, key),
             4 => self.tend(rt)?,
             5 if kind % 1_024 == 5 => self.clear(rt),
+            6..=7 => self.evict(rt)?,
             _ => {
                 self.put_until(rt, key, expires)?;
             }

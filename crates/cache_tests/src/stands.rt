@@ -137,6 +137,11 @@ impl<N: Name + LogName, K: Packed, V: Packed> Stand<N, K, V> {
         self.cache.take_expired(rt, &mut self.changer.me, part, now)
     }
 
+    /// Evicts the item of a part whose turn it is, and tells it.
+    pub fn evict<W: Wait>(&mut self, rt: &W, part: u32, now: u64) -> Option<Evicted<K, V>> {
+        self.cache.evict(rt, &mut self.changer.me, part, now)
+    }
+
     /// The part of a key.
     pub fn part_of(&self, key: &K) -> u32 {
         self.cache.part_of(key)

@@ -6,7 +6,8 @@ use Rattle.cache_index.specs.Leads.{no_way, way_to}
 use Rattle.cache_index.proofs.LedLemmas.{chunk_of_way, lifted_is_led}
 use Rattle.cache_index.proofs.WriterLemmas.{some_way, place_like, roomy_set, clear_passed}
 use Rattle.cache_index.proofs.WriterLemmas.{clear_lifted, table_clear}
-use Rattle.cache_index.proofs.HistoryLemmas.{clear_off, clear_unpass, keep_led, keep_noted, keep_without}
+use Rattle.cache_index.proofs.HistoryLemmas.{clear_off, clear_unpass}
+use Rattle.cache_index.proofs.KeepLemmas.{keep_led, keep_noted, keep_without}
 use Rattle.cache_index.proofs.from_zero.IndexFromZero.clear.Goals as goal
 
 pub set_tag-requires-clause-place : goal.set_tag-requires-clause-place

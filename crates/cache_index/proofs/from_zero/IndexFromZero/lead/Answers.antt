@@ -9,7 +9,8 @@ use Rattle.cache_index.proofs.LedLemmas.{chunk_of_way, led_anew}
 use Rattle.cache_index.proofs.WriterLemmas.{some_way, none_way, chunk_within, place_like, roomy_set}
 use Rattle.cache_index.proofs.WriterLemmas.{table_lead}
 use Rattle.cache_index.specs.History.{IsReached}
-use Rattle.cache_index.proofs.HistoryLemmas.{keep_noted, keep_relaid, led_reached}
+use Rattle.cache_index.proofs.HistoryLemmas.{led_reached}
+use Rattle.cache_index.proofs.KeepLemmas.{keep_noted, keep_relaid}
 use Rattle.cache_index.proofs.from_zero.IndexFromZero.lead.Goals as goal
 
 pub set_life-requires-clause-place : goal.set_life-requires-clause-place

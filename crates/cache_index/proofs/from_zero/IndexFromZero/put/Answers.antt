@@ -6,7 +6,8 @@ use Rattle.cache_index.specs.Views.{NestsView}
 use Rattle.cache_index.proofs.LedLemmas.{laid_is_led}
 use Rattle.cache_index.proofs.WriterLemmas.{none_way, chunk_within, place_like, roomy_set, put_laid, table_put}
 use Rattle.cache_index.specs.History.{IsReached}
-use Rattle.cache_index.proofs.HistoryLemmas.{keep_laid, keep_led, keep_noted, led_reached, put_life}
+use Rattle.cache_index.proofs.HistoryLemmas.{led_reached, put_life}
+use Rattle.cache_index.proofs.KeepLemmas.{keep_laid, keep_led, keep_noted}
 use Rattle.cache_index.proofs.AnswerLemmas.{is_off}
 use Rattle.cache_index.proofs.from_zero.IndexFromZero.put.Goals as goal
 

@@ -6,7 +6,8 @@ use Rattle.seen_words.specs.Past.{PenView, note_of}
 use Rattle.cache_index.specs.Views.{NestsView}
 use Rattle.cache_index.proofs.StepsLemmas.{home_of-lt}
 use Rattle.cache_index.specs.History.{AreNoted, IsReached}
-use Rattle.cache_index.proofs.HistoryLemmas.{keep_noted, keep_same, law_of, noted_are}
+use Rattle.cache_index.proofs.HistoryLemmas.{law_of, noted_are}
+use Rattle.cache_index.proofs.KeepLemmas.{keep_noted, keep_same}
 use Rattle.cache_index.proofs.WriterLemmas.{unpass_step, still_counts}
 use Rattle.cache_index.proofs.nests.Nests.pass_no_more.Goals as goal
 

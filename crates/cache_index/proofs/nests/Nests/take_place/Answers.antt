@@ -5,7 +5,8 @@ use Rattle.seen_words.specs.declared.views.Moment.{Moment}
 use Rattle.seen_words.specs.Past.{PenView, note_of}
 use Rattle.cache_index.specs.Views.{NestsView}
 use Rattle.cache_index.specs.History.{AreNoted}
-use Rattle.cache_index.proofs.HistoryLemmas.{keep_noted, keep_same, law_of, noted_are, pass_reached}
+use Rattle.cache_index.proofs.HistoryLemmas.{law_of, noted_are, pass_reached}
+use Rattle.cache_index.proofs.KeepLemmas.{keep_noted, keep_same}
 use Rattle.cache_index.proofs.StepsLemmas.{home_of-lt, not_yet, steps_to-nest_behind}
 use Rattle.cache_index.proofs.WriterLemmas.{all_on, on_step, pass_step}
 use Rattle.cache_index.proofs.nests.Nests.take_place.Goals as goal
