@@ -104,7 +104,7 @@ def crates():
           "bump_trace": (200, 300), "worked_traces": (150, 225), "store_trace": (330, 180), "bumpsim": (330, 110), "cache_lists": (900, 320),
           "cache_part": (900, 268), "cache_shelf": (900, 216), "cache_config": (900, 164), "cache_readers": (1080, 240), "cache_index": (1080, 300),
           "call_log": (900, 400), "packed_words": (900, 460),
-          "seen_words": (1080, 360), "keyed_hash": (1080, 460), "bump_cache": (900, 112), "replay_runs": (900, 60), "bump_replay": (1080, 60),
+          "seen_words": (1080, 360), "keyed_hash": (1080, 460), "bump_cache": (900, 112), "entry_cache": (760, 118), "replay_runs": (900, 60), "bump_replay": (1080, 60),
           "access_logs": (1080, 120), "replay_policies": (1080, 180), "cache_handles": (760, 60)}
     down = [("bump_rules", "bump_links"), ("model_state", "bump_rules"), ("bump_core", "model_state"),
             ("bump_word", "bump_rules"), ("bump_steps", "bump_word"), ("bump_readers", "bump_steps"),
@@ -116,11 +116,11 @@ def crates():
             ("cache_readers", "cache_index"), ("cache_index", "seen_words"), ("cache_config", "cache_shelf"), ("bump_cache", "cache_config"),
             ("replay_runs", "bump_cache"),
             ("bump_replay", "access_logs"), ("cache_handles", "bump_cache"), ("cache_handles", "bump_handles")]
-    used = {"bump_core", "bump_store", "bump_c", "bumpsim", "bump_links", "bump_cache", "bump_replay"}
+    used = {"bump_core", "bump_store", "bump_c", "bumpsim", "bump_links", "bump_cache", "entry_cache", "bump_replay"}
     boxes = [(x, y, 130, name, MOVE if name in used else STEP) for name, (x, y) in at.items()]
     arrows = [([(at[a][0] + 65, at[a][1] + 33), (at[b][0] + 65, at[b][1])], "", None) for a, b in down]
     arrows += [([(460, 196), (500, 196), (500, 153)], "", None), ([(620, 76), (585, 76)], "", None), ([(750, 76), (760, 76)], "", None),
-               ([(900, 180), (750, 190)], "", None), ([(900, 336), (750, 262)], "", None), ([(1030, 284), (1080, 310)], "", None),
+               ([(900, 180), (750, 190)], "", None), ([(900, 336), (750, 262)], "", None), ([(890, 134), (900, 134)], "", None), ([(1030, 284), (1080, 310)], "", None),
                ([(1030, 180), (1050, 180), (1050, 250), (1080, 250)], "", None),
                ([(1080, 76), (1030, 76)], "", None), ([(1210, 76), (1225, 76), (1225, 196), (1210, 196)], "", None),
                ([(1030, 88), (1055, 88), (1055, 650), (20, 650), (20, 290), (240, 290), (240, 300)], "", None)]

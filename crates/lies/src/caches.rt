@@ -1,7 +1,7 @@
 //! A cache, as a caller calls it.
 ghost use Rattle.bump_cache.specs.Caches.{part_in};
 ghost use Rattle.bump_cache.specs.Changing.{Adds, CallsOnHad, ChangesWhereSome, GetsOrPuts, IfGot, RefusesAnew, RefusesNew, ReplacesWhereSome, TellsFound, TouchesWhereSome};
-ghost use Rattle.bump_cache.specs.Ending.{TakesOfPart};
+ghost use Rattle.bump_cache.specs.Ending.{EvictsOfPart, TakesOfPart};
 ghost use Rattle.bump_cache.specs.Putting.{PutsValue, RefusesValue, RemovesValue};
 ghost use Rattle.bump_cache.specs.Setting.{PutsWords, RefusesWords};
 ghost use Rattle.bump_cache.specs.States.{from_of, part_called, to_of, now_of};
@@ -265,6 +265,21 @@ pub fn take_expired<N: Name + LogName, K: Packed, V: Packed, W: Wait>(
     ensures takes { part < cache.now.parts → TakesOfPart K.as_words V.as_words part now result me.old me.new }
 {
     cache.take_expired(rt, me, part, now)
+}
+
+/// Evicts the item of a part whose turn it is.
+pub fn evict<N: Name + LogName, K: Packed, V: Packed, W: Wait>(
+    cache: &Cache<N, K, V>,
+    rt: &W,
+    me: &mut Caller<N, CacheState>,
+    part: u32,
+    now: u64,
+) -> Option<Evicted<K, V>>
+    requires part { 0 < me.old.parts }
+    ensures absent { cache.now.parts ≤ part → (result ≡ None) × (me.new ≡ me.old) }
+    ensures evicts { part < cache.now.parts → EvictsOfPart K.as_words V.as_words part now result me.old me.new }
+{
+    cache.evict(rt, me, part, now)
 }
 
 /// The statistics of a part.

@@ -4,7 +4,6 @@
 
 pub mod caches;
 pub mod configs;
-pub mod counted;
 pub mod held;
 pub mod readers;
 pub mod strings;

@@ -1,9 +1,10 @@
 //! Readers that give little at a time, are interrupted, or fail.
 
-use crate::reports::{Report, whole};
-use access_logs::{Column, Format, LogFault, read_log};
+use crate::reports::{Report, expect_log, keys_in, lacks, whole};
+use access_logs::{Column, Field, Format, Log, LogFault, read_log};
 use std::alloc::{AllocError, Global};
 use std::io::{self, ErrorKind, Read};
+use std::process::Abort;
 use std::test::*;
 
 // Gives a text in pieces of so many bytes, with an interruption before each; and fails behind it, if it is to.
@@ -32,53 +33,72 @@ impl<'a> Read for Pieces<'a> {
     }
 }
 
-fn give<'a>(text: &'a [u8], size: usize, fails: bool) -> Pieces<'a> {
-    Pieces {
+// The log of a text in such pieces.
+fn read<'a>(
+    alloc: Global,
+    text: &'a [u8],
+    size: usize,
+    format: Format<'_>,
+    strict: bool,
+    fails: bool,
+) -> Result<Log, LogFault> {
+    let pieces = Pieces {
         text,
         size,
         interrupted: false,
         fails,
+    };
+    read_log(alloc, pieces, format, strict)
+}
+
+// Pieces of all sizes below the bound make no difference to a log, nor does it to be strict where all can be read.
+fn expect_pieces(
+    rt: &impl Abort,
+    alloc: Global,
+    text: &[u8],
+    sizes: usize,
+    format: Format<'_>,
+    wanted: Report<'_>,
+) {
+    let strict = wanted.unreadable == 0;
+    for size in 1..sizes {
+        let log = read(alloc, text, size, format, strict, false);
+        expect_log(rt, log, wanted);
     }
 }
 
-const CSV: Format<'static> = Format::Csv {
-    key: Column::Number(1),
-    header: false,
-    size: None,
-    time: None,
-    operation: None,
-    ttl: None,
-};
+fn column(column: u32) -> Format<'static> {
+    keys_in(Column::Number(column), false)
+}
 
 #[test]
 fn pieces_make_no_difference(rt: HostRuntime) {
-    let report = Report {
-        accesses: &[0, 1, 0],
-        keys: 2,
-        unreadable: 1,
-        first: Some(3),
-    };
-    for size in 1..8 {
-        let lines = give(b"key\r\nother\n\r\nkey", size, false);
-        assert!(rt; report.is(&read_log(rt.alloc(), lines, Format::Lines, false)));
-        let records = give(b"1,key\r\n2,other\r\n3\r\n4,\"key\"", size, false);
-        assert!(rt; report.is(&read_log(rt.alloc(), records, CSV, false)));
-    }
+    let wanted = whole(&[0, 1, 0], 2).but(1, lacks(3, Field::Key));
+    let lines = b"key\r\nother\n\r\nkey";
+    expect_pieces(&rt, rt.alloc(), lines, 8, Format::Lines, wanted);
+    let records = b"1,key\r\n2,other\r\n3\r\n4,\"key\"";
+    expect_pieces(&rt, rt.alloc(), records, 8, column(1), wanted);
 }
 
 const DIGITS: &[u8; 10] = b"0123456789";
 
-// The lines of so many keys, at most 1000, twice: each has 40 bytes and its number. And their numbers.
+// Puts the line of a key behind a text: it has 40 bytes and its number, which is below 1000.
+fn push_line(text: &mut Vec<u8>, number: u32) -> Result<(), AllocError> {
+    text.resize(text.len().saturating_add(40), b'k')?;
+    for place in [100, 10, 1] {
+        text.push(DIGITS[(number / place % 10) as usize])?;
+    }
+    text.push(b'\n')?;
+    Ok(())
+}
+
+// The lines of so many keys, at most 1000, twice. And their numbers.
 fn keys_twice(alloc: Global, count: u32) -> Result<(Vec<u8>, Vec<u32>), AllocError> {
     let mut text = Vec::new(alloc);
     let mut numbers = Vec::new(alloc);
     for _ in 0..2 {
         for number in 0..count {
-            text.resize(text.len().saturating_add(40), b'k')?;
-            text.push(DIGITS[(number / 100 % 10) as usize])?;
-            text.push(DIGITS[(number / 10 % 10) as usize])?;
-            text.push(DIGITS[(number % 10) as usize])?;
-            text.push(b'\n')?;
+            push_line(&mut text, number)?;
             numbers.push(number)?;
         }
     }
@@ -89,58 +109,41 @@ fn keys_twice(alloc: Global, count: u32) -> Result<(Vec<u8>, Vec<u32>), AllocErr
 #[test]
 fn reader_that_never_fails_is_read_to_its_end(rt: HostRuntime) -> Result<(), Fail> {
     let (text, numbers) = keys_twice(rt.alloc(), 300)?;
-    let first = Format::Csv {
-        key: Column::Number(0),
-        header: false,
-        size: None,
-        time: None,
-        operation: None,
-        ttl: None,
-    };
-    for size in 1..4 {
-        let lines = give(&text, size, false);
-        assert!(rt; whole(&numbers, 300).is(&read_log(rt.alloc(), lines, Format::Lines, true)));
-        let records = give(&text, size, false);
-        assert!(rt; whole(&numbers, 300).is(&read_log(rt.alloc(), records, first, true)));
-    }
+    let wanted = whole(&numbers, 300);
+    expect_pieces(&rt, rt.alloc(), &text, 4, Format::Lines, wanted);
+    expect_pieces(&rt, rt.alloc(), &text, 4, column(0), wanted);
     Ok(())
 }
 
-// The reader failed in the line or record of this number.
-fn failed(number: u64) -> Option<LogFault> {
-    Some(LogFault::Read {
-        number,
-        cause: ErrorKind::NotFound,
-    })
+// A reader that fails behind a text fails in the line or record of this number.
+fn expect_failures(rt: &impl Abort, alloc: Global, format: Format<'_>, texts: &[(&str, u64)]) {
+    for (text, number) in texts {
+        let wanted = LogFault::Read {
+            number: *number,
+            cause: ErrorKind::NotFound,
+        };
+        let log = read(alloc, text.as_bytes(), 3, format, false, true);
+        assert_eq!(rt; log.err(), Some(wanted));
+    }
 }
 
 #[test]
 fn reader_that_fails_gives_no_log(rt: HostRuntime) {
-    for (text, number) in [("", 1), ("a", 1), ("a\n", 2), ("a\nb\n", 3), ("a\nb\nc", 3)] {
-        let lines = give(text.as_bytes(), 3, true);
-        assert_eq!(rt;
-            read_log(rt.alloc(), lines, Format::Lines, false).err(),
-            failed(number)
-        );
-    }
-    for (text, number) in [
+    let lines = [("", 1), ("a", 1), ("a\n", 2), ("a\nb\n", 3), ("a\nb\nc", 3)];
+    expect_failures(&rt, rt.alloc(), Format::Lines, &lines);
+    let records = [
         ("", 1),
         ("1,a\n2,b", 2),
         ("1,a\n2,b\n", 3),
         ("1,a\n\n\n2,b\n", 3),
-    ] {
-        let records = give(text.as_bytes(), 3, true);
-        assert_eq!(rt;
-            read_log(rt.alloc(), records, CSV, false).err(),
-            failed(number)
-        );
-    }
+    ];
+    expect_failures(&rt, rt.alloc(), column(1), &records);
 }
 
 #[test]
 fn what_is_read_of_a_borrowed_reader_is_gone(rt: HostRuntime) {
     let mut lines: &[u8] = b"a\nb\na\n";
     let log = read_log(rt.alloc(), &mut lines, Format::Lines, false);
-    assert!(rt; whole(&[0, 1, 0], 2).is(&log));
+    expect_log(&rt, log, whole(&[0, 1, 0], 2));
     assert!(rt; lines.is_empty());
 }

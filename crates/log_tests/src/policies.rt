@@ -106,16 +106,17 @@ fn one_key(rt: HostRuntime) -> Result<(), Fail> {
     Ok(())
 }
 
+// No cache is of so many items.
+fn expect_refused(rt: &impl Abort, alloc: Global, policy: Policy, items: u32) {
+    let told = replay(alloc, policy, items, &[1, 2, 1]);
+    assert_eq!(rt; told, Err(PolicyFault::Items));
+}
+
 #[test]
 fn items_are_one_to_a_million(rt: HostRuntime) -> Result<(), Fail> {
-    let accesses = [1, 2, 1];
-    let fault = Err(PolicyFault::Items);
-    assert_eq!(rt; replay(rt.alloc(), Policy::Lru, 0, &accesses), fault);
-    assert_eq!(rt;
-        replay(rt.alloc(), Policy::Fifo, MAX_ITEMS + 1, &accesses),
-        fault
-    );
-    expect_both(&rt, rt.alloc(), MAX_ITEMS, &accesses, tally(1, 2))?;
+    expect_refused(&rt, rt.alloc(), Policy::Lru, 0);
+    expect_refused(&rt, rt.alloc(), Policy::Fifo, MAX_ITEMS + 1);
+    expect_both(&rt, rt.alloc(), MAX_ITEMS, &[1, 2, 1], tally(1, 2))?;
     Ok(())
 }
 
@@ -145,6 +146,26 @@ fn scans_that_do_not_fit_never_hit(rt: HostRuntime) -> Result<(), Fail> {
     Ok(())
 }
 
+// What is done with a key, and whether it was in the cache.
+#[derive(Clone, Copy)]
+enum Step {
+    Access(u32, bool),
+    Remove(u32, bool),
+}
+
+// What is done in a new cache.
+#[derive(Clone, Copy)]
+enum Play<'a> {
+    // These accesses come to so many hits, and fill it.
+    Fill(&'a [(u32, bool)], u64),
+
+    // These steps come to this.
+    Steps(&'a [Step]),
+
+    // So many accesses of a log hit, where in place of each fifth one its key is removed.
+    Removals(&'a [u32], u64),
+}
+
 // These accesses come to so many hits in a cache that has no keys yet, and fill it.
 fn fill(
     rt: &impl Abort,
@@ -161,17 +182,53 @@ fn fill(
     Ok(())
 }
 
-// So they do in a new cache of so many items.
-fn expect_run(
+// These steps come to this.
+fn take_steps(rt: &impl Abort, run: &mut Replay, steps: &[Step]) -> Result<(), Fail> {
+    for step in steps {
+        match *step {
+            Step::Access(key, wanted) => assert!(rt; access(run, key)? == wanted, "key {key}"),
+            Step::Remove(key, wanted) => assert!(rt; run.remove(key) == wanted, "key {key}"),
+        }
+    }
+    Ok(())
+}
+
+// So many accesses of a log hit, where in place of each fifth one its key is removed.
+fn run_with_removals(
+    rt: &impl Abort,
+    run: &mut Replay,
+    log: &[u32],
+    hits: u64,
+) -> Result<(), Fail> {
+    for (place, key) in log.iter().enumerate() {
+        if place % 5 == 4 {
+            run.remove(*key);
+        } else {
+            access(run, *key)?;
+        }
+    }
+    assert_eq!(rt; told(run).hits, hits);
+    Ok(())
+}
+
+fn play_on(rt: &impl Abort, run: &mut Replay, items: u32, play: Play<'_>) -> Result<(), Fail> {
+    match play {
+        Play::Fill(accesses, hits) => fill(rt, run, items, accesses, hits),
+        Play::Steps(steps) => take_steps(rt, run, steps),
+        Play::Removals(log, hits) => run_with_removals(rt, run, log, hits),
+    }
+}
+
+// Plays in a new cache of so many items. The cache is made here alone, and borrowed by all that is played.
+fn expect_play(
     rt: &impl Abort,
     alloc: Global,
     policy: Policy,
     items: u32,
-    accesses: &[(u32, bool)],
-    hits: u64,
+    play: Play<'_>,
 ) -> Result<(), Fail> {
     match Replay::new(alloc, policy, items) {
-        Ok(mut run) => fill(rt, &mut run, items, accesses, hits),
+        Ok(mut run) => play_on(rt, &mut run, items, play),
         Err(fault) => Err(Fail::from(fault)),
     }
 }
@@ -189,7 +246,8 @@ const LRU: [(u32, bool); 7] = [
 
 #[test]
 fn lru_keeps_what_was_asked_for(rt: HostRuntime) -> Result<(), Fail> {
-    expect_run(&rt, rt.alloc(), Policy::Lru, 3, &LRU, 2)
+    let play = Play::Fill(&LRU, 2);
+    expect_play(&rt, rt.alloc(), Policy::Lru, 3, play)
 }
 
 const FIFO: [(u32, bool); 7] = [
@@ -205,7 +263,8 @@ const FIFO: [(u32, bool); 7] = [
 
 #[test]
 fn fifo_keeps_what_came_last(rt: HostRuntime) -> Result<(), Fail> {
-    expect_run(&rt, rt.alloc(), Policy::Fifo, 3, &FIFO, 1)
+    let play = Play::Fill(&FIFO, 1);
+    expect_play(&rt, rt.alloc(), Policy::Fifo, 3, play)
 }
 
 const CLOCK: [(u32, bool); 11] = [
@@ -226,7 +285,8 @@ const CLOCK: [(u32, bool); 11] = [
 
 #[test]
 fn clock_gives_a_second_round(rt: HostRuntime) -> Result<(), Fail> {
-    expect_run(&rt, rt.alloc(), Policy::Clock, 3, &CLOCK, 4)
+    let play = Play::Fill(&CLOCK, 4);
+    expect_play(&rt, rt.alloc(), Policy::Clock, 3, play)
 }
 
 const SIEVE: [(u32, bool); 9] = [
@@ -244,7 +304,8 @@ const SIEVE: [(u32, bool); 9] = [
 
 #[test]
 fn sieve_stays_where_it_evicted(rt: HostRuntime) -> Result<(), Fail> {
-    expect_run(&rt, rt.alloc(), Policy::Sieve, 3, &SIEVE, 2)
+    let play = Play::Fill(&SIEVE, 2);
+    expect_play(&rt, rt.alloc(), Policy::Sieve, 3, play)
 }
 
 // One item is the small queue's and two are the main one's, and there are two ghosts.
@@ -275,7 +336,8 @@ const S3_FIFO: [(u32, bool); 17] = [
 
 #[test]
 fn s3_fifo_keeps_what_comes_again(rt: HostRuntime) -> Result<(), Fail> {
-    expect_run(&rt, rt.alloc(), Policy::S3Fifo, 3, &S3_FIFO, 6)
+    let play = Play::Fill(&S3_FIFO, 6);
+    expect_play(&rt, rt.alloc(), Policy::S3Fifo, 3, play)
 }
 
 const S3_FIFO_USES: [(u32, bool); 17] = [
@@ -303,46 +365,16 @@ const S3_FIFO_USES: [(u32, bool); 17] = [
 
 #[test]
 fn s3_fifo_counts_three_uses(rt: HostRuntime) -> Result<(), Fail> {
-    expect_run(&rt, rt.alloc(), Policy::S3Fifo, 2, &S3_FIFO_USES, 5)
+    let play = Play::Fill(&S3_FIFO_USES, 5);
+    expect_play(&rt, rt.alloc(), Policy::S3Fifo, 2, play)
 }
 
 const S3_FIFO_OF_ONE: [(u32, bool); 5] = [(1, false), (1, true), (1, true), (2, false), (1, false)];
 
 #[test]
 fn s3_fifo_of_one_item_has_no_ghosts(rt: HostRuntime) -> Result<(), Fail> {
-    expect_run(&rt, rt.alloc(), Policy::S3Fifo, 1, &S3_FIFO_OF_ONE, 2)
-}
-
-// What is done with a key, and whether it was in the cache.
-#[derive(Clone, Copy)]
-enum Step {
-    Access(u32, bool),
-    Remove(u32, bool),
-}
-
-// These steps come to this.
-fn take_steps(rt: &impl Abort, run: &mut Replay, steps: &[Step]) -> Result<(), Fail> {
-    for step in steps {
-        match *step {
-            Step::Access(key, wanted) => assert!(rt; access(run, key)? == wanted, "key {key}"),
-            Step::Remove(key, wanted) => assert!(rt; run.remove(key) == wanted, "key {key}"),
-        }
-    }
-    Ok(())
-}
-
-// So they do in a new cache of so many items.
-fn expect_steps(
-    rt: &impl Abort,
-    alloc: Global,
-    policy: Policy,
-    items: u32,
-    steps: &[Step],
-) -> Result<(), Fail> {
-    match Replay::new(alloc, policy, items) {
-        Ok(mut run) => take_steps(rt, &mut run, steps),
-        Err(fault) => Err(Fail::from(fault)),
-    }
+    let play = Play::Fill(&S3_FIFO_OF_ONE, 2);
+    expect_play(&rt, rt.alloc(), Policy::S3Fifo, 1, play)
 }
 
 // 2 leaves no place behind that it would have to fill again: 1 is still there.
@@ -365,7 +397,13 @@ fn each_policy_frees_a_removed_place(rt: HostRuntime) -> Result<(), Fail> {
         Policy::Sieve,
         Policy::S3Fifo,
     ] {
-        expect_steps(&rt, rt.alloc(), policy, 2, &REMOVED_AND_PUT_AGAIN)?;
+        expect_play(
+            &rt,
+            rt.alloc(),
+            policy,
+            2,
+            Play::Steps(&REMOVED_AND_PUT_AGAIN),
+        )?;
     }
     Ok(())
 }
@@ -386,7 +424,8 @@ const CLOCK_REMOVES: [Step; 10] = [
 
 #[test]
 fn clock_goes_on_from_a_removed_key(rt: HostRuntime) -> Result<(), Fail> {
-    expect_steps(&rt, rt.alloc(), Policy::Clock, 3, &CLOCK_REMOVES)
+    let play = Play::Steps(&CLOCK_REMOVES);
+    expect_play(&rt, rt.alloc(), Policy::Clock, 3, play)
 }
 
 const SIEVE_REMOVES: [Step; 11] = [
@@ -406,7 +445,8 @@ const SIEVE_REMOVES: [Step; 11] = [
 
 #[test]
 fn sieve_goes_on_from_a_removed_key(rt: HostRuntime) -> Result<(), Fail> {
-    expect_steps(&rt, rt.alloc(), Policy::Sieve, 3, &SIEVE_REMOVES)
+    let play = Play::Steps(&SIEVE_REMOVES);
+    expect_play(&rt, rt.alloc(), Policy::Sieve, 3, play)
 }
 
 const S3_FIFO_REMOVES: [Step; 14] = [
@@ -430,35 +470,11 @@ const S3_FIFO_REMOVES: [Step; 14] = [
 
 #[test]
 fn s3_fifo_remembers_no_removed_key(rt: HostRuntime) -> Result<(), Fail> {
-    expect_steps(&rt, rt.alloc(), Policy::S3Fifo, 3, &S3_FIFO_REMOVES)
+    let play = Play::Steps(&S3_FIFO_REMOVES);
+    expect_play(&rt, rt.alloc(), Policy::S3Fifo, 3, play)
 }
 
-// How many accesses of a log hit, where in place of each fifth one its key is removed.
-fn run_with_removals(run: &mut Replay, log: &[u32]) -> Result<u64, AllocError> {
-    for (place, key) in log.iter().enumerate() {
-        if place % 5 == 4 {
-            run.remove(*key);
-        } else {
-            access(run, *key)?;
-        }
-    }
-    Ok(told(run).hits)
-}
-
-// So many do in a new cache of so many items.
-fn hits_with_removals(
-    alloc: Global,
-    policy: Policy,
-    items: u32,
-    log: &[u32],
-) -> Result<u64, PolicyFault> {
-    match Replay::new(alloc, policy, items) {
-        Ok(mut run) => Ok(run_with_removals(&mut run, log)?),
-        Err(fault) => Err(fault),
-    }
-}
-
-// They come to so many: what checks/lib/policies.py comes to.
+// So many accesses hit of a log with removals: as many as checks/lib/policies.py comes to.
 fn expect_removals(
     rt: &impl Abort,
     alloc: Global,
@@ -467,7 +483,7 @@ fn expect_removals(
 ) -> Result<(), Fail> {
     let log = skewed(alloc, 3_000, 40)?;
     for (items, hits) in wanted {
-        assert_eq!(rt; hits_with_removals(alloc, policy, *items, &log)?, *hits);
+        expect_play(rt, alloc, policy, *items, Play::Removals(&log, *hits))?;
     }
     Ok(())
 }
@@ -491,8 +507,8 @@ const REMOVALS: [(Policy, [(u32, u64); 4]); 5] = [
 
 #[test]
 fn removals_come_to_what_another_program_tells(rt: HostRuntime) -> Result<(), Fail> {
-    for (policy, wanted) in REMOVALS {
-        expect_removals(&rt, rt.alloc(), policy, &wanted)?;
+    for (policy, wanted) in &REMOVALS {
+        expect_removals(&rt, rt.alloc(), *policy, wanted)?;
     }
     Ok(())
 }

@@ -5,7 +5,9 @@
 pub mod books;
 pub mod links;
 pub mod raw_lanes;
+pub mod readers;
 pub mod rings;
+pub mod seats;
 pub mod stores;
 pub mod tables;
 pub mod words;

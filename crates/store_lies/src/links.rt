@@ -1,72 +1,21 @@
 //! Links, as a caller calls them.
-ghost use Rattle.bump_links.specs.Lists.{HoldsEachOnce, list_at, first_of, last_of, IsHeldBy, IsNextOf, IsPreviousOf};
-ghost use Rattle.bump_links.specs.Lists.{moved_to_front};
-ghost use Rattle.std.specs.Prelude.{◌≡◌, ◌≤◌, length, ◌<◌, IfSome, All, IfOk};
+ghost use Rattle.bump_links.specs.Lists.{HoldsEachOnce, list_at};
+ghost use Rattle.bump_links.specs.Lists.{all_in_first, moved_to_front};
+ghost use Rattle.std.specs.Prelude.{◌≡◌, ◌≤◌, length, ◌<◌, All, IfOk};
 
 use bump_links::{LISTS_MAX, Links, NODES_MAX};
 use std::alloc::{AllocError, Global};
 
-/// How many nodes there are.
-pub fn nodes(links: &Links) -> u32
-    ensures count { result ≡ links.now.nodes }
-    ensures few { result ≤ NODES_MAX }
-    ensures each_once { HoldsEachOnce links.now }
+/// Lists of which one holds all nodes.
+pub fn new(alloc: Global, nodes: u32, lists: u32, first: u32) -> Result<Links, AllocError>
+    requires some_nodes { 1 ≤ nodes }
+    requires few_nodes { nodes ≤ NODES_MAX }
+    requires few_lists { lists ≤ LISTS_MAX }
+    requires first { first < lists }
+    ensures made { IfOk result (λ made. made ≡ all_in_first nodes lists first) }
+    ensures each_once { IfOk result (λ made. HoldsEachOnce made) }
 {
-    links.nodes()
-}
-
-/// How many lists there are.
-pub fn lists(links: &Links) -> u32
-    ensures count { result ≡ length links.now.lists }
-    ensures few { result ≤ LISTS_MAX }
-{
-    links.lists()
-}
-
-/// The front of a list.
-pub fn front(links: &Links, list: u32) -> Option<u32>
-    requires { list < length links.now.lists }
-    ensures first { result ≡ first_of (list_at links.now list) }
-    ensures in_range { IfSome result (λ node. node < links.now.nodes) }
-{
-    links.front(list)
-}
-
-/// The back of a list.
-pub fn back(links: &Links, list: u32) -> Option<u32>
-    requires { list < length links.now.lists }
-    ensures last { result ≡ last_of (list_at links.now list) }
-    ensures in_range { IfSome result (λ node. node < links.now.nodes) }
-{
-    links.back(list)
-}
-
-/// The list that holds a node.
-pub fn list_of(links: &Links, node: u32) -> u32
-    requires { node < links.now.nodes }
-    ensures { IsHeldBy links.now node result }
-{
-    links.list_of(node)
-}
-
-/// The node behind a node.
-pub fn after(links: &Links, node: u32) -> Option<u32>
-    requires { node < links.now.nodes }
-    ensures next { IsNextOf links.now node result }
-    ensures in_range { IfSome result (λ next. next < links.now.nodes) }
-    ensures each_once { HoldsEachOnce links.now }
-{
-    links.after(node)
-}
-
-/// The node before a node.
-pub fn before(links: &Links, node: u32) -> Option<u32>
-    requires { node < links.now.nodes }
-    ensures previous { IsPreviousOf links.now node result }
-    ensures in_range { IfSome result (λ previous. previous < links.now.nodes) }
-    ensures each_once { HoldsEachOnce links.now }
-{
-    links.before(node)
+    Links::new(alloc, nodes, lists, first)
 }
 
 /// How many nodes a list has.

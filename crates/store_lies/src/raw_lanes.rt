@@ -1,10 +1,9 @@
 //! A Book that applies the bumps of a raw lane, as a caller calls it.
 ghost use Rattle.bump_class.specs.Applications.{AppliesBump};
-ghost use Rattle.bump_class.specs.Lanes.{carries, LaneView as TheLaneView, entries, Boards, TellsAboard};
+ghost use Rattle.bump_class.specs.Lanes.{carries, LaneView as TheLaneView};
 ghost use Rattle.bump_class.specs.Runs.{AppliesUpTo, IsRunOver, FreesRun, MayHaveBoarded};
 ghost use Rattle.bump_class.specs.Sweeps.{told_first};
 ghost use Rattle.bump_steps.specs.Views.{owns};
-ghost use Rattle.bump_steps.specs.declared.views.Ride.{Ride as TheRide};
 ghost use Rattle.std.specs.Prelude.{◌≡◌, IsSome, IfSome, true, ◌≤◌, ◌<◌, ℕ, List as TheList, length, None};
 
 use bump_class::{Book, RawLane, RunEnd};
@@ -63,28 +62,4 @@ pub fn apply_run_into<N: Name, L: RowLaw>(
     ensures full { result.freed ≡ length freed.old → carries lane.new ≡ None }
 {
     book.apply_run_into(lane, now, limit, freed)
-}
-
-/// How many bumps a lane applied.
-pub fn applied<N: Name, L: RowLaw>(lane: &RawLane<N, L>) -> u64
-    ensures { result ≡ length (entries lane.now) }
-{
-    lane.applied()
-}
-
-/// The number of a lane's worker.
-pub fn worker<N: Name, L: RowLaw>(lane: &RawLane<N, L>) -> u32
-    ensures { result ≡ lane.now.sheet.worker }
-{
-    lane.worker()
-}
-
-/// Takes the next bump aboard.
-pub fn fetch<N: Name, L: RowLaw>(lane: &mut RawLane<N, L>) -> Option<Bump>
-    ensures aboard { TellsAboard lane.old result lane.new }
-    ensures kept { IsSome (carries lane.old) → lane.new ≡ lane.old }
-    ensures next { IfSome result (λ bump. carries lane.old ≡ None → (ride : TheRide)
-        × Boards lane.old bump lane.new ride) }
-{
-    lane.fetch()
 }

@@ -1,20 +1,16 @@
 //! A store with its lanes, as a caller calls them.
-ghost use Rattle.bump_class.specs.Lanes.{entries, IsRawLane, LaneView as TheLaneView};
+ghost use Rattle.bump_class.specs.Lanes.{entries, LaneView as TheLaneView};
 ghost use Rattle.bump_unlocked.specs.Closing.{AppliedAll};
-ghost use Rattle.bump_rules.specs.Configs.{chunks_of};
-ghost use Rattle.bump_store.specs.Finishing.{sum_of, AreOfClasses};
 ghost use Rattle.bump_store.specs.Lanes.{applied_bump_of, NothingAboard, AppliesNext, AppliesMany};
-ghost use Rattle.bump_store.specs.Passes.{all_applied, AllDrained};
 ghost use Rattle.bump_store.specs.Settling.{MaySeeEnd, Settles};
-ghost use Rattle.bump_store.specs.Stores.{IsOfClass, ClassHasChunk};
+ghost use Rattle.bump_store.specs.Stores.{IsOfClass};
 ghost use Rattle.std.specs.Prelude.{◌≡◌, ◌++◌, ◌∷◌, [], IfSome, IfNone, length, ◌+◌, ◌≤◌, ◌<◌, ◌↔◌, None, Ok, IfOk};
-ghost use Rattle.std.specs.Prelude.{IfErr, false, IsErr, map};
+ghost use Rattle.std.specs.Prelude.{IfErr, false, IsErr};
 ghost use Rattle.std.specs.Sync.Mutex.{mutex_guard_value};
 ghost use mathlib.Core.List.{IsPrefix};
 
 use bump_store::{
-    Book, ClassSizes, ClosedWorker, Entry, Lane, Maintainer, Name, NoSuchChunk, NoSuchClass,
-    RowLaw, Settled, Store, Unfinished, Unseen, Unsettled,
+    Book, ClosedWorker, Entry, Lane, Name, NoSuchClass, RowLaw, Settled, Store, Unseen, Unsettled,
 };
 use std::alloc::Global;
 use std::sync::{MutexGuard, Wait};
@@ -55,22 +51,6 @@ pub fn drain<N: Name, L: RowLaw, R: Wait>(
     ensures idle { NothingAboard lane.new.lane }
 {
     lane.drain(rt, store, now)
-}
-
-/// How many bumps a lane applied.
-pub fn applied<N: Name, L: RowLaw>(lane: &Lane<N, L>) -> u64
-    ensures count { result ≡ length (entries lane.now.lane) }
-    ensures order { IsRawLane lane.now.lane.sheet lane.now.lane.received }
-    ensures idle { NothingAboard lane.now.lane }
-{
-    lane.applied()
-}
-
-/// The number of a lane's worker.
-pub fn worker<N: Name, L: RowLaw>(lane: &Lane<N, L>) -> u32
-    ensures { result ≡ lane.now.lane.sheet.worker }
-{
-    lane.worker()
 }
 
 /// Applies the next bump of a closed ring.
@@ -126,19 +106,6 @@ pub fn settle<N: Name, L: RowLaw, R: Wait>(
     lane.settle(rt, store, closed, now)
 }
 
-/// Drains each lane once.
-pub fn pass<N: Name, L: RowLaw, R: Wait>(
-    maintainer: &mut Maintainer<N, L>,
-    rt: &R,
-    store: &Store<N, L>,
-    now: u64,
-) -> u64
-    ensures lanes { AllDrained now maintainer.old maintainer.new }
-    ensures count { all_applied maintainer.new ≡ all_applied maintainer.old + result }
-{
-    maintainer.pass(rt, store, now)
-}
-
 /// A class's Book, under its lock.
 pub fn lock<'a, N: Name, L: RowLaw, R: Wait>(
     store: &'a Store<N, L>,
@@ -150,26 +117,4 @@ pub fn lock<'a, N: Name, L: RowLaw, R: Wait>(
     ensures none { IsErr result ↔ (length store.now.classes ≤ class) }
 {
     store.lock(rt, class)
-}
-
-/// The class that has a chunk.
-pub fn class_of<N: Name, L: RowLaw>(store: &Store<N, L>, chunk: u32) -> Result<u32, NoSuchChunk>
-    ensures in_range { IfOk result (λ class. class < length store.now.classes) }
-    ensures class { IfOk result (λ class. ClassHasChunk chunk class store.now.classes) }
-    ensures none { IsErr result ↔ (chunks_of store.now.classes ≤ chunk) }
-{
-    store.class_of(chunk)
-}
-
-/// Ends a store, and tells its lists' sizes.
-pub fn finish<N: Name, L: RowLaw, R: Wait>(
-    store: Store<N, L>,
-    alloc: Global,
-    rt: &R,
-) -> Result<Vec<ClassSizes>, Unfinished<N, L>>
-    ensures books { IfOk result (λ sizes. AreOfClasses store.classes sizes.items) }
-    ensures sums { IfOk result (λ sizes. map sum_of sizes.items ≡ map (λ class. class.chunks) store.classes) }
-    ensures store { IfErr result (λ unfinished. unfinished.store ≡ store) }
-{
-    store.finish(alloc, rt)
 }

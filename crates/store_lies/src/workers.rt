@@ -1,13 +1,12 @@
 //! A worker and its holds, as a caller calls them.
 ghost use Rattle.bump_unlocked.specs.Gets.{Got, GotAny};
-ghost use Rattle.bump_unlocked.specs.Holds.{SeesHead, SeesMarks};
 ghost use Rattle.bump_unlocked.specs.StepCounts.{MakesAtMost};
 ghost use Rattle.bump_unlocked.specs.Touches.{Findings as TheFindings, Touched};
 ghost use Rattle.bump_readers.specs.Attempts.{attempts_in};
 ghost use Rattle.bump_readers.specs.Taking.{IsTakenBy};
 ghost use Rattle.bump_rules.specs.Rings.{most_attempts, IsAccounts};
 ghost use Rattle.bump_rules.specs.declared.items.Head.{Head as TheHead};
-ghost use Rattle.bump_steps.specs.References.{new_hold, IsRow, words_in, label_of_row, word_of_row};
+ghost use Rattle.bump_steps.specs.References.{new_hold, IsRow, words_in, word_of_row};
 ghost use Rattle.bump_steps.specs.Rule.{chunks as all_chunks};
 ghost use Rattle.std.specs.Prelude.{◌≡◌, ◌<◌, ◌≤◌, List, Err, IfOk, length};
 ghost use Rattle.bump_unlocked.specs.declared.refusals.GetAnyRefusal.TheVariants as refused_any;
@@ -16,7 +15,7 @@ ghost use Rattle.bump_rules.specs.declared.commands.Touch.TheVariants as touch;
 ghost use Rattle.bump_rules.specs.declared.hands.Hand.TheVariants as hand;
 
 use bump_store::{
-    Accounts, Book, ClosedWorker, GetAnyRefusal, GetRefusal, Head, Hold, ItemId, Name, ReaderHeads,
+    Accounts, ClosedWorker, GetAnyRefusal, GetRefusal, Head, Hold, ItemId, Name, ReaderHeads,
     RowLaw, Touch, Worker,
 };
 
@@ -95,21 +94,6 @@ pub fn last_counts<N: Name>(closed: &ClosedWorker<N>) -> Accounts
     closed.counts()
 }
 
-/// The item that is held.
-pub fn life<N: Name>(hold: &Hold<N>) -> ItemId
-    ensures { result ≡ hold.now.life }
-{
-    hold.life()
-}
-
-/// The label of the item that is held.
-pub fn label<N: Name, L: RowLaw>(hold: &mut Hold<N>, heads: &ReaderHeads<N, L>) -> u64
-    ensures is { result ≡ label_of_row hold.old.row }
-    ensures same { hold.new ≡ hold.old }
-{
-    hold.label(heads)
-}
-
 /// A further word of it.
 pub fn word<N: Name, L: RowLaw>(hold: &mut Hold<N>, heads: &ReaderHeads<N, L>, index: u32) -> u64
     requires index { index < N.table.slots }
@@ -117,18 +101,4 @@ pub fn word<N: Name, L: RowLaw>(hold: &mut Hold<N>, heads: &ReaderHeads<N, L>, i
     ensures same { hold.new ≡ hold.old }
 {
     hold.word(heads, index)
-}
-
-/// Its head.
-pub fn head<N: Name, L: RowLaw>(hold: &mut Hold<N>, heads: &ReaderHeads<N, L>) -> Head
-    ensures { SeesHead hold.old hold.new result }
-{
-    hold.head(heads)
-}
-
-/// Whether it has both marks.
-pub fn is_marked<N: Name, L: RowLaw>(hold: &mut Hold<N>, heads: &ReaderHeads<N, L>) -> bool
-    ensures marked { (found : TheHead) × SeesMarks hold.old result hold.new found }
-{
-    hold.is_marked(heads)
 }

@@ -6,3 +6,6 @@ returns-clause-counts g c = search rules
 
 pub returns-clause-add_up : goal.returns-clause-add_up
 returns-clause-add_up g c = search rules
+
+pub returns-clause-attempts : goal.returns-clause-attempts
+returns-clause-attempts g c = search rules

@@ -9,3 +9,6 @@ returns-clause-got g c = search rules
 
 pub returns-clause-chunk : goal.returns-clause-chunk
 returns-clause-chunk g c = search rules
+
+pub returns-clause-found : goal.returns-clause-found
+returns-clause-found g c = search rules

@@ -6,3 +6,6 @@ returns-clause-exhausted g c = search rules
 
 pub returns-clause-touched : goal.returns-clause-touched
 returns-clause-touched g c = search rules
+
+pub returns-clause-few : goal.returns-clause-few
+returns-clause-few g c = search rules
