@@ -186,6 +186,12 @@ static bool is_over(uint64_t part) {
 
 bool room_is_owed(void) { return settings.evicts && is_over(0); }
 
+static void note_age(struct shelf *shelf, uint32_t now) {
+  bump_seen last = bump_look(&shelf->book, BUMP_PLACE_COLD, BUMP_NONE);
+  if (last.answer != BUMP_SEE_SEEN) last = bump_look(&shelf->book, BUMP_PLACE_HOT, BUMP_NONE);
+  atomic_store(&shelf->age, last.answer == BUMP_SEE_SEEN ? clock_since((uint32_t)last.time, now) : 0);
+}
+
 /* Gives back what ended items still had, and where that isn't enough evicts some. Whether something came of it: also
  * where nothing was to be evicted then, though others may have taken since what came free. */
 static bool relieve(struct shelf *shelf, struct counters *counters, uint32_t now) {
@@ -198,6 +204,7 @@ static bool relieve(struct shelf *shelf, struct counters *counters, uint32_t now
     has_more = shelf_evict(shelf, counters, now);
     if (has_more) evicted++;
   }
+  if (!has_more) note_age(shelf, now);
   shelf_unlock(shelf);
   return has_more || evicted > 0 || !is_over(0);
 }
@@ -224,11 +231,20 @@ static struct shelf *largest(void) {
   return found;
 }
 
+/* Where the shelf that is to give has nothing more, it is looked for another one at once: until the maintainer looks,
+ * those items would go that came last. */
+static bool relieve_by_weight(struct shelf *shelf, struct counters *counters, uint32_t now) {
+  if (relieve(giver(shelf), counters, now)) return true;
+  shelves_compare();
+  return relieve(giver(shelf), counters, now);
+}
+
 bool room_make(struct counters *counters, struct shelf *shelf, uint32_t now) {
   for (int evicted = 0; is_over(0); evicted += EVICTED_WITH_LOCK) {
     if (evicted >= EVICTED_AT_ONCE && settings.evicts && !is_over(OWED_MOST)) return network_wake(MAINTAINER), true;
     if (evicted >= EVICTIONS_MOST) return false;
-    if (!relieve(giver(shelf), counters, now) && !relieve(shelf, counters, now) && !relieve(largest(), counters, now))
+    if (!relieve_by_weight(shelf, counters, now) && !relieve(shelf, counters, now) &&
+        !relieve(largest(), counters, now))
       return !is_over(0);
   }
   return true;
@@ -255,12 +271,6 @@ void room_spare(struct counters *counters, uint32_t now) {
     if (!evict_for(shelf, counters, 2 * spared, now)) return;
 }
 
-static void note_age(struct shelf *shelf, uint32_t now) {
-  bump_seen last = bump_look(&shelf->book, BUMP_PLACE_COLD, BUMP_NONE);
-  if (last.answer != BUMP_SEE_SEEN) last = bump_look(&shelf->book, BUMP_PLACE_HOT, BUMP_NONE);
-  atomic_store(&shelf->age, last.answer == BUMP_SEE_SEEN ? clock_since((uint32_t)last.time, now) : 0);
-}
-
 uint32_t shelf_juggle(struct shelf *shelf, struct counters *counters, uint32_t now) {
   uint32_t moves = 0, more = PULLS_WITH_LOCK;
   while (more == PULLS_WITH_LOCK && moves < PULLS_MOST) {
@@ -275,18 +285,23 @@ uint32_t shelf_juggle(struct shelf *shelf, struct counters *counters, uint32_t n
   return moves;
 }
 
-/* Then it gives nothing to others: so what was stored last isn't evicted for being large. */
+/* Then it gives nothing to others: so what was stored last isn't evicted for being large. But where few are left of
+ * many, these go, too: with the last one of a shelf its chunks go back. */
 static bool has_few(uint32_t class) {
   uint64_t charged = shelf_class_charged(class);
-  return charged < (uint64_t)class_size(class) * FEW && charged < part_of_memory(FEW_PART);
+  bool is_rest = shelf_behind_open(class) > shelf_first(class) + 1;
+  return !is_rest && charged < (uint64_t)class_size(class) * FEW && charged < part_of_memory(FEW_PART);
 }
 
 void shelves_compare(void) {
   struct shelf *found = NULL;
   for (uint32_t class = 1; class <= class_count(); class++) {
     if (shelf_behind_open(class) == shelf_first(class) || has_few(class)) continue;
-    for (uint32_t number = shelf_first(class); number < shelf_behind_open(class); number++)
-      if (found == NULL || weight(shelf_at(number)) > weight(found)) found = shelf_at(number);
+    for (uint32_t number = shelf_first(class); number < shelf_behind_open(class); number++) {
+      struct shelf *shelf = shelf_at(number);
+      bool has_items = atomic_load_explicit(&shelf->charged, memory_order_relaxed) > 0;
+      if (has_items && (found == NULL || weight(shelf) > weight(found))) found = shelf;
+    }
   }
   atomic_store(&heaviest, found);
 }

@@ -34,7 +34,8 @@ uint32_t shelf_drain(struct shelf *shelf, uint32_t now);
  * more. Takes the shelf's lock. */
 uint32_t shelf_crawl(struct shelf *shelf, struct counters *counters, uint32_t from, uint32_t count, uint32_t now);
 
-/* Tells which shelf's items are to go first, by age and size: it gives its memory to the others. The maintainer's. */
+/* Tells which shelf's items are to go first, by age and size: it gives its memory to the others. The maintainer's, and
+ * of whoever finds that this shelf has none any more. */
 void shelves_compare(void);
 
 #endif

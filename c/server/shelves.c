@@ -142,12 +142,23 @@ bool shelf_choose(struct item *item) {
   return feed(&shelves[item->shelf]);
 }
 
-/* Whether a class gains by one more shelf: not where memory is full, and nearly all items are its own. Then it would
- * lose more items by the shelf's memory than it could have more. Where the process has more than -m, that counts twice:
- * as what is taken, and as what is exceeded. */
+/* What the chunks of other classes take that go back where their items go: each class keeps its first shelf. */
+static uint64_t chunks_of_others(uint32_t own) {
+  uint64_t sum = 0;
+  for (uint32_t class = 1; class <= class_count(); class++)
+    for (uint32_t number = shelf_first(class) + 1; class != own && number < shelf_behind_open(class); number++)
+      sum += shelf_bytes(&shelves[number]);
+  return sum;
+}
+
+/* Whether a class gains by one more shelf: not where memory is full, and nearly all that could go is its own. Then it
+ * would lose more items by the shelf's memory than it could have more. But where others have few items, much may come
+ * free with these: as chunks go back once the last item of a shelf went. Where the process has more than -m, the shelf
+ * counts twice: as what is taken, and as what is exceeded. */
 static bool gains_by(const struct shelf *next) {
-  uint64_t bytes = shelf_bytes(next), all = memory_of(MEMORY_items), own = shelf_class_charged(next->class);
+  uint64_t bytes = shelf_bytes(next), own = shelf_class_charged(next->class);
   if (memory_used() + bytes <= atomic_load(&settings.memory)) return true;
+  uint64_t all = memory_of(MEMORY_items) + chunks_of_others(next->class);
   return own < all / 8 * 7 && own + bytes * (memory_is_exceeded() ? 2 : 1) < all;
 }
 

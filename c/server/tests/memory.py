@@ -39,7 +39,7 @@ def most_for(megabytes, busy=1):
 
 
 def store(client, name, sizes, amount):
-    """Values of these sizes in turn, of so many bytes together with what an item has beside."""
+    """Values of these sizes in turn, of so many bytes together with what an item has beside. How many there were."""
     begin = 0
     while amount > 0:
         lengths = [sizes[i % len(sizes)] for i in range(begin, begin + max(1, min(1000, 400_000 // max(sizes))))]
@@ -47,6 +47,17 @@ def store(client, name, sizes, amount):
         begin += len(lengths)
         amount -= sum(lengths) + 100 * len(lengths)
     client.ask(b"")
+    return begin
+
+
+def comes_to(is_so, client, name, size, amount):
+    """Whether it gets so while values of a size come: within a hundred times so many bytes of them, which is ten seconds or more."""
+    for number in range(100):
+        if is_so():
+            return True
+        store(client, b"%s%d_" % (name, number), [size], amount)
+        time.sleep(0.1)
+    return is_so()
 
 
 def ask_three_sizes(client, keys, rounds):
@@ -76,6 +87,7 @@ class Memory:
         self.check_many_mappings()
         self.check_locked()
         self.check_sizes_in_turn()
+        self.check_few_left()
         self.check_three_sizes()
         self.check_deaf()
         self.check_deaf_and_many()
@@ -207,24 +219,45 @@ class Memory:
             tell("then it ends with nothing left", server.end())
 
     def check_sizes_in_turn(self):
-        """Where other sizes come, not only items give their memory to them, but the chunks, too; and each size comes to have as many items again."""
+        """Where other sizes come, not only items give their memory to them, but the chunks, too; and each size comes to have as many items again.
+        Chunks go within some seconds behind the last of their items, and then more items fit: so values come until it is so."""
         with Server(self.program, "-m", 64, environment={"BUMP_SERVER_DEBUGTIME": "1"}) as server:
             client, wrong = Client(server.port), []
             for number, (size, most, least) in enumerate(((20, 26, 280_000), (1000, 7, 42_000), (20, 26, 240_000), (1000, 7, 42_000))):
                 client.ask(b"debugtime 1000\r\n")  # so what was there is old
-                store(client, b"t%d_" % number, [size], 80 * MEGABYTE)
-                self.wait_for(lambda: int(client.stats("bump")["bytes_of_shelves"]) <= most * MEGABYTE)
-                store(client, b"u%d_" % number, [size], 40 * MEGABYTE)
-                items, chunks = int(client.stats()["curr_items"]), int(client.stats("bump")["bytes_of_shelves"])
-                there = client.get(b"u%d_0" % number)
-                if items < least or chunks > most * MEGABYTE or there not in (None, bytes(size)):
-                    wrong.append(f"{items} of {size} bytes, {chunks} bytes of chunks, {there}")
-                self.tell_resident(f"-m 64, {items} values of {size} bytes", server, most_for(64))
+                count = store(client, b"t%d_" % number, [size], 80 * MEGABYTE)
+                if client.get(b"t%d_%d" % (number, count - 1)) not in (None, bytes(size)):
+                    wrong.append(f"a wrong value of {size} bytes")
+                if not comes_to(lambda least=least, most=most: self.has_changed(client, least, most), client, b"u%d_" % number, size, 8 * MEGABYTE):
+                    wrong.append(f"{client.stats()['curr_items']} of {size} bytes, {self.chunks(client)} bytes of chunks")
+                items = client.stats()["curr_items"]
+                self.tell_resident(f"-m 64, {items} values of {size} bytes", server, most_for(64),
+                                   lambda number=number, size=size: store(client, b"v%d_" % number, [size], 8 * MEGABYTE))
             tell("sizes that come in turn have the chunks of those that went", "; ".join(wrong))
             tell("then it ends with nothing left", server.end())
         with Server(self.program, "-m", 16, environment={"BUMP_SERVER_DEBUGTIME": "1"}) as server:
             tell("the same by four clients, which read meanwhile: values are right", "; ".join(self.change_sizes(server)[:3]))
             tell("then it ends with nothing left", server.end())
+
+    def check_few_left(self):
+        """Few small items that are left of many don't keep the chunks of all: they go where others come."""
+        with Server(self.program, "-m", 64, environment={"BUMP_SERVER_DEBUGTIME": "1"}) as server:
+            client = Client(server.port)
+            count = store(client, b"t", [20], 28 * MEGABYTE)
+            client.ask(b"".join(b"delete t%d noreply\r\n" % i for i in range(count) if i % (count // 6) != 1))
+            client.ask(b"debugtime 1000\r\n")
+            left, before = client.stats()["curr_items"], self.chunks(client)
+            right = comes_to(lambda: self.chunks(client) <= 7 * MEGABYTE, client, b"u", 1000, 8 * MEGABYTE)
+            tell(f"chunks of {count} values go back though {left} of these are left", "" if right else f"they take {self.chunks(client)} bytes, and took {before}")
+            tell("then it ends with nothing left", server.end())
+
+    @staticmethod
+    def chunks(client):
+        return int(client.stats("bump")["bytes_of_shelves"])
+
+    def has_changed(self, client, least, most):
+        """Whether there are so many items, and their chunks have so many megabytes at most."""
+        return int(client.stats()["curr_items"]) >= least and self.chunks(client) <= most * MEGABYTE
 
     def change_sizes(self, server, shrinks=True):
         """Four clients store values of one size, and then of another, and read them: shelves are opened and closed beneath them. What was wrong."""
@@ -237,9 +270,9 @@ class Memory:
             for one in storing:
                 one.join()
             if size == 20:
-                before = int(client.stats("bump")["bytes_of_shelves"])
-            elif shrinks and not self.wait_for(lambda before=before: int(client.stats("bump")["bytes_of_shelves"]) < before // 2):
-                wrong.append(f"chunks take {client.stats('bump')['bytes_of_shelves']} bytes, and took {before}")
+                before = self.chunks(client)
+            elif shrinks and not comes_to(lambda before=before: self.chunks(client) < before // 2, client, b"x%d_" % number, size, MEGABYTE):
+                wrong.append(f"chunks take {self.chunks(client)} bytes, and took {before}")
         return wrong
 
     def try_changing_sizes(self, name, program, environment):
