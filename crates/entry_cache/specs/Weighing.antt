@@ -1,5 +1,5 @@
 -- What a put within a limit in bytes does: it evicts rows one after the other, by one call each, until its entry fits, and puts.
-use Rattle.std.specs.Prelude.{◌≡◌, ℕ, ◌<◌, ◌≤◌, ◌/◌, List, [], ◌∷◌, Option, None, Some}
+use Rattle.std.specs.Prelude.{◌≡◌, ℕ, ◌+◌, ◌<◌, ◌≤◌, ◌/◌, min, List, [], ◌∷◌, Option, None, Some}
 use Rattle.call_log.specs.Calls.{CallerView}
 use Rattle.bump_cache.specs.Caches.{CacheView, part_in}
 use Rattle.bump_cache.specs.Ending.{EvictsOfPart}
@@ -19,6 +19,18 @@ pub record WeighedView : Type 0 where
 -- how much one entry may weigh: an eighth of a part's share
 abbrev pub most_weight : ℕ → ℕ
 most_weight share = share / 8
+
+-- the greatest number of 64 bits, which no weight exceeds
+abbrev pub most_word : ℕ
+most_word = 18446744073709551615
+
+-- what an entry takes in memory beside its key and its value
+abbrev pub entry_bytes : ℕ
+entry_bytes = 232
+
+-- what an entry weighs by itself, whose key and value weigh so much
+abbrev pub own_weight : ℕ → ℕ → ℕ
+own_weight key value = min (entry_bytes + key + value) most_word
 
 -- one call, of the part of this number, evicted the row whose turn it was, which is told; or found that the part has none
 abbrev pub EvictsRow : ℕ → ℕ → Option (Evicted ℕ ℕ) → CallerView PartState → CallerView PartState → Type 0

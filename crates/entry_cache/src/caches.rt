@@ -47,7 +47,7 @@ impl<N: Name + LogName, K: Drop, V: Drop, L: Keeps<Kept<K, V>>> Model for EntryC
 }
 
 impl<N: Name + LogName, K: Drop, V: Drop, L: Keeps<Kept<K, V>>> EntryCache<N, K, V, L> {
-    /// How many parts there are, 1 to 16.
+    /// How many parts there are, 1 to 256.
     pub fn parts(&self) -> u32
         ensures { result ≡ self.now.parts }
     {

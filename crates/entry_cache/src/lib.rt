@@ -18,6 +18,7 @@ mod readers;
 mod removed;
 mod too_much;
 mod weighed_caches;
+mod weighing;
 mod weights;
 
 pub use answers::{Refusal, Refused};
@@ -39,4 +40,5 @@ pub use removed::Removed;
 pub use sharded_slab::Keeps;
 pub use too_much::{RefusedWeighed, TooMuch, WeighedPut};
 pub use weighed_caches::WeighedCache;
+pub use weighing::{ENTRY_BYTES, Weighs, weight_of};
 pub use weights::Weighed;

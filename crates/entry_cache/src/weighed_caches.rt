@@ -5,13 +5,14 @@ ghost use Rattle.bump_cache.specs.Caches.{part_in};
 ghost use Rattle.entry_cache.specs.Asking.{hash_by};
 ghost use Rattle.entry_cache.specs.Entries.{entry_view};
 ghost use Rattle.entry_cache.specs.Looking.{one_word};
-ghost use Rattle.entry_cache.specs.Weighing.{EvictsRows, PutsWithin, RefusesWithin, most_weight};
+ghost use Rattle.entry_cache.specs.Weighing.{EvictsRows, PutsWithin, RefusesWithin, most_weight, own_weight};
 
 use crate::answers::Refusal;
 use crate::caches::EntryCache;
 use crate::kept::Kept;
 use crate::law::AnyEntry;
 use crate::too_much::{RefusedWeighed, TooMuch, WeighedPut};
+use crate::weighing::{Weighs, weight_of};
 use crate::weights::{Scale, Weighed, Weight};
 use bump_cache::{CacheState, Caller, Evicted, LogName, Name};
 use sharded_slab::Keeps;
@@ -192,8 +193,38 @@ impl<N: Name + LogName, K: Drop, V: Drop, L: Keeps<Kept<K, Weighed<V>>>> Weighed
         self.put_until(rt, me, key, value, weight, 0, now)
     }
 
+    /// Puts a value under a key until a time, 0 for never, where the entry weighs what `weight_of` says of it: `put_until` with that
+    /// weight.
+    pub fn put_sized<W: Wait>(
+        &self,
+        rt: &W,
+        me: &mut Caller<N, CacheState>,
+        key: K,
+        value: V,
+        expires: u64,
+        now: u64,
+    ) -> Result<WeighedPut<N, K, V>, RefusedWeighed<K, V>>
+    where
+        K: Hash + Weighs,
+        V: Weighs,
+        requires part { 0 < me.old.parts }
+        requires law { (place : _) → L.holds place (entry_view key value expires) }
+        ensures light { IfOk result (λ did. own_weight (K.weight key) (V.weight value) ≤ most_weight self.now.share) }
+        ensures puts { IfOk result (λ did. PutsWithin self.now.entries (hash_by self.now.entries.seed (K.hash_input key))
+            did.put.place now did.evicted.items did.put.rows me.old me.new) }
+        ensures entry { IfOk result (λ did. did.put.entry ≡ entry_view key value expires) }
+        ensures refuses { IfErr result (λ it. RefusesWithin self.now (hash_by self.now.entries.seed (K.hash_input key))
+            (own_weight (K.weight key) (V.weight value)) now it.evicted.items it.why me.old me.new) }
+        ensures key { IfErr result (λ it. it.key ≡ key) }
+        ensures value { IfErr result (λ it. it.value ≡ value) }
+        ensures parts { me.new.parts ≡ me.old.parts }
+    {
+        let weight = weight_of(&key, &value);
+        self.put_until(rt, me, key, value, weight, expires, now)
+    }
+
     /// Puts a value under a key until a time, as `EntryCache::put_until` does, where its entry weighs so many bytes: as a rule what key
-    /// and value take in memory, with what they own.
+    /// and value take in memory, with what they own, as `weight_of` says.
     ///
     /// First it makes room: while the entries of the key's part that are in memory weigh so much that this one doesn't fit into the
     /// part's share it evicts the row whose turn it is, as `EntryCache::evict`, by one call each. The key's own old entry is one of

@@ -15,6 +15,8 @@ mod one_hash;
 #[cfg(test)]
 mod refused_memory;
 #[cfg(test)]
+mod sized;
+#[cfg(test)]
 mod threads;
 #[cfg(test)]
 mod weighed_memory;
