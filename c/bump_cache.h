@@ -69,15 +69,15 @@ typedef struct bump_cache_config {
   uint64_t temporary;   /* what expires within so many ticks of its put goes to TEMP; 0: nothing does */
   uint32_t key_bytes;   /* the longest key: 0 to 1,024 */
   uint32_t value_bytes; /* the longest value: 0 to 1,048,576 */
-  uint32_t items;       /* the most items: 1 to 1,000,000 */
+  uint32_t items;       /* the most items: 1 to 128,000,000 */
   uint32_t spare;       /* chunks of each part beside those of its items, 1 or more: see below */
   uint32_t hot;         /* HOT's share of the items in percent: past it balances move its last ones on, a few at a time, */
   uint32_t warm;        /* so it may have more. The same of WARM, into which bumps move items; with `hot` at most 100 */
   uint32_t hot_age;     /* HOT's last item goes to COLD where it is older than so many percent of the age of COLD's */
   uint32_t warm_age;    /* the same of WARM's; BUMP_NONE for one of them: ages don't count there */
-  uint32_t parts;       /* 1 to 16, and no more than items */
-  uint32_t readers;     /* 1 to 64, and with parts multiplied at most 64 */
-  uint32_t ring;        /* bumps that a reader's ring of a part has room for: 1 to 65,536 */
+  uint32_t parts;       /* 1 to 256, and no more than items */
+  uint32_t readers;     /* 1 to 64, each with a ring in each part */
+  uint32_t ring;        /* bumps, of 8 bytes, that a reader's ring of a part has room for: 1 to 65,536 */
   uint32_t looks;       /* chunks at which a tend looks for items that have expired: any number */
   uint32_t holds;       /* numbered holds of each reader, from 1 to this: any number; bump_cache_get needs none */
 } bump_cache_config;
@@ -87,11 +87,11 @@ enum bump_cache_open_answer {
   BUMP_CACHE_OPEN_DONE,
   BUMP_CACHE_OPEN_KEY_BYTES,   /* more than 1,024 */
   BUMP_CACHE_OPEN_VALUE_BYTES, /* more than 1,048,576 */
-  BUMP_CACHE_OPEN_ITEMS,       /* not 1 to 1,000,000 */
-  BUMP_CACHE_OPEN_SPARE,       /* 0, or multiplied by parts more than 1,000,000 with the items */
+  BUMP_CACHE_OPEN_ITEMS,       /* not 1 to 128,000,000 */
+  BUMP_CACHE_OPEN_SPARE,       /* 0, or multiplied by parts more than 128,000,000 with the items */
   BUMP_CACHE_OPEN_SHARES,      /* hot and warm are more than 100 percent */
-  BUMP_CACHE_OPEN_PARTS,       /* not 1 to 16, or more than items */
-  BUMP_CACHE_OPEN_READERS,     /* not 1 to 64, or more than 64 multiplied by parts */
+  BUMP_CACHE_OPEN_PARTS,       /* not 1 to 256, or more than items */
+  BUMP_CACHE_OPEN_READERS,     /* not 1 to 64 */
   BUMP_CACHE_OPEN_RING,        /* not 1 to 65,536 */
   BUMP_CACHE_OPEN_NO_MEMORY    /* malloc or realloc refused: what was taken is given back */
 };
@@ -109,7 +109,7 @@ uint64_t bump_cache_bytes_taken(const bump_cache_config *config);
 
 /* The defaults with the most items with which a cache takes at most `limit` bytes, by bump_cache_bytes_taken. Its items
  * are 0, and it opens no cache, where one item takes more, or another of these numbers is a fault. Any thread. Cost:
- * twenty calls of that. */
+ * twenty-seven calls of that. */
 BUMP_MADE bump_cache_config bump_cache_for_bytes(uint64_t limit, uint32_t readers, uint32_t key_bytes, uint32_t value_bytes);
 
 /* Opens a cache, and puts it into `cache`, which is {0} before and stays so where it answers anything but
@@ -314,7 +314,7 @@ static inline void bump_cache_copy(void *bytes, size_t at, size_t count, const u
 
 static inline bump_cache_config bump_cache_for_bytes(uint64_t limit, uint32_t readers, uint32_t key_bytes,
                                                      uint32_t value_bytes) {
-  uint32_t fits = 0, over = 1000001; /* no cache has that many */
+  uint32_t fits = 0, over = 128000001; /* no cache has that many */
   while (over - fits > 1) {
     uint32_t middle = fits + (over - fits) / 2;
     bump_cache_config config = bump_cache_defaults(middle, readers, key_bytes, value_bytes);

@@ -18,7 +18,7 @@ extern "C" {
 #endif
 
 /* The most parts that a cache has. */
-#define BUMP_CACHE_MOST_PARTS 16
+#define BUMP_CACHE_MOST_PARTS 256
 
 /* How often a mutex that is taken is tried, with a pause behind each try, before a thread sleeps for it. */
 #ifndef BUMP_CACHE_LOCKS_TRIES
@@ -32,7 +32,8 @@ typedef struct bump_cache_locked {
   char apart[64];
 } bump_cache_locked;
 
-/* All parts of a cache. */
+/* All parts of a cache. It has room for the most parts, which is 28 KB where a mutex has 40 bytes, as with Linux on
+ * x86-64: so it is best a static variable, or in memory from malloc, and not on a small stack. */
 typedef struct bump_cache_locks {
   bump_cache_config config; /* by which the cache was opened */
   bump_cache_locked of[BUMP_CACHE_MOST_PARTS];

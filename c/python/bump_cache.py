@@ -151,7 +151,7 @@ class TTLCache(MutableMapping):
 
     def __init__(self, maxsize, ttl=None, timer=time.monotonic, *, key_bytes=128, value_bytes=512,
                  dumps=functools.partial(pickle.dumps, protocol=pickle.HIGHEST_PROTOCOL), loads=pickle.loads):
-        if not 1 <= maxsize <= 1_000_000:
+        if not 1 <= maxsize <= 128_000_000:
             raise ValueError("maxsize is out of range")
         self.maxsize, self.ttl, self.timer, self._dumps, self._loads = maxsize, ttl, timer, dumps, loads
         config = library().bump_cache_defaults(maxsize, 1, key_bytes, value_bytes)

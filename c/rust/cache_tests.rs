@@ -21,10 +21,12 @@ fn faults_are_told() {
     assert_eq!(fault(Config { key_bytes: 1025, ..sound }), Some(OpenFault::KeyBytes));
     assert_eq!(fault(Config { value_bytes: 1_048_577, ..sound }), Some(OpenFault::ValueBytes));
     assert_eq!(fault(Config { items: 0, ..sound }), Some(OpenFault::Items));
-    assert_eq!(fault(Config { spare: 999_997, ..sound }), Some(OpenFault::Spare));
+    assert_eq!(fault(Config { items: 128_000_001, ..sound }), Some(OpenFault::Items));
+    assert_eq!(fault(Config { spare: 127_999_997, ..sound }), Some(OpenFault::Spare));
     assert_eq!(fault(Config { spare: 0, ..sound }), Some(OpenFault::Spare));
     assert_eq!(fault(Config { hot: 61, ..sound }), Some(OpenFault::Shares));
     assert_eq!(fault(Config { parts: 5, ..sound }), Some(OpenFault::Parts));
+    assert_eq!(fault(Config { parts: 257, ..config(300, 2) }), Some(OpenFault::Parts));
     assert_eq!(fault(Config { readers: 65, ..sound }), Some(OpenFault::Readers));
     assert_eq!(fault(Config { ring: 0, ..sound }), Some(OpenFault::Ring));
     assert_eq!((fault(sound), Config { ring: 0, ..sound }.part_of(b"key")), (None, None));
@@ -43,6 +45,8 @@ fn all_parts_and_readers_are_there() {
     let Opened { cache, readers } = open(&Config { parts: 3, ..config(9, 1) }).unwrap();
     assert_eq!((cache.parts().map(|mut part| part.chunks()).collect::<Vec<_>>(), readers.len()), (vec![4; 3], 2));
     assert_eq!(cache.into_parts().len(), 3);
+    let Opened { cache, readers } = open(&Config { parts: 256, ring: 1, ..Config::new(256, 64, 8, 8) }).unwrap();
+    assert_eq!((cache.into_parts().len(), readers.len()), (256, 64));
 }
 
 #[test]

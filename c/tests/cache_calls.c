@@ -54,14 +54,14 @@ static void faults(void) {
   FAULT(key_bytes, 1024, BUMP_CACHE_OPEN_VALUE_BYTES);
   FAULT(value_bytes, UINT32_MAX, BUMP_CACHE_OPEN_VALUE_BYTES);
   FAULT(value_bytes, 16, BUMP_CACHE_OPEN_ITEMS);
-  FAULT(items, 1000001, BUMP_CACHE_OPEN_ITEMS);
+  FAULT(items, 128000001, BUMP_CACHE_OPEN_ITEMS);
   FAULT(items, UINT32_MAX, BUMP_CACHE_OPEN_ITEMS);
   c.parts = 1; /* all spare chunks together are too many where there is a part */
   FAULT(items, 3, BUMP_CACHE_OPEN_SPARE);
-  FAULT(spare, 999998, BUMP_CACHE_OPEN_SPARE);
+  FAULT(spare, 127999998, BUMP_CACHE_OPEN_SPARE);
   FAULT(spare, 0, BUMP_CACHE_OPEN_SPARE);
   c.parts = 4;
-  FAULT(spare, 250000, BUMP_CACHE_OPEN_SPARE);
+  FAULT(spare, 32000000, BUMP_CACHE_OPEN_SPARE);
   FAULT(spare, 1073741824, BUMP_CACHE_OPEN_SPARE); /* multiplied by 4 it is 2^32 */
   c.parts = 0;
   FAULT(spare, 2, BUMP_CACHE_OPEN_SHARES);
@@ -70,13 +70,13 @@ static void faults(void) {
   FAULT(hot, 101, BUMP_CACHE_OPEN_SHARES);
   FAULT(hot, 99, BUMP_CACHE_OPEN_PARTS);
   FAULT(parts, 4, BUMP_CACHE_OPEN_PARTS);
-  c.items = 17;
-  FAULT(parts, 17, BUMP_CACHE_OPEN_PARTS);
-  FAULT(parts, 3, BUMP_CACHE_OPEN_READERS);
-  FAULT(readers, 22, BUMP_CACHE_OPEN_READERS);
+  c.items = 257;
+  FAULT(parts, 257, BUMP_CACHE_OPEN_PARTS);
+  FAULT(parts, 256, BUMP_CACHE_OPEN_READERS);
   FAULT(readers, 65, BUMP_CACHE_OPEN_READERS);
-  FAULT(readers, 1431655766, BUMP_CACHE_OPEN_READERS); /* multiplied by 3 it is 2^32 + 2 */
-  FAULT(readers, 21, BUMP_CACHE_OPEN_RING);
+  FAULT(readers, 16777217, BUMP_CACHE_OPEN_READERS); /* multiplied by 256 it is 2^32 + 256 */
+  FAULT(readers, UINT32_MAX, BUMP_CACHE_OPEN_READERS);
+  FAULT(readers, 64, BUMP_CACHE_OPEN_RING);
   FAULT(ring, 65537, BUMP_CACHE_OPEN_RING);
   FAULT(ring, UINT32_MAX, BUMP_CACHE_OPEN_RING);
   FAULT(ring, 1, BUMP_CACHE_OPEN_DONE);
@@ -87,12 +87,12 @@ static void faults(void) {
 
 /* The most items that fit: with one more a cache takes more than the limit, or has too many chunks. */
 static void limits_in_bytes(void) {
-  for (uint64_t limit = 100000; limit < 1000000000; limit *= 3) {
+  for (uint64_t limit = 100000; limit < 1000000000000; limit *= 3) {
     bump_cache_config most = bump_cache_for_bytes(limit, 2, 10, 100), more = most;
     more.items++;
     uint64_t bytes = bump_cache_bytes_taken(&most), beyond = bump_cache_bytes_taken(&more);
     HOLDS_THAT(bump_cache_for_bytes, most.items == 0 ? bytes == 0 : bytes > 0 && bytes <= limit);
-    HOLDS_THAT(bump_cache_for_bytes, more.items + more.spare > 1000000 ? beyond == 0 : beyond > limit);
+    HOLDS_THAT(bump_cache_for_bytes, more.items + more.spare > 128000000 ? beyond == 0 : beyond > limit);
   }
   bump_cache_config d = bump_cache_defaults(1000, 1, 8, 8), two = d;
   two.parts = 2;
@@ -112,12 +112,14 @@ static void configurations(void) {
   HOLDS_THAT(bump_cache_defaults, d.hot == 20 && d.warm == 40 && d.hot_age == 20 && d.warm_age == 200);
   HOLDS_THAT(bump_cache_defaults, d.parts == 1 && d.ring == 8192 && d.looks == 1000 && d.holds == 0);
   ANSWERS(bump_cache_open, open_with(&d), BUMP_CACHE_OPEN_DONE);
-  d = bump_cache_defaults(1000000, 1, 0, 0);
+  d = bump_cache_defaults(128000000, 1, 0, 0);
   ANSWERS(bump_cache_open, open_with(&d), BUMP_CACHE_OPEN_SPARE);
-  d.items = 999998;
+  d.items = 127999998; /* which would take more than 10 GB */
+  HOLDS_THAT(bump_cache_bytes_taken, bump_cache_bytes_taken(&d) > 0 && bump_cache_part_of(&d, "", 0) == 0);
+  d.items = 1500000;
   ANSWERS(bump_cache_open, open_with(&d), BUMP_CACHE_OPEN_DONE);
-  d = bump_cache_defaults(16, 4, 1, 1);
-  d.parts = 16;
+  d = bump_cache_defaults(256, 4, 1, 1);
+  d.parts = 256;
   ANSWERS(bump_cache_open, open_with(&d), BUMP_CACHE_OPEN_DONE);
   d = bump_cache_defaults(1, 64, 1, 1);
   ANSWERS(bump_cache_open, open_with(&d), BUMP_CACHE_OPEN_DONE);

@@ -150,6 +150,34 @@ static void threads(void) {
   }
 }
 
+/* In as many parts as there may be each key has what was put. */
+static void many_parts(void) {
+  static bump_cache cache;
+  static bump_cache_locks many;
+  static bump_cache_reader one;
+  char key[KEY];
+  bump_cache_config config = bump_cache_defaults(16 * BUMP_CACHE_MOST_PARTS, 1, KEY, VALUE);
+  config.parts = BUMP_CACHE_MOST_PARTS;
+  config.ring = 16;
+  WANT(bump_cache_open(&cache, &config) == BUMP_CACHE_OPEN_DONE && bump_cache_take_reader(&cache, 0, &one));
+  WANT(bump_cache_locks_init(&many, &cache, &config));
+  bump_cache_close(cache);
+  for (uint32_t i = 0; i < 2 * BUMP_CACHE_MOST_PARTS; i++) {
+    snprintf(key, sizeof key, "key %u", i);
+    WANT(is_told(bump_cache_locks_put(&many, key, strlen(key), &i, sizeof i, i, 0, 1), BUMP_CACHE_PUT_DONE));
+  }
+  for (uint32_t i = 0; i < 2 * BUMP_CACHE_MOST_PARTS; i++) {
+    uint32_t read = 0;
+    snprintf(key, sizeof key, "key %u", i);
+    WANT(is_got(bump_cache_get(&one, key, strlen(key), &read, sizeof read, 1), sizeof read, i) && read == i);
+  }
+  bump_cache_locks_tend(&many, 1);
+  bump_cache_stats_of s = bump_cache_locks_stats(&many);
+  WANT(s.number_hot + s.number_warm + s.number_cold + s.number_temp == 2 * BUMP_CACHE_MOST_PARTS);
+  bump_cache_locks_free(&many);
+  bump_cache_reader_free(one);
+}
+
 int main(void) {
   static bump_cache cache, second;
   static bump_cache_part part;
@@ -165,6 +193,7 @@ int main(void) {
   bump_cache_close(cache);
   all_calls();
   threads();
+  many_parts();
   bump_cache_locks_free(&locks);
   bump_cache_reader_free(reader);
   printf("%d threads counted up under the mutexes: %s\n", THREADS, failed ? "FAILED" : "passed");

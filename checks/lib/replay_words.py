@@ -100,7 +100,7 @@ def try_other_faults(tries):
     for words in ([tries.one, "--items", "1", "--svg", str(tries.folder / "none/x.svg")],
                   [tries.one, "--items", "1", "--trace", str(tries.folder / "none/x.trace")],
                   [tries.one, "--items", "1", "--svg", str(tries.folder)], [str(tries.folder), "--items", "1"],
-                  [tries.one, "--items", "1000001"], [tries.one, "--items", "4294967295"],
+                  [tries.one, "--items", "128000001"], [tries.one, "--items", "4294967295"],
                   [tries.one, "--items", "1", "--spare", "4294967295"], [tries.one, "--items", "1", "--hot", "4294967295"],
                   [os.fsencode(tries.one) + b"\xff", "--items", "1"], [b"--\xff"]):
         status, _, err = tries.run(*words)

@@ -103,7 +103,7 @@ class MappingTests(unittest.TestCase):
         self.assertEqual(dict(cache), model)
 
     def test_refusals(self):
-        for words in ({"maxsize": 0}, {"maxsize": 1_000_001}, {"maxsize": 1, "key_bytes": 1025}, {"maxsize": 1, "value_bytes": 1_048_577}):
+        for words in ({"maxsize": 0}, {"maxsize": 128_000_001}, {"maxsize": 1, "key_bytes": 1025}, {"maxsize": 1, "value_bytes": 1_048_577}):
             with self.assertRaises(ValueError, msg=words):
                 TTLCache(**words)
         cache = TTLCache(2, key_bytes=20, value_bytes=100)

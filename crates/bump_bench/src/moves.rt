@@ -12,7 +12,7 @@ use std::time::Instant;
 pub struct Moves {
     pub name: &'static str,
 
-    /// How many nodes there are, 1 to 1,000,000: all of them are in the first list at the start.
+    /// How many nodes there are, 1 to 128,000,000: all of them are in the first list at the start.
     pub nodes: u32,
 }
 

@@ -44,11 +44,11 @@ pub struct CacheNumbers {
     /// The longest value, in bytes: 0 to 1,048,576.
     pub value_bytes: u32,
 
-    /// The most items: 1 to 1,000,000.
+    /// The most items: 1 to 128,000,000.
     pub items: u32,
 
-    /// Chunks of each part beside those of its items: 1 or more, and multiplied by the parts at most 1,000,000 together with
-    /// the items. Where there were 1 + readers * (1 + holds) tests saw each put find one, as long as no chunk had had its
+    /// Chunks of each part beside those of its items: 1 or more, and multiplied by the parts at most 128,000,000 together
+    /// with the items. Where there were 1 + readers * (1 + holds) tests saw each put find one, as long as no chunk had had its
     /// last generation.
     pub spare: u32,
 
@@ -66,10 +66,10 @@ pub struct CacheNumbers {
     /// The same of WARM's last item.
     pub warm_age: u32,
 
-    /// How many parts there are: 1 to 16, and no more than items.
+    /// How many parts there are: 1 to 256, and no more than items.
     pub parts: u32,
 
-    /// How many readers there are: 1 to 64, and multiplied by the parts at most 64.
+    /// How many readers there are: 1 to 64.
     pub readers: u32,
 
     /// How many bumps a reader's ring of a part has room for: 1 to 65,536.

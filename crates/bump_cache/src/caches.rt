@@ -61,7 +61,7 @@ fn is_part<N: Name + LogName, K: Packed, V: Packed>(
 }
 
 impl<N: Name + LogName, K: Packed, V: Packed> Cache<N, K, V> {
-    /// How many parts there are, 1 to 16.
+    /// How many parts there are, 1 to 256.
     pub fn parts(&self) -> u32
         ensures { result ≡ self.now.parts }
     {

@@ -20,7 +20,6 @@ use Rattle.bump_steps.specs.declared.views.LaneSheet.{LaneSheet}
 use Rattle.bump_steps.specs.Views.{owns}
 use Rattle.bump_heads.specs.Applying.{TellsMoves, is_own}
 use Rattle.bump_class.specs.Applications.{FoundHeads, moved_in, class_after_update, lane_after_update}
-use Rattle.bump_heads.specs.Seats.{most_workers}
 use Rattle.bump_class.specs.Books.{CountsEachWorker}
 
 -- the moves for bumps of the lane's worker are the lane's entries Moved of items of the class
@@ -44,10 +43,11 @@ few_moves k l fair rests told = omega (
 )
 
 -- one more move is counted
-pub counts_bump : (counts more : List ℕ) (history : List Change) (worker : ℕ) (b : Bump) → CountsEachWorker counts history
-    → ((w : ℕ) → w < most_workers → slice_index more w ≡ slice_index counts w + bit (worker == w))
-    → CountsEachWorker more (history ++ change.Moved b.life Cold Warm (cause.Bump worker b.number) ∷ [])
-counts_bump counts more history worker b counted one w near = omega (
+pub counts_bump : (workers : ℕ) (counts more : List ℕ) (history : List Change) (worker : ℕ) (b : Bump)
+    → CountsEachWorker workers counts history
+    → ((w : ℕ) → w < workers → slice_index more w ≡ slice_index counts w + bit (worker == w))
+    → CountsEachWorker workers more (history ++ change.Moved b.life Cold Warm (cause.Bump worker b.number) ∷ [])
+counts_bump workers counts more history worker b counted one w near = omega (
   arith,
   one w near,
   counted w near,

@@ -11,7 +11,8 @@ use Rattle.bump_steps.specs.declared.views.LaneSheet.{LaneSheet}
 use Rattle.bump_steps.specs.declared.views.Ride.{Ride}
 use Rattle.bump_steps.specs.Riders.{applied_by, lane_after_board, bump_of_ride}
 use Rattle.bump_heads.specs.Applying.{stage_of}
-use Rattle.bump_heads.specs.Seats.{no_lane, most_workers}
+use Rattle.bump_heads.specs.Seats.{no_lane}
+use Rattle.bump_rules.specs.Configs.{most_workers}
 use Rattle.bump_ring.specs.Ends.{Ring, ClosedView}
 
 -- What contracts see of a lane.

@@ -1,9 +1,8 @@
 //! The bump aboard a lane is applied.
-ghost use Rattle.std.specs.Prelude.{◌≡◌, ◌==◌, ◌<◌, ℕ, ◌+◌, slice_index, None, Some, IsSome, IfSome, true};
+ghost use Rattle.std.specs.Prelude.{◌≡◌, ◌==◌, ◌<◌, ℕ, ◌+◌, slice_index, vec_len, None, Some, IsSome, IfSome, true};
 ghost use Rattle.bump_rules.specs.Lawful.{bit};
 ghost use Rattle.bump_rules.specs.Rings.{most_attempts};
 ghost use Rattle.bump_steps.specs.Views.{owns};
-ghost use Rattle.bump_heads.specs.Seats.{most_workers};
 ghost use Rattle.bump_heads.specs.Applying.{carried_by};
 ghost use Rattle.bump_class.specs.Applications.{FoundHeads as TheFoundHeads, Updates, AppliesBump};
 ghost use Rattle.bump_class.specs.Lanes.{carries, sheet_or};
@@ -53,14 +52,16 @@ fn update<N: Name, L: RowLaw>(
     Outcome::Moved
 }
 
-// One more move for a bump of the worker.
-fn count_move(moved: &mut [u64; 64], worker: u32)
-    requires worker { worker < most_workers }
-    requires few { slice_index moved.old worker < most_attempts }
-    ensures counted { (w : ℕ) → w < most_workers → slice_index moved.new w ≡ slice_index moved.old w
+// One more move for a bump of the worker, if it is one of those whose moves are counted.
+fn count_move(moved: &mut Vec<u64>, worker: u32)
+    requires few { worker < vec_len moved.old → slice_index moved.old.items worker < most_attempts }
+    ensures workers { vec_len moved.new ≡ vec_len moved.old }
+    ensures counted { (w : ℕ) → w < vec_len moved.old → slice_index moved.new.items w ≡ slice_index moved.old.items w
         + bit (worker == w) }
 {
-    moved[worker as usize] += 1;
+    if (worker as usize) < moved.len() {
+        moved[worker as usize] += 1;
+    }
 }
 
 impl<N: Name, L: RowLaw> Book<N, L> {

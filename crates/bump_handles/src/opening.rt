@@ -1,6 +1,7 @@
 //! A store is opened, and what it is made of is taken out of it.
 ghost use Rattle.std.specs.Prelude.{◌≡◌, ◌≤◌, length, map, option_map, IfOk};
 ghost use Rattle.std.specs.Arc.{arc_value};
+ghost use Rattle.bump_rules.specs.Configs.{most_workers};
 ghost use Rattle.bump_handles.specs.Opening.{IsOpened, TakesPart, all_there, drainers_of, readers_of, tagged};
 ghost use Rattle.bump_handles.specs.Views.{DrainerView as TheDrainerView, OpenedView as TheOpenedView};
 ghost use Rattle.bump_handles.specs.Views.{ReaderView as TheReaderView, TaggedBookView as TheTaggedBookView};
@@ -95,7 +96,7 @@ fn make_readers<N: Name>(
     workers: Vec<Worker<N>>,
     places: u32,
 ) -> Result<Vec<Option<Box<Reader<N>>>>, AllocError>
-    requires few { length workers.items ≤ 64 }
+    requires few { length workers.items ≤ most_workers }
     requires tokens { length workers.items ≤ length tokens.now }
     ensures { IfOk result (λ v. map (option_map (λ b. b.value)) v.items
         ≡ all_there (readers_of store (arc_value heads.now) places 0 workers.items)) }

@@ -45,7 +45,8 @@ use Rattle.bump_steps.specs.Applications.{applying, bump_for, lane_after_try, vi
 use Rattle.bump_heads.specs.Applying.{life_aboard, life_of, IsOf, MayClearActive, MayChangeSegment, IsShown, IsJoined, KeepsJoined, carried_by, joined_after_try, joined_after_move, seat_after_move, seat_after_clear_active, seat_after_put_time, FoundOfBump, NamesNoBumpTwice, NamesWorkersBelow, is_own, TellsMoves}
 use Rattle.bump_readers.specs.Seats.{head_or, listed}
 use Rattle.bump_steps.specs.Riders.{lane_me, applied_by}
-use Rattle.bump_heads.specs.Seats.{class_me, class_in, lane_in, lane_in_views, lane_views, most_workers, IsAtRest, IsLane, IsOfWorker, IsInRange, IsClassSheet, aboard_lane, no_class, no_lane}
+use Rattle.bump_heads.specs.Seats.{class_me, class_in, lane_in, lane_in_views, lane_views, IsAtRest, IsLane, IsOfWorker, IsInRange, IsClassSheet, aboard_lane, no_class, no_lane}
+use Rattle.bump_rules.specs.Configs.{most_workers}
 use Rattle.bump_steps.proofs.Applications.{try_going, try_refers, clear_active_refers}
 use Rattle.bump_steps.proofs.Alightings.{alight_refers}
 use Rattle.bump_heads.proofs.Badges.{carries_aboard, carries_some, out_is, out_lane}

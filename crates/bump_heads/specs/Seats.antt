@@ -61,10 +61,6 @@ IsLane table None = Unit {0}
 IsLane table (Some seat) = (seat.me ≡ lane_me (head_or no_lane seat.me.0.lanes)) × (seat.table_id ≡ table)
     × (is_half_made (head_or no_lane seat.me.0.lanes).stage ≡ false)
 
--- a store has at most so many workers
-abbrev pub most_workers : ℕ
-most_workers = 64
-
 -- the lane is this worker's, while it is whole and applied nothing yet
 abbrev pub IsOfWorker : ℕ → Option LaneSheet → Type 0
 IsOfWorker worker None = Unit {0}

@@ -6,7 +6,7 @@ ghost use Rattle.bump_steps.specs.Rule.{opened, class_sheets, worker_sheets, lan
 ghost use Rattle.bump_steps.specs.Words.{words_id, config_of};
 ghost use Rattle.bump_readers.specs.Workers.{worker_seen};
 ghost use Rattle.bump_heads.specs.Making.{BlankView as TheBlankView, class_seen, lane_seen, AreNewClasses, AreNewLanes};
-ghost use Rattle.bump_heads.specs.Seats.{most_workers};
+ghost use Rattle.bump_rules.specs.Configs.{most_workers};
 
 use crate::heads::Heads;
 use crate::seats::{ClassSeat, LaneSeat};

@@ -8,7 +8,8 @@ ghost use Rattle.bump_rules.specs.Lanes.{is_half_made};
 ghost use Rattle.bump_rules.specs.Totals.{how_many};
 ghost use Rattle.bump_heads.specs.Applying.{stage_of, KeepsJoined};
 ghost use Rattle.bump_heads.specs.Seats.{lane_views, lane_in_views, IsAtRest, IsOfWorker, class_in, class_me};
-ghost use Rattle.bump_heads.specs.Seats.{aboard_lane, most_workers, IsInRange, IsClassSheet, is_barred};
+ghost use Rattle.bump_heads.specs.Seats.{aboard_lane, IsInRange, IsClassSheet, is_barred};
+ghost use Rattle.bump_rules.specs.Configs.{most_workers};
 
 use crate::heads::Heads;
 use atomic_table::Badge;

@@ -16,8 +16,8 @@ use chain::{Header, Node, put_front, unlink};
 use std::alloc::{AllocError, Global};
 use std::marker::Model;
 
-/// The greatest count of nodes: as many as the lists are measured with. Any count below `NONE` would do.
-pub const NODES_MAX: u32 = 1_000_000;
+/// The greatest count of nodes: as many as the chunks of a cache may be. Any count below `NONE` would do.
+pub const NODES_MAX: u32 = 128_000_000;
 
 /// The greatest count of lists.
 pub const LISTS_MAX: u32 = 8;

@@ -175,7 +175,7 @@ fn with_items<'a>(alloc: Global, command: Command<'a>) -> Result<Command<'a>, Al
         .value_parser(value_parser!(u32))
         .value_delimiter(',')
         .help(
-            "How many items a cache has, 1 or more, 1000000 at most with all spare chunks; several with commas",
+            "How many items a cache has, 1 or more, 128000000 at most with all spare chunks; several with commas",
         );
     let bytes = Arg::new(alloc, "bytes")
         .long("bytes")
@@ -275,7 +275,7 @@ fn with_parts<'a>(alloc: Global, command: Command<'a>) -> Result<Command<'a>, Al
         alloc,
         "parts",
         "PARTS",
-        "Parts of the cache, 1 to 16; at most 64 when multiplied by the readers [default: 1]",
+        "Parts of the cache, 1 to 256, and no more than items [default: 1]",
     ))
 }
 

@@ -6,7 +6,7 @@ use Rattle.std.proofs.lemmas.Bool.{and_parts, or_parts, leb-true, ltb-false, not
 use native.Mathlib.Decide.{ℕ_discrete}
 use Rattle.bump_rules.specs.declared.configs.ClassConfig.{ClassConfig}
 use Rattle.bump_rules.specs.declared.configs.ConfigFault.TheVariants.{Workers, Capacity, RefsLimit, Generation, Classes, Chunks}
-use Rattle.bump_rules.specs.Configs.{chunks_of, first_fault, is_within, most_refs, HaveChunks, Bounds, most_chunks, most_capacity}
+use Rattle.bump_rules.specs.Configs.{chunks_of, first_fault, first_fault_within, is_within, most_refs, wide_most, HaveChunks, Bounds, most_chunks, most_workers, most_classes, most_capacity}
 
 -- a test for a fault that found none failed, and the tests behind it found none
 clear : {A : Type 0} (b : Bool) (x : A) (o : Option A) → is_none (cond b (Some x) o) ≡ true → (b ≡ false)
@@ -44,19 +44,19 @@ within_of least most n e = let both = and_parts (nat_le least n) (nat_le n most)
 
 -- a configuration without faults is within its bounds
 pub bounds : (workers capacity limit generation : ℕ) (classes : List ClassConfig)
-    → is_none (first_fault workers capacity limit generation classes) ≡ true
+    → is_none (first_fault_within wide_most workers capacity limit generation classes) ≡ true
     → Bounds workers capacity limit generation classes
 bounds workers capacity limit generation classes valid =
-    let no_workers = clear (not (is_within 1 64 workers)) Workers _ valid in
+    let no_workers = clear (not (is_within 1 most_workers workers)) Workers _ valid in
     let no_capacity = clear (not (is_within 1 most_capacity capacity)) Capacity _ no_workers.1 in
     let no_limit = clear (not (is_within 2 most_refs limit)) RefsLimit _ no_capacity.1 in
     let no_generation = clear (generation == 0) Generation _ no_limit.1 in
-    let no_classes = clear (not (is_within 1 16 (length classes))) Classes _ no_generation.1 in
+    let no_classes = clear (not (is_within 1 most_classes (length classes))) Classes _ no_generation.1 in
     let no_chunks = clear _ Chunks _ no_classes.1 in
-    let w = within_of 1 64 workers no_workers.0 in
+    let w = within_of 1 most_workers workers no_workers.0 in
     let c = within_of 1 most_capacity capacity no_capacity.0 in
     let l = within_of 2 most_refs limit no_limit.0 in
-    let k = within_of 1 16 (length classes) no_classes.0 in
+    let k = within_of 1 most_classes (length classes) no_classes.0 in
     let n = or_parts (list_any (λ x. x.chunks == 0) classes) (nat_lt most_chunks (chunks_of classes)) no_chunks.0 in
     record {
       workers_least = w.0;

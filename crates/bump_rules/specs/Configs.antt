@@ -16,13 +16,23 @@ is_within least most number = nat_le least number && nat_le number most
 abbrev pub chunks_of : List ClassConfig → ℕ
 chunks_of classes = total (λ config. config.chunks) classes
 
--- the greatest number of chunks of all classes together
-abbrev pub most_chunks : ℕ
-most_chunks = 1000000
+-- how many workers, classes and chunks of all classes there are at most
+pub record Most : Type 0 where
+  pub workers : ℕ
+  pub classes : ℕ
+  pub chunks : ℕ
+
+-- in a store that stands by itself, and in a World
+abbrev pub store_most : Most
+store_most = record { workers = 64; classes = 16; chunks = 1000000 }
+
+-- in any, as in that of a cache: a worker for each of 64 readers of each part, and a class for each part
+abbrev pub wide_most : Most
+wide_most = record { workers = 16384; classes = 256; chunks = 128000000 }
 
 -- a class has no chunks, or all together have too many
-abbrev pub have_wrong_chunks : List ClassConfig → Bool
-have_wrong_chunks classes = list_any (λ config. config.chunks == 0) classes || nat_lt most_chunks (chunks_of classes)
+abbrev pub have_wrong_chunks : ℕ → List ClassConfig → Bool
+have_wrong_chunks most classes = list_any (λ config. config.chunks == 0) classes || nat_lt most (chunks_of classes)
 
 -- the greatest room of a worker's ring
 abbrev pub most_capacity : ℕ
@@ -32,20 +42,34 @@ most_capacity = 65536
 abbrev pub most_refs : ℕ
 most_refs = 1048575
 
--- whether a configuration has this fault
-abbrev pub has_fault : ℕ → ℕ → ℕ → ℕ → List ClassConfig → ConfigFault → Bool
-has_fault workers capacity limit generation classes Workers = not (is_within 1 64 workers)
-has_fault workers capacity limit generation classes Capacity = not (is_within 1 most_capacity capacity)
-has_fault workers capacity limit generation classes RefsLimit = not (is_within 2 most_refs limit)
-has_fault workers capacity limit generation classes Generation = generation == 0
-has_fault workers capacity limit generation classes Classes = not (is_within 1 16 (length classes))
-has_fault workers capacity limit generation classes Chunks = have_wrong_chunks classes
+-- whether a configuration has this fault, where there are so many of each at most
+abbrev pub has_fault : Most → ℕ → ℕ → ℕ → ℕ → List ClassConfig → ConfigFault → Bool
+has_fault most workers capacity limit generation classes Workers = not (is_within 1 most.workers workers)
+has_fault most workers capacity limit generation classes Capacity = not (is_within 1 most_capacity capacity)
+has_fault most workers capacity limit generation classes RefsLimit = not (is_within 2 most_refs limit)
+has_fault most workers capacity limit generation classes Generation = generation == 0
+has_fault most workers capacity limit generation classes Classes = not (is_within 1 most.classes (length classes))
+has_fault most workers capacity limit generation classes Chunks = have_wrong_chunks most.chunks classes
 
 -- the first fault that holds, in the order in which they are looked for
-abbrev pub first_fault : ℕ → ℕ → ℕ → ℕ → List ClassConfig → Option ConfigFault
-first_fault workers capacity limit generation classes =
-    find (has_fault workers capacity limit generation classes)
+abbrev pub first_fault_within : Most → ℕ → ℕ → ℕ → ℕ → List ClassConfig → Option ConfigFault
+first_fault_within most workers capacity limit generation classes =
+    find (has_fault most workers capacity limit generation classes)
     (Workers ∷ Capacity ∷ RefsLimit ∷ Generation ∷ Classes ∷ Chunks ∷ [])
+
+-- that of a store that stands by itself, or of a World
+abbrev pub first_fault : ℕ → ℕ → ℕ → ℕ → List ClassConfig → Option ConfigFault
+first_fault = first_fault_within store_most
+
+-- the greatest numbers of chunks, of workers and of classes that any store has, as a cache's
+abbrev pub most_chunks : ℕ
+most_chunks = wide_most.chunks
+
+abbrev pub most_workers : ℕ
+most_workers = wide_most.workers
+
+abbrev pub most_classes : ℕ
+most_classes = wide_most.classes
 
 -- each class has a chunk or more
 abbrev pub HaveChunks : List ClassConfig → Type 0
@@ -55,13 +79,13 @@ HaveChunks (config ∷ configs) = (0 < config.chunks) × HaveChunks configs
 -- the bounds of a configuration without faults
 pub record Bounds (workers capacity limit generation : ℕ) (classes : List ClassConfig) : Type 0 where
   pub workers_least : 1 ≤ workers
-  pub workers_most : workers ≤ 64
+  pub workers_most : workers ≤ most_workers
   pub capacity_least : 1 ≤ capacity
   pub capacity_most : capacity ≤ most_capacity
   pub limit_least : 2 ≤ limit
   pub limit_most : limit ≤ most_refs
   pub generation_least : 1 ≤ generation
   pub classes_least : 1 ≤ length classes
-  pub classes_most : length classes ≤ 16
+  pub classes_most : length classes ≤ most_classes
   pub chunks_each : HaveChunks classes
   pub chunks_most : chunks_of classes ≤ most_chunks

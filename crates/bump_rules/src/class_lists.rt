@@ -5,7 +5,7 @@ ghost use Rattle.bump_rules.specs.Lists.{list_at, to_front, opening, IsListed};
 
 mod walk;
 
-use crate::configs::MAX_CHUNKS;
+use crate::configs::WIDE_CHUNKS;
 use crate::places::Place;
 use bump_links::Links;
 use std::alloc::{AllocError, Global};
@@ -47,11 +47,11 @@ fn chunk_at(first: u32, node: Option<u32>) -> Option<u32>
 }
 
 impl ClassLists {
-    /// Lists of so many chunks, from `first` on: all stand in UNUSED, ascending. `count` is 1 to `MAX_CHUNKS`, and the
+    /// Lists of so many chunks, from `first` on: all stand in UNUSED, ascending. `count` is 1 to `WIDE_CHUNKS`, and the
     /// chunk behind the last one has a number too. It is refused only for want of memory.
     pub fn new(alloc: Global, first: u32, count: u32) -> Result<ClassLists, AllocError>
         requires some { 1 ≤ count }
-        requires few { count ≤ MAX_CHUNKS }
+        requires few { count ≤ WIDE_CHUNKS }
         requires numbered { first + count < 2 ^ 32 }
         ensures { IfOk result (λ made. made ≡ opening first count) }
     {

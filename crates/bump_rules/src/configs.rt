@@ -1,14 +1,21 @@
 //! What a store is made from, and which configurations are refused.
 ghost use Rattle.std.specs.Prelude.{◌≡◌, ◌≤◌, IsTrue, IfOk, is_none};
 ghost use Rattle.std.specs.Result.{result_err};
-ghost use Rattle.bump_rules.specs.Configs.{first_fault, have_wrong_chunks, chunks_of};
+ghost use Rattle.bump_rules.specs.Configs.{first_fault, first_fault_within, have_wrong_chunks, chunks_of, most_chunks, store_most, wide_most};
 
 use bump_links::NODES_MAX;
 use std::marker::Model;
 use thiserror::Error;
 
-/// The greatest number of chunks of all classes together: 1,000,000, since the lists of a class have no more nodes.
-pub const MAX_CHUNKS: u32 = NODES_MAX;
+/// The greatest number of chunks of all classes together in a store that stands by itself: 1,000,000.
+pub const MAX_CHUNKS: u32 = 1_000_000;
+
+/// The greatest number of chunks of all classes together in any store, as in a cache's: 128,000,000, since the lists of a
+/// class have no more nodes.
+pub const WIDE_CHUNKS: u32 = NODES_MAX;
+
+/// The greatest number of classes in any store: 256, as a cache has parts.
+pub const WIDE_CLASSES: u32 = 256;
 
 /// The greatest limit of a reference count: as much as the count of a head word holds.
 pub const MAX_REFS: u32 = 1_048_575;
@@ -73,10 +80,10 @@ pub enum ConfigFault {
     Chunks,
 }
 
-/// What a store is made from.
+/// What a store is made from. A cache makes its own, which has more workers, classes and chunks than one by `new`.
 #[derive(Drop, Debug)]
 pub struct Config {
-    /// How many workers there are, each with a ring and a lane: 1 to 64.
+    /// How many workers there are, each with a ring and a lane: 1 to 64 by `new`, and 16,384 at most.
     pub workers: u32,
 
     /// How many bumps a worker's ring has room for: 1 to 65,536.
@@ -88,9 +95,10 @@ pub struct Config {
     /// The generation of each chunk's first life: 1 to 4,294,967,295.
     pub first_generation: u32,
 
-    /// The classes, by number: 1 to 16, with 1 chunk or more each, and at most 1,000,000 chunks together.
+    /// The classes, by number: 1 to 16 by `new`, and 256 at most, with 1 chunk or more each; and 1,000,000 chunks together
+    /// by `new`, and 128,000,000 at most.
     pub classes: Classes,
-    pub ghost valid: { IsTrue (is_none (first_fault workers capacity refs_limit first_generation classes)) },
+    pub ghost valid: { IsTrue (is_none (first_fault_within wide_most workers capacity refs_limit first_generation classes)) },
 }
 
 impl Classes {
@@ -119,7 +127,7 @@ impl Classes {
 
 // Whether a class has no chunks, or all have more than 1,000,000 together.
 fn has_wrong_chunks(classes: &[ClassConfig]) -> bool
-    ensures { result ≡ have_wrong_chunks classes.now }
+    ensures { result ≡ have_wrong_chunks store_most.chunks classes.now }
 {
     let mut left = MAX_CHUNKS;
     for class in classes {
@@ -132,8 +140,8 @@ fn has_wrong_chunks(classes: &[ClassConfig]) -> bool
 }
 
 impl Config {
-    /// A configuration, or the first fault that it has, in the order of `ConfigFault`. The numbers are those of
-    /// `Config`'s fields. Takes no memory: the vector is kept as it came.
+    /// A configuration of a store that stands by itself, or the first fault that it has, in the order of `ConfigFault`. The
+    /// numbers are those of `Config`'s fields. Takes no memory: the vector is kept as it came.
     pub fn new(
         workers: u32,
         capacity: u32,
@@ -170,7 +178,7 @@ impl Config {
         Err(fault)
     }
 
-    /// How many chunks all classes have together: 1 to 1,000,000.
+    /// How many chunks all classes have together: 1 to 1,000,000 by `new`, and 128,000,000 at most.
     pub fn chunks(&self) -> u32
         ensures { result ≡ chunks_of self.now.classes }
     {
@@ -180,7 +188,7 @@ impl Config {
 
 // The chunks of all these classes.
 fn count_chunks(classes: &[ClassConfig]) -> u32
-    requires { chunks_of classes.now ≤ MAX_CHUNKS }
+    requires { chunks_of classes.now ≤ most_chunks }
     ensures { result ≡ chunks_of classes.now }
 {
     let mut count = 0;

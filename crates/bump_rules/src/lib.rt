@@ -21,7 +21,10 @@ pub use bumps::{Accounts, Applied, AppliedBump, Bump, Ended, Entry, MOST_ATTEMPT
 pub use caches::{CACHE_REFS, LOOKS};
 pub use class_lists::{ClassLists, ListedChunks};
 pub use commands::{Answer, Command, Dropped, Hit, Pulled, Room, Touch};
-pub use configs::{ClassConfig, Classes, Config, ConfigFault, MAX_CAPACITY, MAX_CHUNKS, MAX_REFS};
+pub use configs::{
+    ClassConfig, Classes, Config, ConfigFault, MAX_CAPACITY, MAX_CHUNKS, MAX_REFS, WIDE_CHUNKS,
+    WIDE_CLASSES,
+};
 pub use events::{Event, Refused, Reply};
 pub use expiry::{expires_within, has_expired};
 pub use hands::Hand;

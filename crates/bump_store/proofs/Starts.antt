@@ -2,7 +2,7 @@
 use Rattle.std.proofs.Common.{◌≡◌, ℕ, zero, suc, ◌+◌, ◌-◌, ◌<◌, ◌≤◌, ◌↔◌, List, [], ◌∷◌, All, drop, Option, None, Some, IfSome, IfNone, IsErr, ok_or, length, refl, ap, ◌∙◌, arith}
 use Rattle.std.specs.Prelude.{slice_index}
 use Rattle.bump_rules.specs.declared.configs.ClassConfig.{ClassConfig}
-use Rattle.bump_rules.specs.Configs.{chunks_of}
+use Rattle.bump_rules.specs.Configs.{chunks_of, most_classes}
 use Rattle.bump_rules.specs.Lanes.{carried}
 use Rattle.bump_steps.specs.declared.views.LaneSheet.{LaneSheet}
 use Rattle.bump_steps.specs.Rule.{class_sheets, lane_sheets}
@@ -56,7 +56,7 @@ new_lanes_idle worker (suc count) (this_lane ∷ lanes) are (suc k) none low =
 
 -- what was made is a store
 pub made_store : (classes : List ClassConfig) (starts : List ℕ) (locks : ℕ) → starts ≡ starts_from 0 classes
-    → locks ≡ length classes → 1 ≤ locks → locks ≤ 16 → IsStore classes starts locks
+    → locks ≡ length classes → 1 ≤ locks → locks ≤ most_classes → IsStore classes starts locks
 made_store classes starts locks made same some few = record {
   each = λ class most. ap (λ xs. slice_index xs class) made ∙ start_at 0 classes class most ∙ omega arith;
   count = ap length made ∙ length_starts 0 classes;

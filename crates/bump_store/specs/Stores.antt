@@ -1,7 +1,7 @@
 -- Which class of a store has which chunks, and what a store keeps.
 use Rattle.std.specs.Prelude.{◌≡◌, ℕ, ◌+◌, ◌≤◌, ◌<◌, List, length, take, slice_index, slice_get, Some}
 use Rattle.bump_rules.specs.declared.configs.ClassConfig.{ClassConfig}
-use Rattle.bump_rules.specs.Configs.{chunks_of}
+use Rattle.bump_rules.specs.Configs.{chunks_of, most_classes}
 use Rattle.bump_class.specs.Books.{BookView}
 
 -- a class's first chunk: as many as the classes before it have together
@@ -34,4 +34,4 @@ pub record IsStore (classes : List ClassConfig) (starts : List ℕ) (locks : ℕ
   -- a lock for each class
   pub one_each : locks ≡ length classes
   pub some : 1 ≤ locks
-  pub few : locks ≤ 16
+  pub few : locks ≤ most_classes

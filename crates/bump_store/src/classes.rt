@@ -1,6 +1,6 @@
 //! Which class of a store has a chunk.
-ghost use Rattle.std.specs.Prelude.{◌≡◌, ◌≤◌, ◌<◌, ◌↔◌, ◌-◌, length, slice_index, IfOk, IfSome, IfNone, IsErr};
-ghost use Rattle.bump_rules.specs.Configs.{chunks_of};
+ghost use Rattle.std.specs.Prelude.{◌≡◌, ◌≤◌, ◌<◌, ◌↔◌, ◌+◌, ◌-◌, length, slice_index, IfOk, IfSome, IfNone, IsErr};
+ghost use Rattle.bump_rules.specs.Configs.{chunks_of, most_classes};
 ghost use Rattle.bump_store.specs.Stores.{ClassHasChunk};
 ghost use Rattle.bump_unlocked.specs.UnlockedStore.{IsBetweenStarts};
 
@@ -18,7 +18,7 @@ pub struct NoSuchChunk;
 // compared once.
 fn place_of(starts: &[u32], chunk: u32) -> Option<u32>
     requires some { 1 < length starts.now }
-    requires few { length starts.now ≤ 17 }
+    requires few { length starts.now ≤ most_classes + 1 }
     requires from_zero { slice_index starts.now 0 ≡ 0 }
     ensures some { IfSome result (λ place. IsBetweenStarts chunk starts.now place) }
     ensures none { IfNone result (slice_index starts.now (length starts.now - 1) ≤ chunk) }
@@ -35,7 +35,7 @@ fn place_of(starts: &[u32], chunk: u32) -> Option<u32>
 }
 
 impl<N: Name, L: RowLaw> Store<N, L> {
-    /// The number of the class that has the chunk, by at most 16 comparisons, one for each class. `chunk` is any
+    /// The number of the class that has the chunk, by one comparison for each class at most. `chunk` is any
     /// number. It is refused as NoSuchChunk exactly where there is no such chunk.
     pub fn class_of(&self, chunk: u32) -> Result<u32, NoSuchChunk>
         ensures in_range { IfOk result (λ class. class < length self.now.classes) }

@@ -1,5 +1,6 @@
 //! The maintainer, which has the lanes of all workers.
 ghost use Rattle.std.specs.Prelude.{◌≡◌, ◌<◌, ◌≤◌, ◌+◌, List as TheList, Some, length, slice_get, All};
+ghost use Rattle.bump_rules.specs.Configs.{most_workers};
 ghost use Rattle.bump_rules.specs.Entries.{moves_of};
 ghost use Rattle.bump_heads.specs.Applying.{NamesNoBumpTwice, NamesWorkersBelow};
 ghost use Rattle.bump_class.specs.Applications.{EachMoveIsTold, moved_in};
@@ -29,7 +30,7 @@ impl<N: Name, L: RowLaw> Model for Maintainer<N, L> {
     ghost view = { λ m. m.lanes.items };
 
     // as many as a store has workers at most
-    ghost invariant = { λ m. length m.lanes.items ≤ 64 };
+    ghost invariant = { λ m. length m.lanes.items ≤ most_workers };
 }
 
 impl<N: Name, L: RowLaw> Maintainer<N, L> {

@@ -1,10 +1,9 @@
 //! The rings of new workers, and the Books of new classes.
 ghost use Rattle.std.specs.Prelude.{◌≡◌, ◌≤◌, ◌<◌, ◌-◌, [], ◌∷◌, ◌++◌, IfOk, OnOk, length, map, All};
-ghost use Rattle.bump_rules.specs.Configs.{chunks_of, HaveChunks, most_chunks};
+ghost use Rattle.bump_rules.specs.Configs.{chunks_of, HaveChunks, most_chunks, most_workers};
 ghost use Rattle.bump_steps.specs.Rule.{class_sheets, worker_sheets, lane_sheets};
 ghost use Rattle.bump_readers.specs.Workers.{worker_seen};
 ghost use Rattle.bump_heads.specs.Making.{class_seen, lane_seen};
-ghost use Rattle.bump_heads.specs.Seats.{most_workers};
 ghost use Rattle.bump_unlocked.specs.Workers.{worker_rings, worker_sheets_of};
 ghost use Rattle.bump_unlocked.specs.UnlockedStore.{raw_rings, raw_sheets_of, starts_from, new_books};
 

@@ -3,7 +3,7 @@ use Rattle.std.proofs.Common.{◌≡◌, ℕ, ◌+◌, ◌*◌, ◌<◌, ◌≤�
 use Rattle.std.specs.Prelude.{◌&&◌, ◌||◌, nat_lt}
 use Rattle.std.proofs.lemmas.Bool.{le-leb, le-ltb}
 use Rattle.std.proofs.Math.Nat.{le-mul_of_pos_right, mul-le-mul_right}
-use Rattle.bump_rules.specs.Configs.{is_within, most_capacity, most_chunks}
+use Rattle.bump_rules.specs.Configs.{is_within, most_capacity, most_chunks, most_workers}
 use Rattle.keyed_hash.specs.declared.seed.Seed.{Seed}
 use Rattle.cache_config.specs.declared.config.CacheFault.{CacheFault}
 use Rattle.cache_config.specs.declared.config.CacheFault.TheVariants.{Items, Spare, Parts, Readers}
@@ -33,11 +33,11 @@ few_chunks_all config none = (sound config none).chunks_most
 
 -- a configuration without faults has no more readers than a store has workers
 pub few_readers : (config : CacheConfig) → first_cache_fault config ≡ None → config.readers ≤ 64
-few_readers config none =
-    let is = sound config none in
-    let some : 0 < config.parts = omega (arith, is.parts_least) in
-    let more : config.readers ≤ config.readers * config.parts = le-mul_of_pos_right config.readers some in
-    omega (arith, is.workers_most, more)
+few_readers config none = (sound config none).readers_most
+
+-- nor more workers
+pub few_moves : (config : CacheConfig) → first_cache_fault config ≡ None → config.readers * config.parts ≤ most_workers
+few_moves config none = (sound config none).workers_most
 
 -- nor more parts than a cache has
 pub few_parts : (config : CacheConfig) → first_cache_fault config ≡ None → config.parts ≤ most_parts
@@ -51,7 +51,8 @@ small_ring config none = (sound config none).ring_most
 abbrev one_part_bytes : ℕ → ℕ → ℕ → ℕ → ℕ → ℕ
 one_part_bytes chunks readers ring key_words value_words =
     row_bytes chunks (key_words + value_words)
-    + (list_bytes chunks + index_bytes chunks + 80 + 96 * readers + packing_bytes key_words value_words + 1168 + 1)
+    + (list_bytes chunks + index_bytes chunks + 80 + 96 * readers + packing_bytes key_words value_words + 680
+    + 8 * (readers * 1) + 1)
     + readers * reader_bytes 1 ring + shared_bytes
 
 -- the only part has all
@@ -72,7 +73,7 @@ one_part items readers seed key_words value_words =
     ≡ part_bytes (new_config items readers seed) key_words value_words 0 = omega arith in
     ap₂ (λ rows n. row_bytes rows (key_words + value_words) + n + readers * reader_bytes 1 8192 + shared_bytes) all sum
     ∙ ap (λ n. row_bytes (items + spare_of readers) (key_words + value_words)
-    + (list_bytes n + index_bytes n + 80 + 96 * readers + packing_bytes key_words value_words + 1168 + 1)
+    + (list_bytes n + index_bytes n + 80 + 96 * readers + packing_bytes key_words value_words + 680 + 8 * (readers * 1) + 1)
     + readers * reader_bytes 1 8192 + shared_bytes) chunks
 
 -- more chunks take no fewer bytes

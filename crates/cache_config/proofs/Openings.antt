@@ -1,6 +1,7 @@
 -- What a cache is opened with.
 use Rattle.std.proofs.Common.{◌≡◌, ℕ, zero, suc, ◌+◌, ◌<◌, ◌≤◌, List, [], ◌∷◌, length, Some, None, refl, sym, ap, ◌∙◌, arith}
 use Rattle.std.specs.List.{slice_get}
+use Rattle.bump_rules.specs.Configs.{most_chunks}
 use Rattle.bump_rules.specs.declared.configs.ClassConfig.{ClassConfig}
 use Rattle.bump_rules.specs.declared.configs.Config.{Config}
 use Rattle.bump_class.specs.Books.{BookView, new_book}
@@ -136,9 +137,9 @@ before_next config part =
 
 -- and they fit into a store
 pub room_behind : (config : CacheConfig) (part : ℕ) → first_cache_fault config ≡ None → part < config.parts
-    → chunks_before config part + (class_of config part).chunks ≤ 1000000
+    → chunks_before config part + (class_of config part).chunks ≤ most_chunks
 room_behind config part none low =
     let is = sound config none in
-    let few : chunks_in_first config (suc part) ≤ 1000000 = chunks_few config is (suc part) (omega (arith, low)) in
+    let few : chunks_in_first config (suc part) ≤ most_chunks = chunks_few config is (suc part) (omega (arith, low)) in
     let same : chunks_before config (suc part) ≡ chunks_in_first config (suc part) = before_is config (suc part) in
     omega (arith, few, same)

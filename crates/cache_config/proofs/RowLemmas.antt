@@ -7,6 +7,7 @@ use Rattle.cache_readers.specs.Readers.{ReaderView, counts_of, no_counts}
 use native.Mathlib.Decide.{ℕ_discrete}
 use Rattle.std.proofs.lemmas.List.{length-append, length-set}
 use Rattle.std.proofs.lemmas.Option.{slice_get-get_or, slice_get_within}
+use Rattle.cache_config.specs.Configs.{most_parts}
 use Rattle.cache_config.specs.Choosing.{IsPartCount}
 use Rattle.cache_config.specs.Making.{AddsPart, AreRows}
 use Rattle.cache_config.proofs.Places.{get_drop, get_end, get_front, get_set_other, get_set_same, get_within}
@@ -167,7 +168,7 @@ module _ (store : Config) (chunks : ℕ → ℕ) (readers parts : ℕ) (workers 
 
 -- each row has as many parts as a cache may have
 pub rows_counted : (store : Config) (chunks : ℕ → ℕ) (readers parts : ℕ) (workers : List WorkerState)
-    (rows : List (List ReaderView)) → AreRows store chunks readers parts workers rows → 1 ≤ parts → parts ≤ 16
+    (rows : List (List ReaderView)) → AreRows store chunks readers parts workers rows → 1 ≤ parts → parts ≤ most_parts
     → All (λ (row : List ReaderView). IsPartCount (length row)) rows
 rows_counted store chunks readers parts workers rows are some few = λ k none low.
     let had : slice_get rows k ≡ Some (get_or rows k none) = slice_get-get_or rows k none low in

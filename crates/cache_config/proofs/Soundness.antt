@@ -2,16 +2,16 @@
 use Rattle.std.proofs.Common.{◌≡◌, ℕ, zero, suc, ◌+◌, ◌*◌, ◌<◌, ◌≤◌, Bool, true, false, not, cond, ◌&&◌, ◌||◌, List, [], ◌∷◌, length, Option, Some, None, sym, ap, ap₂, ◌∙◌, arith, ne_eqb, refl, subst, le-leb}
 use Rattle.std.specs.Prelude.{◌==◌, is_none, nat_le, nat_lt}
 use Rattle.std.specs.List.{list_any, slice_get}
-use Rattle.std.proofs.Math.Nat.{mul-le-mul_left, mul-suc, one-le-mul}
+use Rattle.std.proofs.Math.Nat.{mul-le-mul_left, mul-le-mul_right, mul-suc, one-le-mul}
 use Rattle.std.proofs.lemmas.Option.{slice_get_within}
 use Rattle.std.proofs.lemmas.Bool.{and_parts, le-ltb, leb-true, ltb-false, not-false, or_parts}
 use Rattle.bump_rules.specs.declared.configs.ClassConfig.{ClassConfig}
 use Rattle.bump_rules.specs.declared.configs.ConfigFault.TheVariants as store
 use Rattle.bump_rules.specs.Caches.{cache_refs}
-use Rattle.bump_rules.specs.Configs.{chunks_of, first_fault, have_wrong_chunks, is_within, most_capacity, most_chunks}
+use Rattle.bump_rules.specs.Configs.{chunks_of, first_fault_within, have_wrong_chunks, is_within, most_capacity, most_chunks, most_classes, most_workers, wide_most}
 use Rattle.cache_config.specs.declared.config.CacheConfig.{CacheConfig}
 use Rattle.cache_config.specs.declared.config.CacheFault.TheVariants.{Items, Spare, Shares, Parts, Readers, Ring}
-use Rattle.cache_config.specs.Configs.{all_chunks, class_of, first_cache_fault, items_in, most_parts}
+use Rattle.cache_config.specs.Configs.{all_chunks, class_of, first_cache_fault, items_in, most_parts, most_readers}
 use Rattle.cache_config.proofs.Evens.{share_some, shares_all, shares_before, shares_most}
 
 -- a test for a fault that found none failed, and the tests behind it found none
@@ -28,14 +28,20 @@ within_of least most n e = let both = and_parts (nat_le least n) (nat_le n most)
 pub record IsSound (config : CacheConfig) : Type 0 where
   pub items_least : 1 ≤ config.items
   pub spare_least : 1 ≤ config.spare
-  pub chunks_most : all_chunks config ≤ 1000000
+  pub chunks_most : all_chunks config ≤ most_chunks
   pub parts_least : 1 ≤ config.parts
-  pub parts_most : config.parts ≤ 16
+  pub parts_most : config.parts ≤ most_parts
   pub parts_few : config.parts ≤ config.items
   pub readers_least : 1 ≤ config.readers
-  pub workers_most : config.readers * config.parts ≤ 64
+  pub readers_most : config.readers ≤ most_readers
+  pub workers_most : config.readers * config.parts ≤ most_workers
   pub ring_least : 1 ≤ config.ring
   pub ring_most : config.ring ≤ 65536
+
+-- so many readers of so many parts have no more workers than a store may have
+few_workers : (readers parts : ℕ) → readers ≤ most_readers → parts ≤ most_parts → readers * parts ≤ most_workers
+few_workers readers parts few some =
+    omega (arith, mul-le-mul_right parts few, some)
 
 -- a configuration without faults is within them
 pub sound : (config : CacheConfig) → first_cache_fault config ≡ None → IsSound config
@@ -45,23 +51,23 @@ sound config none =
     let no_shares = clear (nat_lt 100 (config.hot + config.warm)) Shares _ no_spare.1 in
     let no_parts = clear (not (is_within 1 most_parts config.parts) || nat_lt config.items config.parts) Parts _
     no_shares.1 in
-    let no_readers = clear (not (is_within 1 64 config.readers) || nat_lt 64 (config.readers * config.parts)) Readers _
-    no_parts.1 in
+    let no_readers = clear (not (is_within 1 most_readers config.readers)) Readers _ no_parts.1 in
     let no_ring = clear (not (is_within 1 most_capacity config.ring)) Ring _ no_readers.1 in
     let spare = or_parts _ _ no_spare.0 in
     let parts = or_parts _ _ no_parts.0 in
-    let readers = or_parts _ _ no_readers.0 in
-    let count = within_of 1 16 config.parts parts.0 in
+    let readers = within_of 1 most_readers config.readers no_readers.0 in
+    let count = within_of 1 most_parts config.parts parts.0 in
     let ring = within_of 1 65536 config.ring no_ring.0 in
     record {
-      items_least = (within_of 1 1000000 config.items no_items.0).0;
+      items_least = (within_of 1 most_chunks config.items no_items.0).0;
       spare_least = ltb-false config.spare 1 spare.0;
       chunks_most = ltb-false most_chunks (all_chunks config) spare.1;
       parts_least = count.0;
       parts_most = count.1;
       parts_few = ltb-false config.items config.parts parts.1;
-      readers_least = (within_of 1 64 config.readers readers.0).0;
-      workers_most = ltb-false 64 (config.readers * config.parts) readers.1;
+      readers_least = readers.0;
+      readers_most = readers.1;
+      workers_most = few_workers config.readers config.parts readers.1 count.1;
       ring_least = ring.0;
       ring_most = ring.1;
     }
@@ -87,7 +93,7 @@ chunks_in_next config part = omega arith
 
 -- and the first ones no more
 pub chunks_few : (config : CacheConfig) → IsSound config → (part : ℕ) → part ≤ config.parts
-    → chunks_in_first config part ≤ 1000000
+    → chunks_in_first config part ≤ most_chunks
 chunks_few config is part low =
     let items : shares_before config.items config.parts part ≤ config.items =
     shares_most config.items config.parts part is.parts_least low in
@@ -148,7 +154,7 @@ passes false x o fails rest = rest
 -- a store of the parts' classes has no fault
 pub valid_store : (config : CacheConfig) (classes : List ClassConfig) → IsSound config → length classes ≡ config.parts
     → ((part : ℕ) → part < config.parts → slice_get classes part ≡ Some (class_of config part))
-    → is_none (first_fault (config.readers * config.parts) config.ring cache_refs 1 classes) ≡ true
+    → is_none (first_fault_within wide_most (config.readers * config.parts) config.ring cache_refs 1 classes) ≡ true
 valid_store config classes is count each =
     let workers : 1 ≤ config.readers * config.parts = one-le-mul is.readers_least is.parts_least in
     let none : list_any (λ (class : ClassConfig). class.chunks == 0) classes ≡ false =
@@ -165,14 +171,14 @@ valid_store config classes is count each =
     each i within ∙ ap (λ n. Some (class_of config n)) here) in
     let end : 0 + length classes ≡ config.parts = omega (arith, count) in
     let few : chunks_of classes ≤ most_chunks =
-    let last : chunks_in_first config config.parts ≤ 1000000 = chunks_few config is config.parts (omega arith) in
+    let last : chunks_in_first config config.parts ≤ most_chunks = chunks_few config is config.parts (omega arith) in
     let same : chunks_in_first config (0 + length classes) ≡ chunks_in_first config config.parts =
     ap (chunks_in_first config) end in omega (arith, all, same, last) in
-    passes (not (is_within 1 64 (config.readers * config.parts))) store.Workers _
-    (not_outside 1 64 (config.readers * config.parts) workers is.workers_most)
+    passes (not (is_within 1 most_workers (config.readers * config.parts))) store.Workers _
+    (not_outside 1 most_workers (config.readers * config.parts) workers is.workers_most)
     (passes (not (is_within 1 most_capacity config.ring)) store.Capacity _
     (not_outside 1 most_capacity config.ring is.ring_least is.ring_most)
-    (passes (not (is_within 1 16 (length classes))) store.Classes _
-    (not_outside 1 16 (length classes) (omega (arith, count, is.parts_least)) (omega (arith, count, is.parts_most)))
-    (passes (have_wrong_chunks classes) store.Chunks _
+    (passes (not (is_within 1 most_classes (length classes))) store.Classes _
+    (not_outside 1 most_classes (length classes) (omega (arith, count, is.parts_least)) (omega (arith, count, is.parts_most)))
+    (passes (have_wrong_chunks most_chunks classes) store.Chunks _
     (ap₂ (λ a b. a || b) none (le-ltb most_chunks (chunks_of classes) few)) refl)))

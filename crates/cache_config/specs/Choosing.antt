@@ -2,7 +2,7 @@
 use Rattle.std.specs.Prelude.{ℕ, ◌*◌, ◌/◌, ◌%◌, ◌≤◌}
 use Rattle.cache_config.specs.Configs.{most_parts}
 
--- a cache has 1 to 16 parts
+-- a cache has 1 to 256 parts
 abbrev pub IsPartCount : ℕ → Type 0
 IsPartCount parts = (1 ≤ parts) × (parts ≤ most_parts)
 

@@ -3,7 +3,7 @@ use Rattle.std.specs.Prelude.{◌≡◌, ℕ, ◌+◌, ◌*◌, ◌/◌, ◌%◌
 use Rattle.bump_rules.specs.declared.configs.ClassConfig.{ClassConfig}
 use Rattle.bump_rules.specs.declared.configs.Config.{Config}
 use Rattle.bump_rules.specs.Caches.{cache_refs}
-use Rattle.bump_rules.specs.Configs.{is_within, most_chunks, most_capacity}
+use Rattle.bump_rules.specs.Configs.{is_within, most_chunks, most_capacity, most_classes}
 use Rattle.keyed_hash.specs.declared.seed.Seed.{Seed}
 use Rattle.cache_lists.specs.declared.ages.Bounds.{Bounds}
 use Rattle.cache_config.specs.declared.config.CacheConfig.{CacheConfig}
@@ -14,7 +14,11 @@ use Rattle.cache_config.specs.declared.config.CacheRefusal.TheVariants.{Fault, M
 
 -- a cache has at most so many parts
 abbrev pub most_parts : ℕ
-most_parts = 16
+most_parts = most_classes
+
+-- and so many readers, each with a worker in each part
+abbrev pub most_readers : ℕ
+most_readers = 64
 
 -- so many chunks all parts have together: those of the items, and the spare ones of each part
 abbrev pub all_chunks : CacheConfig → ℕ
@@ -26,7 +30,7 @@ has_cache_fault config Items = not (is_within 1 most_chunks config.items)
 has_cache_fault config Spare = nat_lt config.spare 1 || nat_lt most_chunks (all_chunks config)
 has_cache_fault config Shares = nat_lt 100 (config.hot + config.warm)
 has_cache_fault config Parts = not (is_within 1 most_parts config.parts) || nat_lt config.items config.parts
-has_cache_fault config Readers = not (is_within 1 64 config.readers) || nat_lt 64 (config.readers * config.parts)
+has_cache_fault config Readers = not (is_within 1 most_readers config.readers)
 has_cache_fault config Ring = not (is_within 1 most_capacity config.ring)
 
 -- the first fault that it has, in the order in which they are looked for

@@ -27,12 +27,12 @@ packing_bytes key_words value_words =
 
 -- a part, by its number: the lists and the index of its own chunks; the nests, with the count of who has them, 80; a
 -- lane of 96 for each reader, which takes the bumps out of the reader's ring; what a call packs and unpacks; the part's
--- place in the vector of locks, 1168, of which 64 on each side keep it apart from the next one's; and the further part
--- of the nests' table, which has no bytes: for it one is asked
+-- place in the vector of locks, 680, of which 64 on each side keep it apart from the next one's; a count of moves for each
+-- reader of each part, 8; and the further part of the nests' table, which has no bytes: for it one is asked
 abbrev pub part_bytes : CacheConfig → ℕ → ℕ → ℕ → ℕ
 part_bytes config key_words value_words part =
     list_bytes (class_of config part).chunks + index_bytes (class_of config part).chunks + 80 + 96 * config.readers
-    + packing_bytes key_words value_words + 1168 + 1
+    + packing_bytes key_words value_words + 680 + 8 * (config.readers * config.parts) + 1
 
 -- a number for each part, of so many of the first parts, together
 abbrev pub sum_of_parts : (ℕ → ℕ) → ℕ → ℕ

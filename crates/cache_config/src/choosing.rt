@@ -17,7 +17,7 @@ pub fn part_of_hash(parts: usize, hash: u32) -> usize
     (hash / 256 % 256) as usize * parts / 256
 }
 
-/// Of one thing for each part, 1 to 16, that of the part of a key with this hash. Where there is but one nothing is
+/// Of one thing for each part, 1 to 256, that of the part of a key with this hash. Where there is but one nothing is
 /// reckoned.
 #[inline(always)]
 pub fn part_in<T>(parts: &mut [T], hash: u32) -> &mut T

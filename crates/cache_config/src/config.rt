@@ -2,39 +2,38 @@
 ghost use Rattle.std.specs.Prelude.{◌≡◌, ◌*◌, ◌≤◌, ◌<◌, min, IfOk, None};
 ghost use Rattle.cache_config.specs.Configs.{IsStoreOf, all_chunks, bounds_of, class_of, even_share, first_cache_fault, items_in, new_config, share_of};
 
-use bump_rules::{CACHE_REFS, ClassConfig, Classes, Config, MAX_CAPACITY, MAX_CHUNKS};
+use bump_rules::{
+    CACHE_REFS, ClassConfig, Classes, Config, MAX_CAPACITY, WIDE_CHUNKS, WIDE_CLASSES,
+};
 use cache_shelf::Bounds;
 use keyed_hash::Seed;
 use std::alloc::{AllocError, Global};
 use thiserror::Error;
 
-// A cache has at most so many parts.
-const MOST_PARTS: u32 = 16;
-
-// A cache has at most so many readers, and over all parts together as many workers: so many a store may have.
+// A cache has at most so many readers: in each of its parts as many workers.
 const MOST_READERS: u32 = 64;
 
 /// Why a cache can't be made from these numbers.
 #[derive(Clone, Copy, Debug, PartialEq, Eq, Error)]
 pub enum CacheFault {
-    /// The number of items isn't 1 to 1,000,000.
-    #[error("the number of items isn't 1 to 1,000,000")]
+    /// The number of items isn't 1 to 128,000,000.
+    #[error("the number of items isn't 1 to 128,000,000")]
     Items,
 
-    /// A part has no spare chunk, or the items and the spare chunks of all parts are more than 1,000,000 together.
-    #[error("a part has no spare chunk, or the items and all spare chunks are more than 1,000,000 together")]
+    /// A part has no spare chunk, or the items and the spare chunks of all parts are more than 128,000,000 together.
+    #[error("a part has no spare chunk, or the items and all spare chunks are more than 128,000,000 together")]
     Spare,
 
     /// The shares of HOT and WARM are more than 100 percent together.
     #[error("the shares of HOT and WARM are more than 100 percent together")]
     Shares,
 
-    /// The number of parts isn't 1 to 16, or there are more of them than items.
-    #[error("the number of parts isn't 1 to 16, or is more than that of the items")]
+    /// The number of parts isn't 1 to 256, or there are more of them than items.
+    #[error("the number of parts isn't 1 to 256, or is more than that of the items")]
     Parts,
 
-    /// The number of readers isn't 1 to 64, or multiplied by that of the parts it is more than 64.
-    #[error("the number of readers isn't 1 to 64, or is more than 64 when multiplied by that of the parts")]
+    /// The number of readers isn't 1 to 64.
+    #[error("the number of readers isn't 1 to 64")]
     Readers,
 
     /// The room of a reader's ring isn't 1 to 65,536 bumps.
@@ -57,11 +56,11 @@ pub enum CacheRefusal {
 /// What a cache is made from.
 #[derive(Clone, Copy)]
 pub struct CacheConfig {
-    /// At most so many items are in it, 1 to 1,000,000.
+    /// At most so many items are in it, 1 to 128,000,000.
     pub items: u32,
 
     /// So many chunks each part has beside those of its items, 1 or more; those of all parts and the items are at most
-    /// 1,000,000 together. A put needs one that is free, also where its key has an item, since that ends behind the new
+    /// 128,000,000 together. A put needs one that is free, also where its key has an item, since that ends behind the new
     /// one's beginning; and an item that ended keeps its chunk as long as a reader holds it. A reader holds one item at
     /// most: in a get for a moment, or as a `HeldItem` as long as there is one. With one chunk for each reader and one
     /// more tests saw no put refused, as long as no chunk had had its last generation; no clause says so. With fewer one
@@ -84,13 +83,12 @@ pub struct CacheConfig {
     /// And WARM's where it was used longer ago than so many percent of it. memcached has 200 (`warm_max_factor` 2.0).
     pub warm_age: Option<u32>,
 
-    /// So many parts there are, 1 to 16, and at most as many as items: each has a lock of its own, and a key's part is
+    /// So many parts there are, 1 to 256, and at most as many as items: each has a lock of its own, and a key's part is
     /// by its hash. So puts of keys of different parts don't wait for each other. The items go to the parts evenly, to
     /// the first ones one more where it isn't whole, and a part that is full evicts, whatever room others have.
     pub parts: u32,
 
-    /// So many readers there are, 1 to 64, and at most 64 when multiplied by the number of parts: a thread that gets
-    /// has one.
+    /// So many readers there are, 1 to 64: a thread that gets has one.
     pub readers: u32,
 
     /// Each reader's ring, of which it has one for each part, has room for so many bumps, 1 to 65,536.
@@ -129,10 +127,10 @@ fn share(items: u32, percent: u32) -> u32
 }
 
 impl CacheConfig {
-    /// That of a cache of one part with so many items, 1 to 1,000,000, and so many readers, 1 to 64, as memcached has
+    /// That of a cache of one part with so many items, 1 to 128,000,000, and so many readers, 1 to 64, as memcached has
     /// it: the shares of HOT and WARM are 20 and 40 percent of the items, their last ones are used no longer ago than 20
     /// and 200 percent of COLD's age, and a reader's ring has room for 8,192 bumps (`LRU_BUMP_BUF_SIZE`). A part has a
-    /// spare chunk for each reader, and one more: so `fault` tells `Spare` of more items than 1,000,000 less these. Nothing
+    /// spare chunk for each reader, and one more: so `fault` tells `Spare` of more items than 128,000,000 less these. Nothing
     /// is in TEMP, and a tend looks at 1,000 chunks for items that have expired.
     pub fn new(items: u32, readers: u32, seed: Seed) -> CacheConfig
         ensures { result ≡ new_config items readers seed }
@@ -157,19 +155,19 @@ impl CacheConfig {
     pub fn fault(&self) -> Option<CacheFault>
         ensures { result ≡ first_cache_fault self.now }
     {
-        if self.items < 1 || self.items > MAX_CHUNKS {
+        if self.items < 1 || self.items > WIDE_CHUNKS {
             return Some(CacheFault::Items);
         }
-        if self.spare < 1 || self.all_chunks() > MAX_CHUNKS {
+        if self.spare < 1 || self.all_chunks() > WIDE_CHUNKS {
             return Some(CacheFault::Spare);
         }
         if self.hot > 100 || self.warm > 100 || self.hot + self.warm > 100 {
             return Some(CacheFault::Shares);
         }
-        if self.parts < 1 || self.parts > MOST_PARTS || self.parts > self.items {
+        if self.parts < 1 || self.parts > WIDE_CLASSES || self.parts > self.items {
             return Some(CacheFault::Parts);
         }
-        if self.readers < 1 || self.readers > MOST_READERS || self.workers() > MOST_READERS {
+        if self.readers < 1 || self.readers > MOST_READERS {
             return Some(CacheFault::Readers);
         }
         if self.ring < 1 || self.ring > MAX_CAPACITY {

@@ -5,7 +5,7 @@ ghost use Rattle.cache_config.specs.Configs.{first_cache_fault, most_parts, new_
 ghost use Rattle.cache_config.specs.Memory.{IsMostFor, bytes_of, index_bytes, list_bytes, packing_bytes, part_bytes, reader_bytes, row_bytes, sum_of_parts};
 
 use crate::config::CacheConfig;
-use bump_rules::MAX_CHUNKS;
+use bump_rules::WIDE_CHUNKS;
 use cache_index::nests_for;
 use keyed_hash::Seed;
 
@@ -49,7 +49,10 @@ const LANE_BYTES: u64 = 96;
 const NESTS_BYTES: u64 = 80;
 
 // A place in the vector of locks: a lock, with what it guards, and 64 bytes on each side of it.
-const LOCK_BYTES: u64 = 1_168;
+const LOCK_BYTES: u64 = 680;
+
+// A part counts the moves for bumps of each worker, of which there is one for each reader and part.
+const MOVES_BYTES: u64 = 8;
 
 // The heads, with the count of who has them.
 const HEADS_BYTES: u64 = 104;
@@ -62,7 +65,7 @@ fn rows_take(chunks: u32, words: u64) -> u64
     requires few { chunks ≤ most_chunks }
     requires words { words < 2 ^ 33 }
     ensures rows { result ≡ row_bytes chunks words }
-    ensures range { result < 2 ^ 57 }
+    ensures range { result < 2 ^ 63 }
 {
     8 * (SPARE_WORDS + u64::from(chunks) * (OWN_WORDS + words))
 }
@@ -71,7 +74,7 @@ fn rows_take(chunks: u32, words: u64) -> u64
 fn lists_and_index_take(chunks: u32) -> u64
     requires few { chunks ≤ most_chunks }
     ensures both { result ≡ list_bytes chunks + index_bytes chunks }
-    ensures range { result < 2 ^ 32 }
+    ensures range { result < 2 ^ 34 }
 {
     let lists = LINK_BYTES * (u64::from(chunks) + LISTS);
     let nests = NESTS_FROM + NEST_BYTES * u64::from(nests_for(chunks));
@@ -99,7 +102,7 @@ fn packing_takes(key_words: u64, value_words: u64) -> u64
 }
 
 // What a part takes, by its number.
-#[tactic(auto, using(crate::proofs::MemoryLemmas::few_chunks, crate::proofs::MemoryLemmas::few_readers))]
+#[tactic(auto, using(crate::proofs::MemoryLemmas::few_chunks, crate::proofs::MemoryLemmas::few_readers, crate::proofs::MemoryLemmas::few_moves))]
 fn part_takes(config: &CacheConfig, part: u32, key_words: u64, value_words: u64) -> u64
     requires sound { first_cache_fault config.now ≡ None }
     requires part { part < config.now.parts }
@@ -113,6 +116,7 @@ fn part_takes(config: &CacheConfig, part: u32, key_words: u64, value_words: u64)
         + LANE_BYTES * u64::from(config.readers)
         + packing_takes(key_words, value_words)
         + LOCK_BYTES
+        + MOVES_BYTES * (u64::from(config.readers) * u64::from(config.parts))
         + EMPTY_BYTES
 }
 
@@ -123,7 +127,7 @@ fn parts_take(config: &CacheConfig, key_words: u64, value_words: u64) -> u64
     requires key { key_words < 2 ^ 32 }
     requires value { value_words < 2 ^ 32 }
     ensures parts { result ≡ sum_of_parts (part_bytes config.now key_words value_words) config.now.parts }
-    ensures range { result < 2 ^ 46 }
+    ensures range { result < 2 ^ 50 }
 {
     let mut so_far = 0;
     for part in 0..config.parts {
@@ -162,7 +166,7 @@ fn most_items(limit: u64, readers: u32, seed: Seed, key_words: u32, value_words:
         → limit < bytes_of (new_config items readers seed) key_words value_words }
 {
     let mut fits = 0;
-    let mut over = MAX_CHUNKS - readers;
+    let mut over = WIDE_CHUNKS - readers;
     while fits + 1 < over {
         let middle = (fits + over) / 2;
         if takes_at_most(limit, middle, readers, seed, key_words, value_words) {
@@ -180,7 +184,7 @@ impl CacheConfig {
     ///
     /// It is exact of the sizes that are asked for, which `checks/cache_memory` counts; no contract of the allocator
     /// says so. What an allocator takes beside them isn't told: that of the C library has some 16 bytes for each
-    /// request, of which there are 5, 11 for each part, 1 for each reader, and 2 for each reader and part, and whole
+    /// request, of which there are 5, 12 for each part, 1 for each reader, and 2 for each reader and part, and whole
     /// pages for large ones. While a cache is opened there are more for a moment.
     #[tactic(auto, using(crate::proofs::MemoryLemmas::few_chunks_all, crate::proofs::MemoryLemmas::few_readers, crate::proofs::MemoryLemmas::few_parts, crate::proofs::MemoryLemmas::small_ring))]
     pub fn bytes_taken(&self, key_words: u32, value_words: u32) -> u64
@@ -196,7 +200,7 @@ impl CacheConfig {
 
     /// The configuration that `new` makes of so many readers and this seed, of the most items with which a cache takes
     /// at most `limit` bytes, by `bytes_taken` with keys and values of so many words: with more it would take more, or
-    /// they and the spare chunks are 1,000,000 together. It has one part and no fault. It is None exactly where a cache of one
+    /// they and the spare chunks are 128,000,000 together. It has one part and no fault. It is None exactly where a cache of one
     /// item takes more than `limit`, or `readers` isn't 1 to 64. memcached's `-m` limits the memory of its items.
     pub fn for_bytes(
         limit: u64,

@@ -24,7 +24,7 @@ pub struct PartPlace {
     /// Its number, from 0.
     pub number: u32,
 
-    /// How many parts there are, 1 to 16.
+    /// How many parts there are, 1 to 256.
     pub parts: u32,
 }
 

@@ -35,10 +35,9 @@ fn parts_in(words: &[String]) -> Option<u32> {
     }
 }
 
-// Whether a cache may have so many readers and parts: each reader has a ring in each part, and there are at most 64
-// rings.
+// Whether a cache may have so many readers and parts.
 fn may_have(readers: u32, parts: u32) -> bool {
-    readers >= 1 && parts >= 1 && parts <= 16 && readers.saturating_mul(parts) <= 64
+    readers >= 1 && readers <= 64 && parts >= 1 && parts <= 256
 }
 
 // What the words of the command line ask for, if they are three numbers in range, or four.
@@ -115,7 +114,7 @@ fn main(rt: HostRuntime) -> std::io::Result<ExitCode> {
     let words = env::args(&rt)?.collect::<Vec<String>>(rt.alloc())?;
     let Some(load) = load_of(&words) else {
         eprintln!(&rt;
-            "usage: cache_load READERS WRITERS GETS [PARTS], of 1 to 64 readers, 1 to 4 writers and 1 to 16 parts; readers times parts at most 64"
+            "usage: cache_load READERS WRITERS GETS [PARTS], of 1 to 64 readers, 1 to 4 writers and 1 to 256 parts"
         )?;
         return Ok(ExitCode::from(3));
     };

@@ -1,6 +1,7 @@
 //! Tests of a cache: random calls beside a plain map, also those that look and then put, the order in which items are
-//! evicted beside a model of its lists, evictions for which no put asks, puts that find no room, items that expire, gets of many keys, keys of one hash,
-//! keys as text, memory that is counted or refused, visits of all that is there, and readers on threads.
+//! evicted beside a model of its lists, evictions for which no put asks, puts that find no room, items that expire, gets of
+//! many keys, caches of many parts and readers, keys of one hash, keys as text, memory that is counted or refused, visits
+//! of all that is there, and readers on threads.
 #![tactic(auto)]
 
 #[cfg(test)]
@@ -17,6 +18,8 @@ mod held_items;
 mod lists;
 #[cfg(test)]
 mod many;
+#[cfg(test)]
+mod many_parts;
 #[cfg(test)]
 mod memory;
 #[cfg(test)]

@@ -172,7 +172,14 @@ fn a_key_that_is_there_can_be_put(rt: HostRuntime) -> Result<(), Fail> {
             }
         }
     }
-    assert_eq!(rt; refused_in(&rt, alloc, 100, 4, 1)?, 0);
+    for (items, parts, readers) in [(100, 4, 1), (20, 20, 64), (300, 256, 2)] {
+        let refused = refused_in(&rt, alloc, items, parts, readers)?;
+        assert_eq!(rt;
+            refused,
+            0,
+            "{items} items, {parts} parts, {readers} readers"
+        );
+    }
     Ok(())
 }
 
@@ -239,13 +246,13 @@ fn fault_of(items: u32, parts: u32, readers: u32) -> Option<CacheFault> {
 
 #[test]
 fn a_part_has_a_spare_chunk(rt: HostRuntime) {
-    for parts in [1, 2, 16] {
-        for readers in 1..64 / parts + 1 {
-            let most = 1_000_000 - parts * (readers + 1);
+    for parts in [1, 2, 16, 256] {
+        for readers in 1..65 {
+            let most = 128_000_000 - parts * (readers + 1);
             assert_eq!(rt; fault_of(most, parts, readers), None);
             assert_eq!(rt; fault_of(most + 1, parts, readers), Some(CacheFault::Spare));
             assert_eq!(rt;
-                fault_of(1_000_000, parts, readers),
+                fault_of(128_000_000, parts, readers),
                 Some(CacheFault::Spare)
             );
         }

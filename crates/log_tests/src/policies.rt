@@ -113,10 +113,11 @@ fn expect_refused(rt: &impl Abort, alloc: Global, policy: Policy, items: u32) {
 }
 
 #[test]
-fn items_are_one_to_a_million(rt: HostRuntime) -> Result<(), Fail> {
+fn items_are_in_range(rt: HostRuntime) -> Result<(), Fail> {
     expect_refused(&rt, rt.alloc(), Policy::Lru, 0);
+    expect_refused(&rt, rt.alloc(), Policy::Lru, MAX_ITEMS + 1);
     expect_refused(&rt, rt.alloc(), Policy::Fifo, MAX_ITEMS + 1);
-    expect_both(&rt, rt.alloc(), MAX_ITEMS, &[1, 2, 1], tally(1, 2))?;
+    expect_both(&rt, rt.alloc(), 1_000_000, &[1, 2, 1], tally(1, 2))?;
     Ok(())
 }
 

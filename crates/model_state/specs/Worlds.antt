@@ -7,7 +7,7 @@ use Rattle.bump_rules.specs.declared.lanes.LaneStage.{LaneStage}
 use Rattle.bump_rules.specs.declared.lanes.LaneStage.TheVariants as lane
 use Rattle.bump_rules.specs.declared.hands.Hand.{Hand}
 use Rattle.bump_rules.specs.declared.hands.Hand.TheVariants as hand
-use Rattle.bump_rules.specs.Configs.{most_chunks}
+use Rattle.bump_rules.specs.Configs.{most_chunks, most_classes, most_workers}
 use Rattle.bump_rules.specs.Totals.{total, how_many}
 use Rattle.bump_rules.specs.Lives.{life, one_if, count_of}
 use Rattle.bump_rules.specs.Lawful.{Lawful}
@@ -126,6 +126,6 @@ pub record IsLawful (state : State) : Type 0 where
 
 -- no more classes, chunks and workers than a configuration may have
 pub record IsSized (state : State) : Type 0 where
-  pub classes : length state.classes ≤ 16
+  pub classes : length state.classes ≤ most_classes
   pub chunks : length state.chunks ≤ most_chunks
-  pub workers : length state.workers ≤ 64
+  pub workers : length state.workers ≤ most_workers

@@ -8,8 +8,8 @@ use thiserror::Error;
 /// Why an access log isn't run.
 #[derive(Clone, Copy, Debug, PartialEq, Eq, Error)]
 pub enum PolicyFault {
-    /// Not 1 to 1,000,000 items.
-    #[error("a cache has room for 1 to 1,000,000 items")]
+    /// Not 1 to 128,000,000 items.
+    #[error("a cache has room for 1 to 128,000,000 items")]
     Items,
 
     /// Memory was refused.

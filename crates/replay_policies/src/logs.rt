@@ -23,7 +23,7 @@ fn run(replay: &mut Replay, accesses: &[u32]) -> Result<Tally, PolicyFault>
 }
 
 /// An access log, the key numbers in their order, run through a cache that has no keys at first, and room for so many
-/// items: 1 to 1,000,000. It is refused as `Items` exactly where that isn't so, and else only for want of memory.
+/// items: 1 to 128,000,000. It is refused as `Items` exactly where that isn't so, and else only for want of memory.
 pub fn replay(
     alloc: Global,
     policy: Policy,

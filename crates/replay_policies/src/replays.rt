@@ -7,13 +7,13 @@ use crate::caches::Cache;
 use crate::faults::PolicyFault;
 use crate::policies::Policy;
 use crate::tallies::Tally;
-use bump_rules::MAX_CHUNKS;
+use bump_links::NODES_MAX;
 use std::alloc::{AllocError, Global};
 use std::marker::Model;
 use std::num::NonZeroUsize;
 
-/// So many items a cache has room for at most: 1,000,000, as many as one of bump's has chunks.
-pub const MAX_ITEMS: u32 = MAX_CHUNKS;
+/// So many items a cache has room for at most: 128,000,000, as many as one of bump's has chunks.
+pub const MAX_ITEMS: u32 = NODES_MAX;
 
 /// A cache through which an access log is run, access by access, and what it came to so far. A contract sees how many
 /// items it has room for, and its tally (`specs/Replays.antt`).
@@ -33,7 +33,7 @@ impl Model for Replay {
 }
 
 impl Replay {
-    /// A cache without keys, which has room for so many items: 1 to 1,000,000. It is refused as `Items` exactly where that
+    /// A cache without keys, which has room for so many items: 1 to 128,000,000. It is refused as `Items` exactly where that
     /// isn't so, and else only for want of memory.
     pub fn new(alloc: Global, policy: Policy, items: u32) -> Result<Replay, PolicyFault>
         ensures empty { IfOk result (λ r. r ≡ record { items = items; tally = no_accesses }) }

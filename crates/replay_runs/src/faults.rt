@@ -35,7 +35,8 @@ pub enum ReplayFault {
     #[error("a call that was written can't be made")]
     Refused,
 
-    /// The trace that was written doesn't run to its end. No log is known that does this.
+    /// The trace that was written doesn't run to its end. So it is where the cache has more than 1,000,000 chunks, since no
+    /// store of a trace has as many; no log is known that does this in another one.
     #[error("the trace that was written can't be run: {0}")]
     Run(SimFault),
 }

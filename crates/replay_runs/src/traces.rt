@@ -85,7 +85,8 @@ fn write_and_run(
 /// is refused as `Config` exactly where the plan's configuration has a fault, as `Parts` exactly where it has none and
 /// several parts, as `Long` where the trace would have more
 /// than 16,777,216 bytes, as `Bumps` where more than 16 bumps of a reader wait at a put, which its ring must have room
-/// for, and as `Memory` for want of memory. `Refused` and `Run` are of no log that is known.
+/// for, as `Run` where the cache has more than 1,000,000 chunks, since no store of a trace has as many, and as `Memory` for
+/// want of memory. Of other caches `Refused` and `Run` are of no log that is known.
 #[tactic(auto, using(crate::proofs::FaultLemmas::store_refused, crate::proofs::FaultLemmas::trace_refused))]
 pub fn trace_of(
     alloc: Global,

@@ -9,7 +9,7 @@ use Rattle.model_state.specs.declared.chunks.Chunk.{Chunk}
 use Rattle.bump_rules.specs.declared.places.Place.TheVariants.{Unused}
 use Rattle.bump_rules.specs.Totals.{total, how_many}
 use Rattle.bump_rules.specs.Entries.{is_move_for, is_told_gone, moves_told}
-use Rattle.bump_rules.specs.Configs.{chunks_of, first_fault, HaveChunks, most_chunks}
+use Rattle.bump_rules.specs.Configs.{chunks_of, first_fault_within, HaveChunks, most_chunks, most_classes, most_workers, wide_most}
 use Rattle.bump_rules.proofs.Bounds.{bounds}
 use Rattle.bump_core.proofs.NewClasses.{classes_long}
 use Rattle.bump_rules.specs.Lists.{opening}
@@ -116,8 +116,8 @@ new_is_worker capacity = record {
 
 module _ (config : Config) (early : config.first_generation < 4294967296) (two : 2 ≤ config.refs_limit)
     (all : HaveChunks config.classes)
-    (few_classes : length config.classes ≤ 16) (few_chunks : chunks_of config.classes ≤ most_chunks)
-    (few_workers : config.workers ≤ 64) where
+    (few_classes : length config.classes ≤ most_classes) (few_chunks : chunks_of config.classes ≤ most_chunks)
+    (few_workers : config.workers ≤ most_workers) where
   -- the new World
   abbrev s : State
   s = new_state config
@@ -215,7 +215,7 @@ module _ (config : Config) (early : config.first_generation < 4294967296) (two :
 
 -- a World made from a configuration without faults does
 pub keeps_valid : (config : Config) → config.first_generation < 4294967296
-    → is_none (first_fault config.workers config.capacity config.refs_limit config.first_generation config.classes)
+    → is_none (first_fault_within wide_most config.workers config.capacity config.refs_limit config.first_generation config.classes)
     ≡ true → WorldKeeps (new_state config)
 keeps_valid config early valid =
     let b = bounds config.workers config.capacity config.refs_limit config.first_generation config.classes valid in

@@ -12,21 +12,21 @@ use crate::worlds::World;
 use bump_rules::{Accounts, AppliedBump, Change, Head, ItemId, ListedChunks, Place};
 
 impl World {
-    /// How many classes there are: 1 to 16. They are numbered from 0.
+    /// How many classes there are: 1 to 16 by `Config::new`. They are numbered from 0.
     pub fn classes(&self) -> u32
         ensures { result ≡ length self.now.classes }
     {
         self.inside.classes.len() as u32
     }
 
-    /// How many chunks all classes have together: 1 to 1,000,000. They are numbered from 0.
+    /// How many chunks all classes have together: 1 to 1,000,000 by `Config::new`. They are numbered from 0.
     pub fn chunks(&self) -> u32
         ensures { result ≡ length self.now.chunks }
     {
         self.inside.chunks.len() as u32
     }
 
-    /// How many workers there are: 1 to 64. They are numbered from 0.
+    /// How many workers there are: 1 to 64 by `Config::new`. They are numbered from 0.
     pub fn workers(&self) -> u32
         ensures { result ≡ length self.now.workers }
     {

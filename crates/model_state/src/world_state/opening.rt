@@ -8,7 +8,7 @@ use crate::chunks::Chunk;
 use crate::classes::Class;
 use crate::workers::Workers;
 use crate::world_state::WorldState;
-use bump_rules::{ClassConfig, ClassLists, Config, Head, MAX_CHUNKS, Segment};
+use bump_rules::{ClassConfig, ClassLists, Config, Head, Segment, WIDE_CHUNKS};
 use std::alloc::{AllocError, Global};
 
 // A class whose chunks, from `first` on, are all UNUSED, and fresh with this generation.
@@ -19,7 +19,7 @@ fn new_class(
     config: ClassConfig,
 ) -> Result<Class, AllocError>
     requires some { 1 ≤ config.chunks }
-    requires few { first + config.chunks ≤ MAX_CHUNKS }
+    requires few { first + config.chunks ≤ WIDE_CHUNKS }
     ensures { IfOk result (λ k. class_view k ≡ new_class fresh first config) }
 {
     Ok(Class {
@@ -36,7 +36,7 @@ fn new_class(
 // All classes: the first has the first chunks, the next the next.
 fn new_classes(alloc: Global, fresh: u32, configs: &[ClassConfig]) -> Result<Vec<Class>, AllocError>
     requires some { HaveChunks configs.now }
-    requires few { chunks_of configs.now ≤ MAX_CHUNKS }
+    requires few { chunks_of configs.now ≤ WIDE_CHUNKS }
     ensures { IfOk result (λ ks. map class_view ks.items ≡ classes_from fresh 0 configs.now) }
 {
     let mut classes = Vec::new(alloc);

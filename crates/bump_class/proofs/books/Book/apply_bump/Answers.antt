@@ -1,4 +1,4 @@
-use Rattle.std.proofs.Common.{◌≡◌, ◌==◌, ◌<◌, ◌+◌, ℕ, refl, sym, ap, ◌∙◌, subst, arith, slice_index, true}
+use Rattle.std.proofs.Common.{◌≡◌, ◌==◌, ◌<◌, ◌+◌, ℕ, refl, sym, ap, ◌∙◌, subst, arith, slice_index, true, length}
 use Rattle.bump_rules.specs.declared.bumps.Applied.TheVariants as applied
 use Rattle.bump_rules.specs.declared.bumps.Outcome.TheVariants.{Moved, TimeOnly, Gone}
 use Rattle.bump_rules.specs.declared.history.Cause.TheVariants as cause
@@ -7,7 +7,6 @@ use Rattle.bump_rules.specs.declared.places.Segment.TheVariants.{Warm, Cold}
 use Rattle.bump_heads.specs.declared.views.ClassView.{ClassView}
 use Rattle.bump_heads.specs.Applying.{IsShown, NamesNoBumpTwice, TellsMoves}
 use Rattle.bump_heads.specs.Linking.{place_of_chunk}
-use Rattle.bump_heads.specs.Seats.{most_workers}
 use Rattle.bump_class.specs.Applications.{AppliesFront}
 use Rattle.bump_class.specs.Books.{BookView}
 use Rattle.bump_class.specs.Changes.{book_after_sweep_or_load}
@@ -42,12 +41,14 @@ invariant_of-self g c =
     let own = subst (λ (z : BookView). owns b.life.chunk z.sheet ≡ true) (sym c.self.view_is) c.requires.own in
     let e = change.Moved b.life Cold Warm (cause.Bump (sheet_or y.seat).worker b.number) in
     let more = c.count_move.new.moved in
-    let one = subst (λ (n : ℕ). (w : ℕ) → w < most_workers
-    → slice_index more w ≡ slice_index i.moved w + bit (n == w)) (sym c.lane.invariant.worker_is)
-    c.count_move.ensures.counted in
-    entered_with i.seat c.update-outcome.new.class i.first i.end i.hot_limit i.warm_limit i.workers i.moved more i.lists
-    c.to_front.new.self e _ _ _ c.self.invariant c.in-Moved.ensures.updates.1.class c.to_front.ensures own refl
-    (counts_bump i.moved more i.seat.sheet.history (sheet_or y.seat).worker b c.self.invariant.4 one)
+    let many : length i.moved.items ≡ i.workers = c.self.invariant.5 in
+    let one = subst (λ (n : ℕ). (w : ℕ) → w < i.workers
+    → slice_index more.items w ≡ slice_index i.moved.items w + bit (n == w)) (sym c.lane.invariant.worker_is)
+    (λ w near. c.count_move.ensures.counted w (omega (arith, near, many, i.moved.ok.0))) in
+    entered_with i.seat c.update-outcome.new.class i.first i.end i.hot_limit i.warm_limit i.workers i.moved.items more.items
+    i.lists c.to_front.new.self e _ _ _ c.self.invariant c.in-Moved.ensures.updates.1.class c.to_front.ensures own refl
+    (counts_bump i.workers i.moved.items more.items i.seat.sheet.history (sheet_or y.seat).worker b c.self.invariant.4 one)
+    (omega (arith, c.count_move.ensures.workers, many, i.moved.ok.0, more.ok.0))
 
 pub count_move-requires : goal.count_move-requires
 count_move-requires g c =
@@ -58,10 +59,9 @@ count_move-requires g c =
     let after = c.update-outcome.new.class in
     let u = c.in-Moved.ensures.updates in
     record {
-      worker = c.lane.invariant.worker_few;
-      few = omega (
+      few = λ near. omega (
         arith,
-        c.self.invariant.4 y.worker c.lane.invariant.worker_few,
+        c.self.invariant.4 y.worker (omega (arith, near, c.self.invariant.5, i.moved.ok.0)),
         ap (λ (w : ℕ). moves_of w i.seat.sheet.history) c.lane.invariant.worker_is,
         few_before i.seat.sheet after.sheet (sheet_or y.seat) (sheet_or x) b c.args.now u.0 c.self.invariant.3.causes
             (ap (λ (v : ClassView). v.sheet) u.1.class) u.1.lane u.1.told,
@@ -75,7 +75,7 @@ invariant_of-self-in-TimeOnly g c =
     let i = c.self.inside in
     let y = c.lane.inside in
     let u = c.in-TimeOnly.ensures.updates in
-    time_only_keeps i.seat c.update-outcome.new.class i.first i.end i.hot_limit i.warm_limit i.workers i.moved i.lists
+    time_only_keeps i.seat c.update-outcome.new.class i.first i.end i.hot_limit i.warm_limit i.workers i.moved.items i.lists
     (sheet_or y.seat).worker c.args.bump c.args.now u.0 c.self.invariant u.1.class
 
 pub seen_unheld-requires-clause-dying : goal.seen_unheld-requires-clause-dying

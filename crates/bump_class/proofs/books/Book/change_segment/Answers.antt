@@ -18,7 +18,7 @@ invariant_of-self g c =
     let own = subst (λ (x : BookView). owns c.args.chunk x.sheet ≡ true) (sym c.self.view_is) c.requires.own in
     let none = c.self.invariant.0 in
     let e = change.Moved (life_in i.seat.sheet c.args.chunk) c.args.from c.args.to cause.Pull in
-    entered i.seat c.change_segment-head.new.self i.first i.end i.hot_limit i.warm_limit i.workers i.moved i.lists c.to_front.new.self e
+    entered i.seat c.change_segment-head.new.self i.first i.end i.hot_limit i.warm_limit i.workers i.moved.items i.lists c.to_front.new.self e
     _ _ _ c.self.invariant
     (◌∙◌ {b = seat_after_move c.args.chunk c.args.from c.args.to c.change_segment-head.result i.seat}
     c.change_segment-head.ensures.moved

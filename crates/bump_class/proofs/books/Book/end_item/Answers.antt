@@ -28,7 +28,7 @@ invariant_of-self g c =
     let i = c.self.inside in
     let own = subst (λ (x : BookView). owns c.args.chunk x.sheet ≡ true) (sym c.self.view_is) c.requires.own in
     ended_kept i.seat c.end_life-last.new.self c.seen_unheld-behind.new.self i.first i.end i.hot_limit i.warm_limit i.workers
-    i.moved i.lists c.to_front.new.self c.args.chunk c.end_life-last.result c.seen_unheld-behind.result c.self.invariant own
+    i.moved.items i.lists c.to_front.new.self c.args.chunk c.end_life-last.result c.seen_unheld-behind.result c.self.invariant own
     c.end_life-last.ensures.ended c.seen_unheld-behind.ensures.seen c.seen_unheld-behind.ensures.generation
     (c.to_front.ensures ∙ ap (λ p. to_front c.args.chunk p i.lists) (c.place_behind.ensures
     ∙ ap (λ e. place_behind e (life c.args.chunk c.seen_unheld-behind.result.generation)) c.ended-ended.ensures))

@@ -25,7 +25,7 @@ invariant_of-self g c =
     let of : (subject (freed_change l)).chunk ≡ c.args.chunk = ap (λ (m : ItemId). m.chunk) (freed_subject l) in
     let same : life c.args.chunk h.generation ≡ l = ap (life c.args.chunk) (c.seen_unheld-head.ensures.generation) in
     let place = c.place.ensures ∙ ap target (c.freed.ensures ∙ ap freed_change same) in
-    entered i.seat c.seen_unheld-head.new.self i.first i.end i.hot_limit i.warm_limit i.workers i.moved i.lists c.to_front.new.self
+    entered i.seat c.seen_unheld-head.new.self i.first i.end i.hot_limit i.warm_limit i.workers i.moved.items i.lists c.to_front.new.self
     (freed_change l) _ _ _ c.self.invariant
     (◌∙◌ {b = record i.seat { sheet = class_after_sweep_or_load c.args.chunk h.refs (word_of h) i.seat.sheet }}
     c.seen_unheld-head.ensures.seen

@@ -3,6 +3,7 @@ use Rattle.std.proofs.lemmas.List.{length-map}
 use Rattle.std.proofs.lemmas.List.Elements.{All-map}
 use Rattle.std.proofs.lemmas.Simd.{map-map}
 use Rattle.std.specs.Arc.{arc_value}
+use Rattle.bump_rules.specs.Configs.{most_workers}
 use Rattle.bump_rules.specs.declared.configs.Config.{Config}
 use Rattle.bump_rules.proofs.Bounds.{bounds}
 use Rattle.bump_class.specs.Lanes.{LaneView}
@@ -66,7 +67,7 @@ pub invariant_of-result : goal.invariant_of-result
 invariant_of-result g c =
     let key = c.args.config.now in
     let b = bounds key.workers key.capacity key.refs_limit key.first_generation key.classes key.valid in
-    let few : length c.in_ok-lanes.lanes.items ≤ 64 = omega (
+    let few : length c.in_ok-lanes.lanes.items ≤ most_workers = omega (
       arith,
       ap length c.in_ok-lanes.ensures,
       length-map {B = LaneState} c.in_ok-heads.field-0.lanes.items

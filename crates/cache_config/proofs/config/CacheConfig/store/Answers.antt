@@ -1,7 +1,7 @@
 use Rattle.std.proofs.Common.{◌≡◌, ◌*◌, true, List, sym, ◌∙◌, subst, arith}
 use Rattle.std.specs.Prelude.{is_none}
 use Rattle.bump_rules.specs.Caches.{cache_refs}
-use Rattle.bump_rules.specs.Configs.{first_fault}
+use Rattle.bump_rules.specs.Configs.{first_fault_within, wide_most}
 use Rattle.bump_rules.specs.declared.configs.ClassConfig.{ClassConfig}
 use Rattle.cache_config.specs.Configs.{class_of}
 use Rattle.cache_config.proofs.Places.{get_pushed, length_pushed}
@@ -30,7 +30,7 @@ invariant_of-result c =
     (λ part low. so_far.class part (omega (arith, low, end))) in
     record {
       valid = subst (λ (ks : List ClassConfig).
-          is_none (first_fault c.workers.result c.args.self.now.ring cache_refs 1 ks) ≡ true) classes
-          (subst (λ n. is_none (first_fault n c.args.self.now.ring cache_refs 1 c.loop-part.classes.items) ≡ true)
+          is_none (first_fault_within wide_most c.workers.result c.args.self.now.ring cache_refs 1 ks) ≡ true) classes
+          (subst (λ n. is_none (first_fault_within wide_most n c.args.self.now.ring cache_refs 1 c.loop-part.classes.items) ≡ true)
           workers valid);
     }
