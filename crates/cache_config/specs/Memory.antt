@@ -39,10 +39,10 @@ abbrev pub sum_of_parts : (ℕ → ℕ) → ℕ → ℕ
 sum_of_parts bytes zero = 0
 sum_of_parts bytes (suc part) = sum_of_parts bytes part + bytes part
 
--- one reader: itself, 40; and for each part its side of it, 136, the ends of a ring, 384, and the ring's room, 8 for
+-- one reader: itself, 40; and for each part its side of it, 168, the ends of a ring, 384, and the ring's room, 8 for
 -- each bump
 abbrev pub reader_bytes : ℕ → ℕ → ℕ
-reader_bytes parts ring = 40 + parts * (136 + 384 + 8 * ring)
+reader_bytes parts ring = 40 + parts * (168 + 384 + 8 * ring)
 
 -- what all threads share: the heads, 104; and the further part of their table, which has no bytes: for it one is asked
 abbrev pub shared_bytes : ℕ

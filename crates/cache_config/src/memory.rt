@@ -34,7 +34,7 @@ const WAY_BYTES: u64 = 8;
 const READER_BYTES: u64 = 40;
 
 // A `WordReader`.
-const SIDE_BYTES: u64 = 136;
+const SIDE_BYTES: u64 = 168;
 
 // What the ends of a ring share.
 const RING_BYTES: u64 = 384;
