@@ -31,7 +31,7 @@ pub few_chunks_all : (config : CacheConfig) → first_cache_fault config ≡ Non
     → all_chunks config ≤ most_chunks
 few_chunks_all config none = (sound config none).chunks_most
 
--- a configuration without faults has no more readers than a store has workers
+-- a configuration without faults has no more readers than a cache may have
 pub few_readers : (config : CacheConfig) → first_cache_fault config ≡ None → config.readers ≤ 64
 few_readers config none = (sound config none).readers_most
 
