@@ -27,9 +27,9 @@ def mix(a, b):
 
 
 def part_of(number, parts):
-    """The part of a key's number, by 8 bits of its hash."""
+    """The part of a key's number, by the lower half of its full hash."""
     state = mix(FIRST ^ START ^ number, SECOND ^ MULTIPLIER)
-    return (mix(state, 1 ^ COUNT) >> 40) % 256 * parts // 256
+    return mix(state, 1 ^ COUNT) % 2**32 * parts // 2**32
 
 
 class Item:

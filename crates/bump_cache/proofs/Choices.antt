@@ -7,7 +7,7 @@ use Rattle.std.proofs.lemmas.List.{with_items_is}
 use Rattle.std.proofs.Math.Seq.{map-set_same}
 use Rattle.std.proofs.lemmas.Option.{get_or_from_slice_get}
 use Rattle.keyed_hash.specs.declared.seed.Seed.{Seed}
-use Rattle.keyed_hash.specs.Hashes.{hash_of}
+use Rattle.keyed_hash.specs.Hashes.{full_hash_of, hash_of, upper_half}
 use Rattle.bump_ring.specs.Ends.{Ring}
 use Rattle.cache_readers.specs.Readers.{KeepsRing, ReaderView}
 use Rattle.cache_config.specs.Choosing.{part_of}
@@ -16,19 +16,25 @@ use Rattle.bump_cache.specs.Readers.{CacheReaderView, InPart, KeepsRings, Misses
 -- The reader at this place is that of the key's part, and another one stands in its place now.
 pub record IsChosen (seed : Seed) (key : List ℕ) (befores afters : List ReaderView) (from to : ReaderView) : Type 0
   where
-    pub was : slice_get befores (part_of (length befores) (hash_of seed key)) ≡ Some from
-    pub is : afters ≡ set befores (part_of (length befores) (hash_of seed key)) to
+    pub was : slice_get befores (part_of (length befores) (full_hash_of seed key)) ≡ Some from
+    pub is : afters ≡ set befores (part_of (length befores) (full_hash_of seed key)) to
 
--- so it is, where the part of the hash of the key's words was lent
-pub chosen_in : (seed : Seed) (key words : List ℕ) (befores : List ReaderView) (from to : ReaderView) (hash : ℕ)
-    → words ≡ key → hash ≡ hash_of seed words → slice_get befores (part_of (length befores) hash) ≡ Some from
-    → IsChosen seed key befores (set befores (part_of (length befores) hash) to) from to
-chosen_in seed key words befores from to hash packed hashed read =
-    let same : hash ≡ hash_of seed key = hashed ∙ ap (hash_of seed) packed in
+-- so it is, where the part of the full hash of the key's words was lent
+pub chosen_in : (seed : Seed) (key words : List ℕ) (befores : List ReaderView) (from to : ReaderView) (full : ℕ)
+    → words ≡ key → full ≡ full_hash_of seed words → slice_get befores (part_of (length befores) full) ≡ Some from
+    → IsChosen seed key befores (set befores (part_of (length befores) full) to) from to
+chosen_in seed key words befores from to full packed hashed read =
+    let same : full ≡ full_hash_of seed key = hashed ∙ ap (full_hash_of seed) packed in
     record {
       was = ap (λ h. slice_get befores (part_of (length befores) h)) (sym same) ∙ read;
       is = ap (λ h. set befores (part_of (length befores) h) to) same;
     }
+
+-- and the upper half of that hash is the key's hash
+pub is_hash : (seed : Seed) (key words : List ℕ) (full hash : ℕ) → words ≡ key → full ≡ full_hash_of seed words
+    → hash ≡ upper_half full → hash ≡ hash_of seed key
+is_hash seed key words full hash packed hashed upper =
+    upper ∙ ap upper_half (hashed ∙ ap (full_hash_of seed) packed)
 
 module _ (seed : Seed) (key : List ℕ) (befores afters : List ReaderView) (from to : ReaderView)
     (choice : IsChosen seed key befores afters from to) where
@@ -67,7 +73,7 @@ module _ (seed : Seed) (key : List ℕ) (befores afters : List ReaderView) (from
       ring reader = reader.worker.sender.ring
 
       place : ℕ
-      place = part_of (length befores) (hash_of seed key)
+      place = part_of (length befores) (full_hash_of seed key)
 
 -- what was done in a part of views is done in that of ones that are the same
 pub in_same : (Does : ReaderView → ReaderView → Type 0) (key : List ℕ) (before from to after : CacheReaderView)

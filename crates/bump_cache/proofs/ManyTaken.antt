@@ -6,7 +6,7 @@ use Rattle.std.proofs.lemmas.Option.{slice_get_within}
 use Rattle.std.specs.List.{slice_get}
 use native.Mathlib.Decide.{ℕ_discrete}
 use Rattle.bump_steps.specs.Rule.{RowPredicate}
-use Rattle.keyed_hash.specs.Hashes.{hash_of}
+use Rattle.keyed_hash.specs.Hashes.{full_hash_of}
 use Rattle.cache_config.proofs.Places.{get_set_other, get_set_same}
 use Rattle.cache_config.specs.Choosing.{part_of}
 use Rattle.cache_readers.specs.Readers.{ReaderView}
@@ -154,8 +154,8 @@ module _ {K V : Type 0} (law : RowPredicate) (key_words : K → List ℕ) (value
       → TookIn key value between after → TookIn key value before after
   later_took key value before between after more took =
       let place : part_for key between ≡ part_for key before =
-      ap (λ (n : ℕ). part_of n (hash_of between.seed key)) more.count
-      ∙ ap (λ s. part_of (length before.parts) (hash_of s key)) more.seed in
+      ap (λ (n : ℕ). part_of n (full_hash_of between.seed key)) more.count
+      ∙ ap (λ s. part_of (length before.parts) (full_hash_of s key)) more.seed in
       let first = more.earlier (part_for key between) took.from took.was in
       record {
         from = first.0;

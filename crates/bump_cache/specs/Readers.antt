@@ -7,7 +7,7 @@ use Rattle.cache_readers.specs.Looks.{Finds, HasWords, Hits, Peeks, Sees}
 use Rattle.cache_readers.specs.declared.misses.Miss.{Miss}
 use Rattle.cache_readers.specs.Readers.{Misses, ReadsMissed, ReaderView}
 use Rattle.keyed_hash.specs.declared.seed.Seed.{Seed}
-use Rattle.keyed_hash.specs.Hashes.{hash_of}
+use Rattle.keyed_hash.specs.Hashes.{full_hash_of, hash_of}
 use Rattle.cache_config.specs.Choosing.{part_of}
 
 -- the seed of the keys' hashes, and a reader of each part, by number
@@ -21,7 +21,7 @@ readers_by seed parts = record { seed = seed; parts = parts }
 
 -- the part that a key is of
 abbrev pub part_for : List ℕ → CacheReaderView → ℕ
-part_for key reader = part_of (length reader.parts) (hash_of reader.seed key)
+part_for key reader = part_of (length reader.parts) (full_hash_of reader.seed key)
 
 -- The reader of the key's part does this, and those of the other parts stay as they are.
 pub record InPart (Does : ReaderView → ReaderView → Type 0) (key : List ℕ) (before after : CacheReaderView) : Type 0

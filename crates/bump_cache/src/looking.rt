@@ -12,7 +12,7 @@ use crate::law::{MOST_WORDS, PairLaw};
 use bump_heads::Name;
 use cache_config::part_in;
 use cache_readers::{Glanced, ItemId, WordReader};
-use keyed_hash::Seed;
+use keyed_hash::{Seed, upper_half};
 use packed_words::Packed;
 
 // Gets a value by a reader of words, with the words of the key, and room for those of the value.
@@ -180,8 +180,15 @@ pub(crate) fn get_in<N: Name, K: Packed, V: Packed>(
     ensures ring { KeepsRings (readers_by seed parts.old) (readers_by seed parts.new) }
 {
     key.pack(words);
-    let hash = seed.hash(words);
-    get_by(part_in(parts, hash), hash, key, words, value, now)
+    let full = seed.full_hash(words);
+    get_by(
+        part_in(parts, full),
+        upper_half(full),
+        key,
+        words,
+        value,
+        now,
+    )
 }
 
 // Gets an item by the reader of the key's part and holds it, in the same way.
@@ -207,8 +214,8 @@ pub(crate) fn hold_in<N: Name, K: Packed, V: Packed>(
     ensures ring { KeepsRings (readers_by seed parts.old) (readers_by seed parts.new) }
 {
     key.pack(words);
-    let hash = seed.hash(words);
-    hold_by(part_in(parts, hash), hash, key, words, now)
+    let full = seed.full_hash(words);
+    hold_by(part_in(parts, full), upper_half(full), key, words, now)
 }
 
 // Peeks at a value by the reader of the key's part, in the same way.
@@ -237,8 +244,15 @@ pub(crate) fn peek_in<N: Name, K: Packed, V: Packed>(
     ensures ring { KeepsRings (readers_by seed parts.old) (readers_by seed parts.new) }
 {
     key.pack(words);
-    let hash = seed.hash(words);
-    peek_by(part_in(parts, hash), hash, key, words, value, now)
+    let full = seed.full_hash(words);
+    peek_by(
+        part_in(parts, full),
+        upper_half(full),
+        key,
+        words,
+        value,
+        now,
+    )
 }
 
 // Sees whether there is an item with the key, by the reader of its part, in the same way.
@@ -264,6 +278,6 @@ pub(crate) fn see_in<N: Name, K: Packed, V: Packed>(
     ensures ring { KeepsRings (readers_by seed parts.old) (readers_by seed parts.new) }
 {
     key.pack(words);
-    let hash = seed.hash(words);
-    see_by(part_in(parts, hash), hash, key, words, now)
+    let full = seed.full_hash(words);
+    see_by(part_in(parts, full), upper_half(full), key, words, now)
 }

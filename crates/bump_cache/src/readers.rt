@@ -14,7 +14,7 @@ use bump_heads::Name;
 use bump_rules::Accounts;
 use cache_config::{bumps_in, hits_in, misses_in, part_of_hash};
 use cache_readers::{Miss, WordReader};
-use keyed_hash::Seed;
+use keyed_hash::{Seed, upper_half};
 use packed_words::Packed;
 use std::marker::{Model, PhantomData};
 
@@ -113,8 +113,8 @@ impl<N: Name, K: Packed, V: Packed> CacheReader<N, K, V> {
         let mut key_row = [0; MOST_WORDS];
         let words = &mut key_row[..K::words()];
         key.pack(words);
-        let hash = seed.hash(words);
-        self.parts[part_of_hash(self.parts.len(), hash)].look_ahead(hash);
+        let full = seed.full_hash(words);
+        self.parts[part_of_hash(self.parts.len(), full)].look_ahead(upper_half(full));
     }
 
     /// What was put under the key, as `get` finds it, but the item is handed out, held, in place of its value; or None
@@ -191,8 +191,8 @@ impl<N: Name, K: Packed, V: Packed> CacheReader<N, K, V> {
         let mut key_row = [0; MOST_WORDS];
         let words = &mut key_row[..K::words()];
         key.pack(words);
-        let hash = seed.hash(words);
-        self.parts[part_of_hash(self.parts.len(), hash)].last_miss()
+        let full = seed.full_hash(words);
+        self.parts[part_of_hash(self.parts.len(), full)].last_miss()
     }
 
     /// How many gets found something (memcached's `get_hits`), in all parts together, at most 2^64 - 1.

@@ -1,7 +1,7 @@
 -- What a cache of byte strings is made from, and which configurations are refused.
 use Rattle.std.specs.Prelude.{ℕ, suc, if◌then◌else◌, nat_lt, List, length, Option, None, Some, option_map}
 use Rattle.packed_words.specs.Spelling.{long_string, words_for}
-use Rattle.keyed_hash.specs.Hashes.{hash_of}
+use Rattle.keyed_hash.specs.Hashes.{full_hash_of}
 use Rattle.cache_config.specs.Choosing.{part_of}
 use Rattle.cache_config.specs.Configs.{first_cache_fault, new_config}
 use Rattle.cache_config.specs.Memory.{bytes_of}
@@ -45,7 +45,7 @@ abbrev pub part_without : Option ByteFault → ByteConfig → List ℕ → Optio
 part_without (Some fault) config key = None
 part_without None config key =
     if nat_lt config.key_bytes (length key) then None
-    else Some (part_of config.cache.parts (hash_of config.cache.seed (long_string (key_words_of config) key)))
+    else Some (part_of config.cache.parts (full_hash_of config.cache.seed (long_string (key_words_of config) key)))
 
 -- the part that a key is of, if one is made from this and the key isn't too long
 abbrev pub part_of_key : ByteConfig → List ℕ → Option ℕ

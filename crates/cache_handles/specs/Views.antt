@@ -4,7 +4,7 @@ use Rattle.bump_steps.specs.declared.views.HoldSheet.{HoldSheet}
 use Rattle.bump_steps.specs.Rule.{RowPredicate}
 use Rattle.packed_words.specs.Spelling.{long_string}
 use Rattle.keyed_hash.specs.declared.seed.Seed.{Seed}
-use Rattle.keyed_hash.specs.Hashes.{hash_of}
+use Rattle.keyed_hash.specs.Hashes.{full_hash_of}
 use Rattle.cache_config.specs.Choosing.{part_of}
 use Rattle.cache_shelf.specs.Shelves.{ShelfView}
 use Rattle.bump_cache.specs.Readers.{CacheReaderView}
@@ -45,7 +45,7 @@ pub record OpenedCacheView : Type 0 where
 abbrev pub key_fault : ℕ → Seed → PartPlace → ℕ → List ℕ → Option KeyFault
 key_fault most seed place width key =
     if nat_lt most (length key) then Some TooLong
-    else (if part_of place.parts (hash_of seed (long_string width key)) == place.number then None else Some OtherPart)
+    else (if part_of place.parts (full_hash_of seed (long_string width key)) == place.number then None else Some OtherPart)
 
 -- the words of a key of a part
 abbrev pub key_row : BytePartView → List ℕ → List ℕ

@@ -121,7 +121,7 @@ impl ByteConfig {
         let mut row = [0; MOST_KEY_WORDS];
         let words = &mut row[..self.key_words() as usize];
         spell(key, words);
-        let hash = self.cache.seed.hash(words);
-        Some(part_of_hash(self.cache.parts as usize, hash) as u32)
+        let full = self.cache.seed.full_hash(words);
+        Some(part_of_hash(self.cache.parts as usize, full) as u32)
     }
 }

@@ -46,7 +46,7 @@ pub(crate) fn spell_key(
         return Some(KeyFault::TooLong);
     }
     spell(key, words);
-    if part_of_hash(place.parts as usize, seed.hash(words)) != place.number as usize {
+    if part_of_hash(place.parts as usize, seed.full_hash(words)) != place.number as usize {
         return Some(KeyFault::OtherPart);
     }
     None

@@ -16,7 +16,7 @@ use bump_heads::Name;
 use bump_steps::AnyRow;
 use cache_config::{PartReaders, bumps_in, hits_in, misses_in, part_in};
 use cache_readers::{Hold, WordReader};
-use keyed_hash::Seed;
+use keyed_hash::{Seed, upper_half};
 use packed_words::spell;
 use std::alloc::{AllocError, Global};
 use std::marker::Model;
@@ -115,8 +115,14 @@ fn get_in<N: Name>(
         (long_string (length words.old) key.now) (readers_by seed parts.old) (readers_by seed parts.new) }
 {
     spell(key, words);
-    let hash = seed.hash(words);
-    get_by(part_in(parts, hash), hash, words, value_words, now)
+    let full = seed.full_hash(words);
+    get_by(
+        part_in(parts, full),
+        upper_half(full),
+        words,
+        value_words,
+        now,
+    )
 }
 
 // Takes a hold by the reader of the key's part, in the same way.
@@ -137,8 +143,8 @@ fn hold_in<N: Name>(
         (long_string (length words.old) key.now) (readers_by seed parts.old) (readers_by seed parts.new)) }
 {
     spell(key, words);
-    let hash = seed.hash(words);
-    hold_by(part_in(parts, hash), hash, words, now)
+    let full = seed.full_hash(words);
+    hold_by(part_in(parts, full), upper_half(full), words, now)
 }
 
 impl<N: Name> ByteReader<N> {

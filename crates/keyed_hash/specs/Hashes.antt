@@ -14,10 +14,18 @@ start seed = bit_xor seed.first 0xa076_1d64_78bd_642f
 abbrev pub with_word : Seed → ℕ → ℕ → ℕ
 with_word seed state word = mix (bit_xor state word) (bit_xor seed.second 0xe703_7ed1_a0b4_28db)
 
--- the number of words is mixed in last, and the upper half is kept
+-- the number of words is mixed in last
 abbrev pub finish : ℕ → ℕ → ℕ
-finish state count = mix state (bit_xor count 0x8ebc_6af0_9c88_c6e3) / 2 ^ 32
+finish state count = mix state (bit_xor count 0x8ebc_6af0_9c88_c6e3)
 
--- the hash of the words, from the first to the last: a number below 2^32
+-- the full hash of the words, from the first to the last: a number below 2^64
+abbrev pub full_hash_of : Seed → List ℕ → ℕ
+full_hash_of seed words = finish (fold (with_word seed) (start seed) words) (length words)
+
+-- the upper half of a full hash
+abbrev pub upper_half : ℕ → ℕ
+upper_half full = full / 2 ^ 32
+
+-- the hash of the words, a number below 2^32: the upper half of their full hash
 abbrev pub hash_of : Seed → List ℕ → ℕ
-hash_of seed words = finish (fold (with_word seed) (start seed) words) (length words)
+hash_of seed words = upper_half (full_hash_of seed words)

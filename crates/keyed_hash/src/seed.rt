@@ -1,5 +1,6 @@
 //! The seed of a hash.
 ghost use Rattle.std.specs.Prelude.{◌≡◌, [], ◌∷◌};
+ghost use Rattle.keyed_hash.specs.Hashes.{upper_half as half_of};
 
 use crate::mix::mix;
 use std::io;
@@ -24,7 +25,7 @@ pub struct Seed {
 }
 
 impl Seed {
-    ghost use Rattle.keyed_hash.specs.Hashes.{hash_of};
+    ghost use Rattle.keyed_hash.specs.Hashes.{full_hash_of, hash_of};
 
     /// A seed of random numbers, from the system. It is an error exactly where the system has none for now. What the
     /// numbers are no contract can say.
@@ -38,17 +39,25 @@ impl Seed {
         })
     }
 
-    /// The hash of words, of which there may be any number, also none. The same words under the same seed always have
-    /// the same hash. It is the upper half of the last word that was mixed.
+    /// The full hash of words, of which there may be any number, also none: the last word that was mixed. The same words
+    /// under the same seed always have the same hash.
     #[inline(always)]
-    pub fn hash(&self, words: &[u64]) -> u32
-        ensures { result ≡ hash_of self.now words.now }
+    pub fn full_hash(&self, words: &[u64]) -> u64
+        ensures { result ≡ full_hash_of self.now words.now }
     {
         let mut state = self.first ^ START;
         for word in words {
             state = mix(state ^ *word, self.second ^ MULTIPLIER);
         }
-        (mix(state, words.len() as u64 ^ COUNT) >> 32) as u32
+        mix(state, words.len() as u64 ^ COUNT)
+    }
+
+    /// The hash of words: the [`upper_half`] of what [`full_hash`](Seed::full_hash) gives for them.
+    #[inline(always)]
+    pub fn hash(&self, words: &[u64]) -> u32
+        ensures { result ≡ hash_of self.now words.now }
+    {
+        upper_half(self.full_hash(words))
     }
 
     /// The hash of one word: what [`hash`](Seed::hash) gives for it alone.
@@ -57,6 +66,15 @@ impl Seed {
         ensures { result ≡ hash_of self.now (word ∷ []) }
     {
         let state = mix(self.first ^ START ^ word, self.second ^ MULTIPLIER);
-        (mix(state, 1 ^ COUNT) >> 32) as u32
+        upper_half(mix(state, 1 ^ COUNT))
     }
+}
+
+/// The upper half of a full hash, which [`Seed::hash`] gives by itself: 32 bits of which none tells anything of the
+/// lower half.
+#[inline(always)]
+pub fn upper_half(full: u64) -> u32
+    ensures { result ≡ half_of full }
+{
+    (full >> 32) as u32
 }

@@ -1,8 +1,9 @@
 ghost use Rattle.std.specs.Prelude.{◌<◌};
 
-use crate::Seed;
+use crate::{Seed, upper_half};
 use std::alloc::{AllocError, Global};
 use std::io;
+use std::process::Abort;
 use std::random::RandomSource;
 use std::test::Fail;
 
@@ -25,6 +26,12 @@ impl RandomSource for Counting {
     }
 }
 
+// The hashes of words under a seed are these: the full one, and its upper half.
+fn expect_hash(rt: &impl Abort, seed: Seed, words: &[u64], full: u64) {
+    let told = (seed.full_hash(words), seed.hash(words));
+    assert_eq!(rt; told, (full, (full >> 32) as u32));
+}
+
 #[test]
 fn known_hashes(rt: HostRuntime) {
     let zeros = Seed {
@@ -39,15 +46,21 @@ fn known_hashes(rt: HostRuntime) {
         first: u64::MAX,
         second: u64::MAX,
     };
-    assert_eq!(rt; zeros.hash(&[]), 0xe28f_2b20);
-    assert_eq!(rt; zeros.hash_one(0), 0x855a_2263);
-    assert_eq!(rt; zeros.hash_one(1), 0x8a5a_61c0);
-    assert_eq!(rt; small.hash(&[3]), 0x0a7f_7f6c);
-    assert_eq!(rt; small.hash_one(3), 0x0a7f_7f6c);
-    assert_eq!(rt; small.hash(&[3, 4]), 0xb948_cbdd);
-    assert_eq!(rt; small.hash(&[4, 3]), 0xe6c0_fc24);
-    assert_eq!(rt; small.hash(&[3, 0]), 0x78a3_e872);
-    assert_eq!(rt; ones.hash(&[u64::MAX; 3]), 0xce64_3d6c);
+    expect_hash(&rt, zeros, &[], 0xe28f_2b20_61a2_b984);
+    expect_hash(&rt, zeros, &[0], 0x855a_2263_66af_32cf);
+    expect_hash(&rt, zeros, &[1], 0x8a5a_61c0_6e14_2adb);
+    expect_hash(&rt, small, &[3], 0x0a7f_7f6c_e597_7097);
+    expect_hash(&rt, small, &[3, 4], 0xb948_cbdd_bf92_3755);
+    expect_hash(&rt, small, &[4, 3], 0xe6c0_fc24_cc64_3b07);
+    expect_hash(&rt, small, &[3, 0], 0x78a3_e872_60b3_4274);
+    expect_hash(&rt, ones, &[u64::MAX; 3], 0xce64_3d6c_7651_f54a);
+}
+
+#[test]
+fn one_word_has_the_hash_of_a_row_of_it(rt: HostRuntime) {
+    for word in [0, 1, 3, u64::MAX] {
+        assert_eq!(rt; SEED.hash_one(word), SEED.hash(&[word]));
+    }
 }
 
 #[test]
@@ -61,12 +74,17 @@ fn random_seeds(rt: HostRuntime) -> Result<(), Fail> {
     Ok(())
 }
 
-// The bucket that the highest bits name, and the one that the lowest bits name.
+// The bucket that the highest bits of a hash name, and the one that the lowest bits name.
 fn buckets(hash: u32) -> (usize, usize)
     ensures high { result.0 < BUCKETS }
     ensures low { result.1 < BUCKETS }
 {
     ((hash >> 20) as usize, (hash % 4096) as usize)
+}
+
+// The lower half of a full hash.
+fn lower_half(full: u64) -> u32 {
+    (full % (1 << 32)) as u32
 }
 
 // The fullest bucket, and the emptiest one.
@@ -80,34 +98,61 @@ fn extremes(counts: &[u64]) -> (u64, u64) {
     (most, fewest)
 }
 
+// How the halves of the full hashes of a million words in a row fall into buckets.
 #[test]
 fn words_in_a_row_spread(rt: HostRuntime) {
-    let mut high = [0u64; BUCKETS];
-    let mut low = [0u64; BUCKETS];
-    for word in 0..1_000_000u64 {
-        let (above, below) = buckets(SEED.hash_one(word));
-        high[above] = high[above].wrapping_add(1);
-        low[below] = low[below].wrapping_add(1);
+    for upper in [true, false] {
+        let mut high = [0u64; BUCKETS];
+        let mut low = [0u64; BUCKETS];
+        for word in 0..1_000_000u64 {
+            let full = SEED.full_hash(&[word]);
+            let half = if upper {
+                upper_half(full)
+            } else {
+                lower_half(full)
+            };
+            let (above, below) = buckets(half);
+            high[above] = high[above].wrapping_add(1);
+            low[below] = low[below].wrapping_add(1);
+        }
+
+        // 244 a bucket in the mean; the bounds are ten standard deviations away.
+        let (most, fewest) = extremes(&high);
+        assert!(rt; most < 400, "{most} in the fullest of the high buckets");
+        assert!(rt; fewest > 90, "{fewest} in the emptiest of the high buckets");
+        let (most, fewest) = extremes(&low);
+        assert!(rt; most < 400, "{most} in the fullest of the low buckets");
+        assert!(rt; fewest > 90, "{fewest} in the emptiest of the low buckets");
+    }
+}
+
+// Words whose full hashes have one lower half have upper halves of all kinds: a part's keys have homes everywhere.
+#[test]
+fn no_half_tells_of_the_other(rt: HostRuntime) {
+    let mut counts = [0u64; 256];
+    for word in 0..4_000_000u64 {
+        let full = SEED.full_hash(&[word]);
+        if lower_half(full) >> 24 == 7 {
+            let at = (upper_half(full) >> 24) as usize;
+            counts[at] = counts[at].wrapping_add(1);
+        }
     }
 
-    // 244 a bucket in the mean; the bounds are ten standard deviations away.
-    let (most, fewest) = extremes(&high);
-    assert!(rt; most < 400, "{most} in the fullest of the high buckets");
-    assert!(rt; fewest > 90, "{fewest} in the emptiest of the high buckets");
-    let (most, fewest) = extremes(&low);
-    assert!(rt; most < 400, "{most} in the fullest of the low buckets");
-    assert!(rt; fewest > 90, "{fewest} in the emptiest of the low buckets");
+    // 61 in the mean; the bounds are seven standard deviations away.
+    let (most, fewest) = extremes(&counts);
+    assert!(rt; most < 117, "{most} in the fullest home");
+    assert!(rt; fewest > 6, "{fewest} in the emptiest home");
 }
 
 #[test]
 fn each_bit_tells_on_each(rt: HostRuntime) {
     for bit in 0..64u32 {
-        let mut flips = [0u64; 32];
+        let mut flips = [0u64; 64];
         for word in 0..1000u64 {
             let word = word.wrapping_mul(0x9e37_79b9_7f4a_7c15);
-            let changed = SEED.hash_one(word) ^ SEED.hash_one(word ^ (1 << bit));
+            let changed = SEED.full_hash(&[word]) ^ SEED.full_hash(&[word ^ (1 << bit)]);
             for (at, count) in flips.iter_mut().enumerate() {
-                *count = count.wrapping_add(u64::from(changed >> (at % 32) & 1));
+                *count = count.wrapping_add(changed >> (at % 64) & 1);
             }
         }
         let (most, fewest) = extremes(&flips);

@@ -1,16 +1,15 @@
 use Rattle.std.proofs.Common.{IfNone, ap, ◌∙◌, subst}
 use Rattle.cache_readers.specs.Readers.{CountsHit}
 use Rattle.bump_cache.specs.Pairs.{IsPair}
-use Rattle.keyed_hash.specs.Hashes.{hash_of}
 use Rattle.bump_cache.specs.Readers.{HitsItem, MissesBy, MissesItem}
-use Rattle.bump_cache.proofs.Choices.{chosen_in, in_part_none, in_part_some, keeps_rings}
+use Rattle.bump_cache.proofs.Choices.{chosen_in, in_part_none, in_part_some, is_hash, keeps_rings}
 use Rattle.bump_cache.proofs.looking.hold_in.Goals as goal
 
 pub returns-clause-found : goal.returns-clause-found
 returns-clause-found g c =
     in_part_some c.args.seed (g.K.Packed.as_words c.args.key.now) c.args.parts.now _ _ _
     (chosen_in c.args.seed (g.K.Packed.as_words c.args.key.now) c.pack.new.to c.args.parts.now _ c.hold_by.new.reader
-    c.hash-hash.result c.pack.ensures.packed c.hash-hash.ensures c.part_in.ensures.part)
+    c.full_hash-full.result c.pack.ensures.packed c.full_hash-full.ensures c.part_in.ensures.part)
     c.hold_by.result (λ hold. HitsItem (IsPair g.K.Packed.fits g.K.Packed.as_words g.V.Packed.fits g.V.Packed.as_words)
     (g.K.Packed.as_words c.args.key.now) c.args.now hold) c.hold_by.ensures.found
 
@@ -18,22 +17,23 @@ pub returns-clause-counted : goal.returns-clause-counted
 returns-clause-counted g c =
     in_part_some c.args.seed (g.K.Packed.as_words c.args.key.now) c.args.parts.now _ _ _
     (chosen_in c.args.seed (g.K.Packed.as_words c.args.key.now) c.pack.new.to c.args.parts.now _ c.hold_by.new.reader
-    c.hash-hash.result c.pack.ensures.packed c.hash-hash.ensures c.part_in.ensures.part)
+    c.full_hash-full.result c.pack.ensures.packed c.full_hash-full.ensures c.part_in.ensures.part)
     c.hold_by.result (λ hold. CountsHit) c.hold_by.ensures.counted
 
 pub returns-clause-missed : goal.returns-clause-missed
 returns-clause-missed g c =
     in_part_none c.args.seed (g.K.Packed.as_words c.args.key.now) c.args.parts.now _ _ _
     (chosen_in c.args.seed (g.K.Packed.as_words c.args.key.now) c.pack.new.to c.args.parts.now _ c.hold_by.new.reader
-    c.hash-hash.result c.pack.ensures.packed c.hash-hash.ensures c.part_in.ensures.part)
+    c.full_hash-full.result c.pack.ensures.packed c.full_hash-full.ensures c.part_in.ensures.part)
     c.hold_by.result (MissesItem c.args.seed (g.K.Packed.as_words c.args.key.now) c.args.now)
     (subst (λ hash. IfNone c.hold_by.result (MissesBy hash (g.K.Packed.as_words c.args.key.now) c.args.now
-    c.part_in.result.now c.hold_by.new.reader)) (c.hash-hash.ensures ∙ ap (hash_of c.args.seed) c.pack.ensures.packed)
+    c.part_in.result.now c.hold_by.new.reader)) (is_hash c.args.seed (g.K.Packed.as_words c.args.key.now) c.pack.new.to c.full_hash-full.result c.upper_half.result
+    c.pack.ensures.packed c.full_hash-full.ensures c.upper_half.ensures)
     c.hold_by.ensures.missed)
 
 pub returns-clause-ring : goal.returns-clause-ring
 returns-clause-ring g c =
     keeps_rings c.args.seed (g.K.Packed.as_words c.args.key.now) c.args.parts.now _ _ _
     (chosen_in c.args.seed (g.K.Packed.as_words c.args.key.now) c.pack.new.to c.args.parts.now _ c.hold_by.new.reader
-    c.hash-hash.result c.pack.ensures.packed c.hash-hash.ensures c.part_in.ensures.part)
+    c.full_hash-full.result c.pack.ensures.packed c.full_hash-full.ensures c.part_in.ensures.part)
     c.hold_by.ensures.ring
