@@ -12,6 +12,7 @@ use cache_part::{Bounds, Part, PutItem};
 use cache_readers::WordReader;
 use keyed_hash::Seed;
 use std::alloc::Global;
+use std::fmt::Debug;
 use std::marker::Brand;
 use std::process::Abort;
 use std::test::Fail;
@@ -45,8 +46,7 @@ const SEED: Seed = Seed {
 fn first_book<N: Name>(books: Vec<Book<N>>) -> Option<Book<N>>
     ensures { IfSome result (λ book. slice_get books.items 0 ≡ Some book) }
 {
-    let mut left = books.into_iter();
-    left.next()
+    books.into_iter().next()
 }
 
 // The second of some Books.
@@ -58,24 +58,43 @@ fn second_book<N: Name>(books: Vec<Book<N>>) -> Option<Book<N>>
     left.next()
 }
 
+// What a get finds.
+fn got<N: Name>(reader: &mut WordReader<N, AnyRow>, key: [u64; 2], now: u64) -> Option<u64>
+    requires { N.table.slots ≡ 3 }
+{
+    let mut value = [0];
+    let found = reader.get(SEED.hash(&key), &key, &mut value, now);
+    if found { Some(value[0]) } else { None }
+}
+
+// What a peek finds.
+fn peeked<N: Name>(reader: &mut WordReader<N, AnyRow>, key: [u64; 2], now: u64) -> Option<u64>
+    requires { N.table.slots ≡ 3 }
+{
+    let mut value = [0];
+    let found = reader.peek(SEED.hash(&key), &key, &mut value, now);
+    if found { Some(value[0]) } else { None }
+}
+
+// Whether there is something.
+fn is_there<N: Name>(reader: &mut WordReader<N, AnyRow>, key: [u64; 2], now: u64) -> bool
+    requires { N.table.slots ≡ 3 }
+{
+    reader.contains(SEED.hash(&key), &key, now)
+}
+
 // The value of a key at this time, as the reader finds it: a get, a peek, and whether there is one. Where they differ,
 // 0.
 fn value_at<N: Name>(reader: &mut WordReader<N, AnyRow>, key: [u64; 2], now: u64) -> Option<u64>
     requires { N.table.slots ≡ 3 }
 {
-    let hash = SEED.hash(&key);
-    let mut value = [0];
-    let mut seen = [0];
-    let found = reader.get(hash, &key, &mut value, now);
-    if reader.peek(hash, &key, &mut seen, now) != found
-        || reader.contains(hash, &key, now) != found
-    {
-        return Some(0);
+    let found = got(reader, key, now);
+    let same = peeked(reader, key, now) == found;
+    if same && is_there(reader, key, now) == found.is_some() {
+        found
+    } else {
+        Some(0)
     }
-    if seen[0] != value[0] {
-        return Some(0);
-    }
-    if found { Some(value[0]) } else { None }
 }
 
 // The same at time 20.
@@ -127,6 +146,123 @@ fn put<N: Name>(
     }
 }
 
+// What was told is what was wanted. Each comparison is proved here, once, and not where it is made: so a failure names
+// this file, and says what was compared.
+fn expect<T: PartialEq + Debug>(rt: &impl Abort, what: &str, told: &T, wanted: &T) {
+    assert_eq!(rt; told, wanted, "{what}");
+}
+
+// The reader finds this value of a key.
+fn expect_value<N: Name>(
+    rt: &impl Abort,
+    reader: &mut WordReader<N, AnyRow>,
+    key: [u64; 2],
+    wanted: Option<u64>,
+)
+    requires { N.table.slots ≡ 3 }
+{
+    let told = value(reader, key);
+    expect(rt, "the value", &told, &wanted);
+}
+
+// The part finds the item of a key in this chunk.
+fn expect_chunk<N: Name>(
+    rt: &impl Abort,
+    part: &mut Part<N, AnyRow>,
+    key: [u64; 2],
+    wanted: Option<u32>,
+)
+    requires key { part.old.key_words ≡ 2 }
+    requires value { part.old.value_words ≡ 1 }
+    ensures key { part.new.key_words ≡ 2 }
+    ensures value { part.new.value_words ≡ 1 }
+{
+    let told = part.find(&key);
+    expect(rt, "the chunk", &told, &wanted);
+}
+
+// A key is put, and put anew, and then another one: so many items as may be. It tells the chunk of the first one.
+fn put_two<N: Name>(
+    rt: &impl Abort,
+    part: &mut Part<N, AnyRow>,
+    reader: &mut WordReader<N, AnyRow>,
+    evicted: &mut [u64; 4],
+) -> u32
+    requires slots { N.table.slots ≡ 3 }
+    requires key { part.old.key_words ≡ 2 }
+    requires value { part.old.value_words ≡ 1 }
+    ensures key { part.new.key_words ≡ 2 }
+    ensures value { part.new.value_words ≡ 1 }
+{
+    expect_chunk(rt, part, [1, 2], None);
+    expect_value(rt, reader, [1, 2], None);
+    let first = put(rt, part, [1, 2, 30], 0, evicted, 5);
+    expect(rt, "what ended", &(first.old, first.evicted), &(None, None));
+    expect_value(rt, reader, [1, 2], Some(30));
+    expect_value(rt, reader, [2, 1], None);
+    expect_chunk(rt, part, [1, 2], Some(first.chunk));
+    let again = put(rt, part, [1, 2, 31], 40, evicted, 6);
+    expect(rt, "what it had", &again.old, &Some(first.chunk));
+    expect_value(rt, reader, [1, 2], Some(31));
+    let _ = put(rt, part, [3, 4, 50], 0, evicted, 7);
+    expect_value(rt, reader, [3, 4], Some(50));
+    again.chunk
+}
+
+// A third key evicts the first one, which is in this chunk. It tells the chunk of the third one.
+fn put_third<N: Name>(
+    rt: &impl Abort,
+    part: &mut Part<N, AnyRow>,
+    reader: &mut WordReader<N, AnyRow>,
+    evicted: &mut [u64; 4],
+    first: u32,
+) -> u32
+    requires slots { N.table.slots ≡ 3 }
+    requires key { part.old.key_words ≡ 2 }
+    requires value { part.old.value_words ≡ 1 }
+    ensures key { part.new.key_words ≡ 2 }
+    ensures value { part.new.value_words ≡ 1 }
+{
+    expect(rt, "no row", &*evicted, &[0, 0, 0, 0]);
+    let third = put(rt, part, [5, 6, 70], 0, evicted, 8);
+    expect(rt, "what is evicted", &third.evicted, &Some(first));
+    expect(rt, "its row", &*evicted, &[40, 1, 2, 31]);
+    expect_value(rt, reader, [1, 2], None);
+    expect_value(rt, reader, [3, 4], Some(50));
+    expect_value(rt, reader, [5, 6], Some(70));
+    third.chunk
+}
+
+// The third key, which is in this chunk, is removed, once.
+fn remove_third<N: Name>(
+    rt: &impl Abort,
+    part: &mut Part<N, AnyRow>,
+    reader: &mut WordReader<N, AnyRow>,
+    third: u32,
+)
+    requires slots { N.table.slots ≡ 3 }
+    requires key { part.old.key_words ≡ 2 }
+    requires value { part.old.value_words ≡ 1 }
+    ensures key { part.new.key_words ≡ 2 }
+    ensures value { part.new.value_words ≡ 1 }
+{
+    let mut old = [0; 2];
+    let has = part.look(&[3, 4], &mut old).is_some();
+    expect(rt, "another one", &(has, old), &(true, [0, 50]));
+    let removed = part.remove(&[5, 6], &mut old);
+    expect(
+        rt,
+        "the removed one",
+        &(removed, old),
+        &(Some(third), [0, 70]),
+    );
+    let removed = part.remove(&[5, 6], &mut old);
+    expect(rt, "nothing more", &(removed, old), &(None, [0, 70]));
+    expect_value(rt, reader, [5, 6], None);
+    let held = held_value(reader, [5, 6]);
+    expect(rt, "no hold", &held, &None);
+}
+
 // Each call, and what it answers.
 fn call_each<N: Name>(
     rt: &impl Abort,
@@ -141,41 +277,20 @@ fn call_each<N: Name>(
     ensures value { part.new.value_words ≡ 1 }
 {
     let mut evicted = [0; 4];
-    assert!(rt; part.find(&[1, 2]).is_none());
-    assert!(rt; value(reader, [1, 2]).is_none());
-    let first = put(rt, part, [1, 2, 30], 0, &mut evicted, 5);
-    assert!(rt; first.old.is_none());
-    assert!(rt; first.evicted.is_none());
-    assert!(rt; value(reader, [1, 2]) == Some(30));
-    assert!(rt; value(reader, [2, 1]).is_none());
-    assert!(rt; part.find(&[1, 2]) == Some(first.chunk));
-    let again = put(rt, part, [1, 2, 31], 40, &mut evicted, 6);
-    assert!(rt; again.old == Some(first.chunk));
-    assert!(rt; value(reader, [1, 2]) == Some(31));
-    let _ = put(rt, part, [3, 4, 50], 0, &mut evicted, 7);
-    assert!(rt; value(reader, [3, 4]) == Some(50));
-    assert!(rt; evicted == [0, 0, 0, 0]);
-    let third = put(rt, part, [5, 6, 70], 0, &mut evicted, 8);
-    assert!(rt; third.evicted == Some(again.chunk));
-    assert!(rt; evicted == [40, 1, 2, 31]);
-    assert!(rt; value(reader, [1, 2]).is_none());
-    assert!(rt; value(reader, [3, 4]) == Some(50));
-    assert!(rt; value(reader, [5, 6]) == Some(70));
+    let first = put_two(rt, part, reader, &mut evicted);
+    let third = put_third(rt, part, reader, &mut evicted, first);
     part.tend(lanes, 8, 9, BOUNDS, 4);
-    assert!(rt; value(reader, [3, 4]) == Some(50));
-    assert!(rt; held_value(reader, [3, 4]) == Some(50));
-    let mut old = [0; 2];
-    assert!(rt; part.look(&[3, 4], &mut old).is_some());
-    assert!(rt; old == [0, 50]);
-    assert!(rt; part.remove(&[5, 6], &mut old) == Some(third.chunk));
-    assert!(rt; old == [0, 70]);
-    assert!(rt; part.remove(&[5, 6], &mut old).is_none());
-    assert!(rt; old == [0, 70]);
-    assert!(rt; value(reader, [5, 6]).is_none());
-    assert!(rt; held_value(reader, [5, 6]).is_none());
-    assert!(rt; part.stats().evicted() == 1);
-    assert!(rt; reader.hits() == 7);
-    assert!(rt; reader.misses() == 5);
+    expect_value(rt, reader, [3, 4], Some(50));
+    let held = held_value(reader, [3, 4]);
+    expect(rt, "the value held", &held, &Some(50));
+    remove_third(rt, part, reader, third);
+    expect(rt, "evicted", &part.stats().evicted(), &1);
+    expect(
+        rt,
+        "hits and misses",
+        &(reader.hits(), reader.misses()),
+        &(7, 5),
+    );
 }
 
 // What is tended piece by piece, and cleared.
@@ -199,7 +314,45 @@ fn clear_all<N: Name>(
     assert!(rt; part.find(&[3, 4]).is_none());
 }
 
-// What expires soon is in TEMP. Behind its time no reader finds it, and it ends where its chunk has its turn.
+// The reader finds this value of a key at this time.
+fn expect_value_at<N: Name>(
+    rt: &impl Abort,
+    reader: &mut WordReader<N, AnyRow>,
+    key: [u64; 2],
+    now: u64,
+    wanted: Option<u64>,
+)
+    requires { N.table.slots ≡ 3 }
+{
+    let told = value_at(reader, key, now);
+    expect(rt, "the value then", &told, &wanted);
+}
+
+// What expires soon is in TEMP. Behind its time no reader finds it. It tells the chunk of the first such item.
+fn put_what_expires<N: Name>(
+    rt: &impl Abort,
+    part: &mut Part<N, AnyRow>,
+    reader: &mut WordReader<N, AnyRow>,
+) -> u32
+    requires slots { N.table.slots ≡ 3 }
+    requires key { part.old.key_words ≡ 2 }
+    requires value { part.old.value_words ≡ 1 }
+    ensures key { part.new.key_words ≡ 2 }
+    ensures value { part.new.value_words ≡ 1 }
+{
+    let mut evicted = [0; 4];
+    let soon = put(rt, part, [1, 2, 30], 30, &mut evicted, 20);
+    let _ = put(rt, part, [3, 4, 50], 31, &mut evicted, 20);
+    let stats = part.stats();
+    let sizes = (stats.number_temp, stats.number_hot);
+    expect(rt, "TEMP and HOT", &sizes, &(1, 1));
+    expect_value_at(rt, reader, [1, 2], 29, Some(30));
+    expect_value_at(rt, reader, [1, 2], 30, None);
+    expect_value_at(rt, reader, [3, 4], 30, Some(50));
+    soon.chunk
+}
+
+// What has expired ends where its chunk has its turn.
 fn expire<N: Name>(
     rt: &impl Abort,
     part: &mut Part<N, AnyRow>,
@@ -212,24 +365,18 @@ fn expire<N: Name>(
     ensures key { part.new.key_words ≡ 2 }
     ensures value { part.new.value_words ≡ 1 }
 {
-    let mut evicted = [0; 4];
-    let soon = put(rt, part, [1, 2, 30], 30, &mut evicted, 20);
-    let _ = put(rt, part, [3, 4, 50], 31, &mut evicted, 20);
-    assert!(rt; part.stats().number_temp == 1);
-    assert!(rt; part.stats().number_hot == 1);
-    assert!(rt; value_at(reader, [1, 2], 29) == Some(30));
-    assert!(rt; value_at(reader, [1, 2], 30).is_none());
-    assert!(rt; value_at(reader, [3, 4], 30) == Some(50));
-    assert!(rt; part.find(&[1, 2]) == Some(soon.chunk));
-    assert!(rt; part.end_expired(4, 29) == 0);
+    let soon = put_what_expires(rt, part, reader);
+    expect_chunk(rt, part, [1, 2], Some(soon));
+    let early = part.end_expired(4, 29);
     let _ = part.end_expired(1, 30);
     let _ = part.end_expired(3, 30);
-    assert!(rt; part.find(&[1, 2]).is_none());
-    assert!(rt; part.stats().crawler_reclaimed() == 1);
-    assert!(rt; part.stats().expired_unfetched() == 0);
+    expect_chunk(rt, part, [1, 2], None);
+    let stats = part.stats();
+    let told = (early, stats.crawler_reclaimed(), stats.expired_unfetched());
+    expect(rt, "what expired", &told, &(0, 1, 0));
     part.tend(lanes, 8, 31, BOUNDS, 4);
-    assert!(rt; part.find(&[3, 4]).is_none());
-    assert!(rt; part.stats().crawler_reclaimed() == 2);
+    expect_chunk(rt, part, [3, 4], None);
+    expect(rt, "both", &part.stats().crawler_reclaimed(), &2);
 }
 
 // Where room is needed behind its time, it is reclaimed: the label says when it expired.
@@ -241,10 +388,14 @@ fn reclaim<N: Name>(rt: &impl Abort, part: &mut Part<N, AnyRow>)
     let _ = put(rt, part, [1, 2, 30], 60, &mut evicted, 40);
     let _ = put(rt, part, [3, 4, 50], 0, &mut evicted, 40);
     let _ = put(rt, part, [5, 6, 70], 0, &mut evicted, 60);
-    assert!(rt; evicted == [60, 1, 2, 30]);
-    assert!(rt; part.stats().evicted() == 1);
-    assert!(rt; part.stats().reclaimed() == 1);
-    assert!(rt; part.stats().expired_unfetched() == 1);
+    expect(rt, "its row", &evicted, &[60, 1, 2, 30]);
+    let stats = part.stats();
+    let told = (
+        stats.evicted(),
+        stats.reclaimed(),
+        stats.expired_unfetched(),
+    );
+    expect(rt, "what was reclaimed", &told, &(1, 1, 1));
 }
 
 // All of that.

@@ -48,11 +48,12 @@ fn run_in<N: Name>(
         mut workers,
         mut lanes,
     } = Heads::<N>::new(alloc, blank, config)?;
-    let mut worker = workers.pop().ok_or(AllocError)?;
+    let (Some(class), Some(mut worker), Some(lane)) = (classes.pop(), workers.pop(), lanes.pop())
+    else {
+        return Err(AllocError);
+    };
     look_at(rt, &heads, &mut worker, config.first_generation - 1);
-    let class = classes.pop().ok_or(AllocError)?;
     expect(rt, "the class", &class.class(), &0);
-    let lane = lanes.pop().ok_or(AllocError)?;
     expect(rt, "its lane", &lane.worker(), &0);
     Ok(())
 }

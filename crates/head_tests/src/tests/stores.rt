@@ -51,11 +51,14 @@ pub fn open<N: Name>(alloc: Global, blank: Blank, config: &Config) -> Result<Sma
         mut workers,
         mut lanes,
     } = Heads::<N>::new(alloc, blank, config)?;
+    let (Some(class), Some(worker), Some(lane)) = (classes.pop(), workers.pop(), lanes.pop()) else {
+        return Err(AllocError);
+    };
     Ok(Small {
         heads,
-        class: classes.pop().ok_or(AllocError)?,
-        worker: workers.pop().ok_or(AllocError)?,
-        lane: lanes.pop().ok_or(AllocError)?,
+        class,
+        worker,
+        lane,
     })
 }
 

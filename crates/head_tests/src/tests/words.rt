@@ -31,18 +31,28 @@ fn live_wide<N: Name>(
     class.put_time(0, place, 1);
     let life = class.open_life(0, place);
     let other = class.open_life(1, place_of_other);
-    expect(rt, "the first life", &life, &life_of(0, 1));
-    expect(rt, "of the other", &other, &life_of(1, 1));
+    expect(
+        rt,
+        "the lives",
+        &[life, other],
+        &[life_of(0, 1), life_of(1, 1)],
+    );
     expect_seen(rt, heads, 0, (head(1, "l", Segment::Hot, 1), 1));
     let mut hold = heads.take(worker, life).expect(rt, "there is room");
-    expect(rt, "word 0", &heads.word_of(&mut hold, 0), &100);
-    expect(rt, "word 1", &heads.word_of(&mut hold, 1), &101);
-    expect(rt, "the label", &heads.label_of(&mut hold), &7);
-    expect(rt, "the label", &class.meet(&mut hold), &7);
+    let told = [
+        heads.word_of(&mut hold, 0),
+        heads.word_of(&mut hold, 1),
+        heads.label_of(&mut hold),
+        class.meet(&mut hold),
+    ];
+    expect(rt, "words and label", &told, &[100, 101, 7, 7]);
     let mut second = heads.take(worker, other).expect(rt, "there is room");
-    expect(rt, "word 0", &heads.word_of(&mut second, 0), &200);
-    expect(rt, "word 1", &heads.word_of(&mut second, 1), &201);
-    expect(rt, "the label", &heads.label_of(&mut second), &8);
+    let told = [
+        heads.word_of(&mut second, 0),
+        heads.word_of(&mut second, 1),
+        heads.label_of(&mut second),
+    ];
+    expect(rt, "of the other", &told, &[200, 201, 8]);
     expect_head(rt, class.end_life(0, place), head(2, "l", Segment::Hot, 1));
     expect(rt, "word 1", &heads.word_of(&mut hold, 1), &101);
     expect_head(rt, heads.give_back(hold).0, head(1, "", Segment::Hot, 1));
