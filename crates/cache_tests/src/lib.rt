@@ -1,7 +1,7 @@
 //! Tests of a cache: random calls beside a plain map, also those that look and then put, the order in which items are
 //! evicted beside a model of its lists, evictions for which no put asks, puts that find no room, items that expire, gets of
 //! many keys, caches of many parts and readers, keys of one hash, keys as text, memory that is counted or refused, visits
-//! of all that is there, and readers on threads.
+//! of all that is there, the loops that tend it, and readers on threads.
 #![tactic(auto)]
 
 #[cfg(test)]
@@ -42,6 +42,10 @@ mod refused_memory;
 mod sets;
 #[cfg(test)]
 mod stands;
+#[cfg(test)]
+mod tend_loops;
+#[cfg(test)]
+mod tended;
 #[cfg(test)]
 mod text;
 #[cfg(test)]

@@ -1,4 +1,4 @@
-use Rattle.tend_tests.proofs.loops.the_loop_that_never_sleeps_tends_until_it_is_told_to_stop.Given as goal
+use Rattle.cache_tests.proofs.tend_loops.the_loop_that_never_sleeps_tends_until_it_is_told_to_stop.Given as goal
 
 -- the names say what the blank has
 abbrev pub ghosts-run_until-N-Name : goal.ghosts-run_until-N-Name

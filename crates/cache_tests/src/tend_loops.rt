@@ -2,7 +2,7 @@
 
 ghost use Rattle.bump_cache.specs.Opening.{IsNamed};
 
-use crate::stands::{EXPIRY, KEYS, LOOKS, Stand, config, open_filled, reclaimed};
+use crate::tended::{EXPIRY, KEYS, LOOKS, Stand, config, open_filled, reclaimed};
 use bump_cache::{Cache, CacheBlank, Changer, LogName, Name};
 use std::alloc::{AllocError, Global};
 use std::marker::Brand;

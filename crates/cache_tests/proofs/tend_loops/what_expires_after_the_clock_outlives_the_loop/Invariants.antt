@@ -1,4 +1,4 @@
-use Rattle.tend_tests.proofs.loops.what_expires_after_the_clock_outlives_the_loop.Given as goal
+use Rattle.cache_tests.proofs.tend_loops.what_expires_after_the_clock_outlives_the_loop.Given as goal
 
 -- the names say what the blank has
 abbrev pub ghosts-run_each-N-Name : goal.ghosts-run_each-N-Name

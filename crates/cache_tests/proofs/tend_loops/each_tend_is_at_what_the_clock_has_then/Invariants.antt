@@ -1,4 +1,4 @@
-use Rattle.tend_tests.proofs.loops.the_loop_that_sleeps_tends_once_a_pause.Given as goal
+use Rattle.cache_tests.proofs.tend_loops.each_tend_is_at_what_the_clock_has_then.Given as goal
 
 -- the names say what the blank has
 abbrev pub ghosts-run_each-N-Name : goal.ghosts-run_each-N-Name
