@@ -70,8 +70,7 @@ impl Seed {
     }
 }
 
-/// The upper half of a full hash, which [`Seed::hash`] gives by itself: 32 bits of which none tells anything of the
-/// lower half.
+/// The upper half of a full hash, 32 bits: what [`Seed::hash`] gives.
 #[inline(always)]
 pub fn upper_half(full: u64) -> u32
     ensures { result ≡ half_of full }
