@@ -1,14 +1,16 @@
 //! Bumps of one worker: how they come to be, and those that find no room.
 ghost use Rattle.std.specs.Prelude.{◌≡◌, None, Some, true};
-ghost use Rattle.bump_rules.specs.declared.hands.Hand.TheVariants.{Trying};
+ghost use Rattle.bump_rules.specs.declared.hands.Hand.TheVariants.{Clearing, Trying};
 ghost use Rattle.bump_rules.specs.declared.places.Place.TheVariants as place;
 ghost use Rattle.bump_heads.specs.RulesLives.{life as life_of};
 ghost use Rattle.bump_heads.specs.References.{new_hold};
 ghost use Rattle.bump_heads.specs.ReadersSeats.{row_in};
+ghost use Rattle.bump_heads.specs.Taking.{whole_hold};
 ghost use Rattle.bump_heads.specs.Views.{owns, standing};
 ghost use Rattle.head_tests.specs.Stores.{fresh_class, IsNew, MayHit};
 
-use super::expecting::{expect, expect_head, expect_head_of};
+use super::expecting::{expect, expect_head, expect_head_of, expect_true};
+use super::lives::fetch;
 use super::scenes::{Scene, play};
 use super::stores::{head, let_out};
 use super::*;
@@ -47,16 +49,12 @@ pub fn attempt<N: Name>(
     ensures number { worker.new.sheet.worker ≡ worker.old.sheet.worker }
     ensures hollow { hold.new ≡ record hold.old { sheet = None } }
 {
+    let fetched = fetch(rt, heads, worker, hold, Segment::Cold);
     let life = hold.life();
     let place = hold.place();
-    heads.hold_in(worker, hold);
-    let found = heads.mark_fetched(worker, life, place);
-    expect_head(rt, found, head(2, "l", Segment::Cold, 1));
-    let fetched = head(2, "lf", Segment::Cold, 1);
-    expect_head_of(rt, heads, life.chunk, fetched);
     let found = heads.mark_active(worker, life, place);
-    assert!(rt; matches!(found.segment, Segment::Cold));
-    assert!(rt; !found.active);
+    expect_true(rt, "in COLD", matches!(found.segment, Segment::Cold));
+    expect_true(rt, "not ACTIVE", !found.active);
     expect_head(rt, found, fetched);
     let active = head(2, "lfa", Segment::Cold, 1);
     expect_head_of(rt, heads, life.chunk, active);
@@ -81,6 +79,27 @@ pub fn send_off<N: Name>(
     rider
 }
 
+// The bump was dropped: ACTIVE is cleared, and the hold is split off.
+fn clear_dropped<N: Name>(
+    rt: &impl Abort,
+    heads: &Heads<N>,
+    worker: &mut WorkerSeat<N>,
+    hold: &mut Hold<N>,
+)
+    requires clearing { worker.old.sheet.hand ≡ Clearing hold.old.life }
+    requires joined { worker.old.hold ≡ Some (new_hold hold.old.life (row_in worker.old.hold)) }
+    requires hollow { hold.old.sheet ≡ None }
+    ensures alone { worker.new.hold ≡ None }
+    ensures hold { hold.new ≡ whole_hold hold.old.life (row_in worker.old.hold) }
+{
+    let life = hold.life();
+    let dropped = head(2, "lfa", Segment::Cold, 1);
+    expect_head_of(rt, heads, life.chunk, dropped);
+    expect_head(rt, heads.unmark(worker, life, hold.place()), dropped);
+    expect_head_of(rt, heads, life.chunk, head(2, "lf", Segment::Cold, 1));
+    let_out(heads, worker, hold);
+}
+
 // The bump is sent off, but its ring has no room: it comes back, and is dropped.
 fn drop_full<N: Name>(
     rt: &impl Abort,
@@ -101,11 +120,7 @@ fn drop_full<N: Name>(
     heads.rider_back(worker, rider);
     expect_head_of(rt, heads, life.chunk, sent);
     expect_head(rt, heads.give_back_bump(worker, life, place), sent);
-    let dropped = head(2, "lfa", Segment::Cold, 1);
-    expect_head_of(rt, heads, life.chunk, dropped);
-    expect_head(rt, heads.unmark(worker, life, place), dropped);
-    expect_head_of(rt, heads, life.chunk, head(2, "lf", Segment::Cold, 1));
-    let_out(heads, worker, hold);
+    clear_dropped(rt, heads, worker, hold);
 }
 
 // The item has as many references as it may have, so that the bump is dropped before it is sent off.
@@ -126,11 +141,7 @@ fn drop_at_limit<N: Name>(
         panic!(rt; "the item has one more reference than it may have")
     };
     expect(rt, "why", &refusal, &RideRefusal::RefsFull);
-    let dropped = head(2, "lfa", Segment::Cold, 1);
-    expect_head_of(rt, heads, life.chunk, dropped);
-    expect_head(rt, heads.unmark(worker, life, place), dropped);
-    expect_head_of(rt, heads, life.chunk, head(2, "lf", Segment::Cold, 1));
-    let_out(heads, worker, hold);
+    clear_dropped(rt, heads, worker, hold);
 }
 
 /// The bump finds no room in its ring, or, where the limit is 2, no room among the references.

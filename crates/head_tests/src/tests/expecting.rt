@@ -1,5 +1,7 @@
 //! What tests compare. Each comparison is proved here, once, and not where it is made: so a failure names this file,
 //! and says what was compared.
+ghost use Rattle.std.specs.Prelude.{◌≡◌, true};
+
 use super::*;
 use bump_heads::Head;
 use std::fmt::Debug;
@@ -8,6 +10,13 @@ use std::process::Abort;
 /// What was told is what was wanted.
 pub fn expect<T: PartialEq + Debug, R: Abort>(rt: &R, what: &str, told: &T, wanted: &T) {
     assert_eq!(rt; told, wanted, "{what}");
+}
+
+/// It holds.
+pub fn expect_true(rt: &impl Abort, what: &str, holds: bool)
+    ensures { holds ≡ true }
+{
+    assert!(rt; holds, "{what}");
 }
 
 /// This head was found.

@@ -1,9 +1,10 @@
 //! A store of which no chunk had a life.
-ghost use Rattle.std.specs.Prelude.{◌≡◌, ◌<◌, None, IfSome, [], ◌∷◌};
+ghost use Rattle.std.specs.Prelude.{◌≡◌, ◌<◌, None, IfSome};
 ghost use Rattle.bump_heads.specs.Rule.{chunks as all_chunks};
+ghost use Rattle.head_tests.specs.Stores.{HasSmallClass};
 
 use super::expecting::{expect, expect_seen};
-use super::stores::{head, life_of, refusal};
+use super::stores::{Small, head, life_of, open, refusal};
 use super::*;
 use bump_heads::{ClassConfig, Config, Segment};
 use std::alloc::{AllocError, Global};
@@ -39,19 +40,15 @@ fn run_in<N: Name>(
 ) -> Result<(), AllocError>
     requires name { blank.table ≡ N.table }
     requires config { blank.config ≡ config.now }
-    requires small { (config.now.workers ≡ 1) × (config.now.classes ≡ record { chunks = 2; hot = 1; warm = 1 } ∷ []) }
+    requires small { HasSmallClass config.now }
     requires first { 0 < config.now.first_generation }
 {
-    let HeadParts {
+    let Small {
         heads,
-        mut classes,
-        mut workers,
-        mut lanes,
-    } = Heads::<N>::new(alloc, blank, config)?;
-    let (Some(class), Some(mut worker), Some(lane)) = (classes.pop(), workers.pop(), lanes.pop())
-    else {
-        return Err(AllocError);
-    };
+        class,
+        mut worker,
+        lane,
+    } = open::<N>(alloc, blank, config)?;
     look_at(rt, &heads, &mut worker, config.first_generation - 1);
     expect(rt, "the class", &class.class(), &0);
     expect(rt, "its lane", &lane.worker(), &0);
@@ -61,7 +58,7 @@ fn run_in<N: Name>(
 // One worker, and one class of two chunks. None where memory is refused.
 fn config_from(alloc: Global, first_generation: u32) -> Option<Config>
     requires { 0 < first_generation }
-    ensures small { IfSome result (λ c. (c.workers ≡ 1) × (c.classes ≡ record { chunks = 2; hot = 1; warm = 1 } ∷ [])) }
+    ensures small { IfSome result HasSmallClass }
     ensures first { IfSome result (λ c. 0 < c.first_generation) }
 {
     let class = ClassConfig {

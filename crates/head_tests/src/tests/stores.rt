@@ -7,7 +7,7 @@ ghost use Rattle.bump_heads.specs.Rule.{chunks as all_chunks, lane_sheet};
 ghost use Rattle.bump_heads.specs.Making.{lane_seen};
 ghost use Rattle.bump_heads.specs.ReadersSeats.{row_in};
 ghost use Rattle.bump_heads.specs.Taking.{whole_hold};
-ghost use Rattle.head_tests.specs.Stores.{IsNew, IsSmall};
+ghost use Rattle.head_tests.specs.Stores.{HasSmallClass, IsNew, IsSmall};
 
 use super::*;
 use bump_heads::{ClassConfig, Config, Head, ItemId, Segment};
@@ -37,12 +37,15 @@ pub fn config_of(alloc: Global, limit: u32) -> Option<Config>
     Config::new(1, 4, limit, 1, vec![in alloc; class].ok()?).ok()
 }
 
-/// Opens such a store.
+/// Opens such a store, of whichever first generation.
 pub fn open<N: Name>(alloc: Global, blank: Blank, config: &Config) -> Result<Small<N>, AllocError>
     requires name { blank.table ≡ N.table }
     requires config { blank.config ≡ config.now }
-    requires small { IsSmall config.now }
-    ensures new { IfOk result (λ s. IsNew (arc_value s.heads) s.class s.worker) }
+    requires small { HasSmallClass config.now }
+    ensures new { config.now.first_generation ≡ 1
+        → IfOk result (λ s. IsNew (arc_value s.heads) s.class s.worker) }
+    ensures chunks { IfOk result (λ s. all_chunks (arc_value s.heads) ≡ 2) }
+    ensures alone { IfOk result (λ s. s.worker.hold ≡ None) }
     ensures lane { IfOk result (λ s. s.lane ≡ lane_seen (lane_sheet 0)) }
 {
     let HeadParts {
