@@ -1,12 +1,12 @@
 //! A part of four chunks, in which a key has two words and a value one, and two items may be; and its reader. Its class
 //! is the only one of its store, or the second.
-ghost use Rattle.std.specs.Prelude.{◌≡◌, ◌∷◌, [], IfOk, IfSome, Some, slice_get};
+ghost use Rattle.std.specs.Prelude.{◌≡◌, ◌≤◌, ◌∷◌, [], IfOk, IfSome, Some, slice_get};
 
 use bump_class::{Book, RawLane};
-use bump_heads::{Blank, Name};
+use bump_heads::{Blank, Heads, Name};
 use bump_rules::{ClassConfig, Config};
 use bump_steps::AnyRow;
-use bump_unlocked::UnlockedStore;
+use bump_unlocked::{UnlockedStore, Worker};
 use cache_index::Index;
 use cache_part::{Bounds, Part, PutItem};
 use cache_readers::WordReader;
@@ -15,6 +15,7 @@ use std::alloc::Global;
 use std::fmt::Debug;
 use std::marker::Brand;
 use std::process::Abort;
+use std::sync::Arc;
 use std::test::Fail;
 
 const CLASS: ClassConfig = ClassConfig {
@@ -308,10 +309,10 @@ fn clear_all<N: Name>(
 {
     part.drain(lanes, 8, 10);
     part.balance(3, BOUNDS, 10);
-    assert!(rt; value(reader, [3, 4]) == Some(50));
+    expect_value(rt, reader, [3, 4], Some(50));
     part.clear();
-    assert!(rt; value(reader, [3, 4]).is_none());
-    assert!(rt; part.find(&[3, 4]).is_none());
+    expect_value(rt, reader, [3, 4], None);
+    expect_chunk(rt, part, [3, 4], None);
 }
 
 // The reader finds this value of a key at this time.
@@ -415,6 +416,46 @@ fn call_all<N: Name>(
     reclaim(rt, part);
 }
 
+// What is put comes into a chunk of the second class, and is found there.
+fn use_second<N: Name>(rt: &impl Abort, part: &mut Part<N, AnyRow>)
+    requires key { part.old.key_words ≡ 2 }
+    requires value { part.old.value_words ≡ 1 }
+    ensures key { part.new.key_words ≡ 2 }
+    ensures value { part.new.value_words ≡ 1 }
+{
+    let chunk = put(rt, part, [9, 9, 9], 0, &mut [0; 4], 1).chunk;
+    expect(rt, "in the second class", &(3 <= chunk && chunk < 7), &true);
+    expect_chunk(rt, part, [9, 9], Some(chunk));
+    let removed = part.remove(&[9, 9], &mut [0; 2]);
+    expect(rt, "what is removed", &removed, &Some(chunk));
+}
+
+// All of that, of a part over this Book of four chunks, from this one on, and its reader. Of the second class first
+// what is put there.
+fn call_all_over<N: Name, R: Abort>(
+    rt: &R,
+    alloc: Global,
+    book: Book<N>,
+    first: u32,
+    heads: Arc<Heads<N>, Global>,
+    worker: Worker<N>,
+    lanes: &mut [RawLane<N>],
+) -> Result<(), Fail>
+    requires slots { N.table.slots ≡ 3 }
+    requires first { (first ≡ book.sheet.first) × (first ≤ 3) }
+    requires new { (book.sheet.history ≡ []) × (book.sheet.count ≡ 4) }
+{
+    let mut index = Index::new(alloc, first, 4)?;
+    let (nests, eye) = index.reader()?;
+    let mut reader = WordReader::new(worker, heads, nests, eye);
+    let mut part = Part::new(book, index, SEED, 2, 1, 2, Some(10));
+    if first == 3 {
+        use_second(rt, &mut part);
+    }
+    call_all(rt, &mut part, lanes, &mut reader);
+    Ok(())
+}
+
 fn run<N: Name, R: Abort>(rt: &R, alloc: Global, blank: Blank, config: &Config) -> Result<(), Fail>
     requires name { blank.table ≡ N.table }
     requires config { blank.config ≡ config.now }
@@ -433,25 +474,7 @@ fn run<N: Name, R: Abort>(rt: &R, alloc: Global, blank: Blank, config: &Config) 
     };
     let mut workers = workers;
     let worker = workers.pop().expect(rt, "there is a worker");
-    let mut index = Index::new(alloc, 0, 4)?;
-    let (nests, eye) = index.reader()?;
-    let mut reader = WordReader::new(worker, heads, nests, eye);
-    let mut part = Part::new(book, index, SEED, 2, 1, 2, Some(10));
-    call_all(rt, &mut part, &mut lanes, &mut reader);
-    Ok(())
-}
-
-// What is put comes into a chunk of the second class, and is found there.
-fn use_second<N: Name>(rt: &impl Abort, part: &mut Part<N, AnyRow>)
-    requires key { part.old.key_words ≡ 2 }
-    requires value { part.old.value_words ≡ 1 }
-    ensures key { part.new.key_words ≡ 2 }
-    ensures value { part.new.value_words ≡ 1 }
-{
-    let chunk = put(rt, part, [9, 9, 9], 0, &mut [0; 4], 1).chunk;
-    assert!(rt; 3 <= chunk && chunk < 7);
-    assert!(rt; part.find(&[9, 9]) == Some(chunk));
-    assert!(rt; part.remove(&[9, 9], &mut [0; 2]) == Some(chunk));
+    call_all_over(rt, alloc, book, 0, heads, worker, &mut lanes)
 }
 
 // The same on the second class of a store.
@@ -479,13 +502,7 @@ fn run_second<N: Name, R: Abort>(
     };
     let mut workers = workers;
     let worker = workers.pop().expect(rt, "there is a worker");
-    let mut index = Index::new(alloc, 3, 4)?;
-    let (nests, eye) = index.reader()?;
-    let mut reader = WordReader::new(worker, heads, nests, eye);
-    let mut part = Part::new(book, index, SEED, 2, 1, 2, Some(10));
-    use_second(rt, &mut part);
-    call_all(rt, &mut part, &mut lanes, &mut reader);
-    Ok(())
+    call_all_over(rt, alloc, book, 3, heads, worker, &mut lanes)
 }
 
 // An item is put and ends: a life of some chunk is over.
@@ -496,10 +513,43 @@ fn use_up_one<N: Name>(rt: &impl Abort, part: &mut Part<N, AnyRow>, key: u64)
     ensures value { part.new.value_words ≡ 1 }
 {
     let _ = put(rt, part, [key, key, key], 0, &mut [0; 4], 5);
-    assert!(rt; part.remove(&[key, key], &mut [0; 2]).is_some());
+    let removed = part.remove(&[key, key], &mut [0; 2]);
+    expect(rt, "that it is removed", &removed.is_some(), &true);
 }
 
-// Each of four chunks has one life; then none is free any more, and a put says so.
+// No chunk is free any more, and a put says so.
+fn put_none<N: Name>(rt: &impl Abort, part: &mut Part<N, AnyRow>)
+    requires key { part.old.key_words ≡ 2 }
+    requires value { part.old.value_words ≡ 1 }
+{
+    let mut no_lanes: [RawLane<N>; 0] = [];
+    let put = part.put(
+        &[5, 5, 5],
+        0,
+        true,
+        &mut [0; 2],
+        &mut [0; 4],
+        &mut no_lanes,
+        0,
+        6,
+    );
+    expect(rt, "that it is refused", &put.is_err(), &true);
+    expect_chunk(rt, part, [5, 5], None);
+}
+
+// Each of four chunks has one life; then none is free any more.
+fn use_up_all<N: Name>(rt: &impl Abort, part: &mut Part<N, AnyRow>)
+    requires key { part.old.key_words ≡ 2 }
+    requires value { part.old.value_words ≡ 1 }
+{
+    use_up_one(rt, part, 1);
+    use_up_one(rt, part, 2);
+    use_up_one(rt, part, 3);
+    use_up_one(rt, part, 4);
+    put_none(rt, part);
+}
+
+// The same of a part over the class of a new store.
 fn use_up<N: Name, R: Abort>(
     rt: &R,
     alloc: Global,
@@ -517,24 +567,7 @@ fn use_up<N: Name, R: Abort>(
     };
     let index = Index::new(alloc, 0, 4)?;
     let mut part = Part::new(book, index, SEED, 2, 1, 2, Some(10));
-    use_up_one(rt, &mut part, 1);
-    use_up_one(rt, &mut part, 2);
-    use_up_one(rt, &mut part, 3);
-    use_up_one(rt, &mut part, 4);
-    let mut evicted = [0; 4];
-    let mut no_lanes: [RawLane<N>; 0] = [];
-    let put = part.put(
-        &[5, 5, 5],
-        0,
-        true,
-        &mut [0; 2],
-        &mut evicted,
-        &mut no_lanes,
-        0,
-        6,
-    );
-    assert!(rt; put.is_err());
-    assert!(rt; part.find(&[5, 5]).is_none());
+    use_up_all(rt, &mut part);
     Ok(())
 }
 
