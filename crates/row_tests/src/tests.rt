@@ -1,17 +1,18 @@
 //! A part of four chunks, in which a key has two words and a value one, and two items may be; and its reader. Its class
 //! is the only one of its store, or the second.
-ghost use Rattle.std.specs.Prelude.{◌≡◌, ◌≤◌, ◌∷◌, [], IfOk, IfSome, Some, slice_get};
+ghost use Rattle.cache_index.specs.History.{SeesIndex};
+ghost use Rattle.std.specs.Prelude.{◌≡◌, ◌≤◌, ◌+◌, ◌∷◌, [], IfOk, IfSome, Some, None, replicate, slice_get};
 
 use bump_class::{Book, RawLane};
 use bump_heads::{Blank, Heads, Name};
 use bump_rules::{ClassConfig, Config};
 use bump_steps::AnyRow;
 use bump_unlocked::{UnlockedStore, Worker};
-use cache_index::Index;
+use cache_index::{Eye, Index, IndexReader};
 use cache_part::{Bounds, Part, PutItem};
 use cache_readers::WordReader;
 use keyed_hash::Seed;
-use std::alloc::Global;
+use std::alloc::{AllocError, Global};
 use std::fmt::Debug;
 use std::marker::Brand;
 use std::process::Abort;
@@ -430,8 +431,41 @@ fn use_second<N: Name>(rt: &impl Abort, part: &mut Part<N, AnyRow>)
     expect(rt, "what is removed", &removed, &Some(chunk));
 }
 
-// All of that, of a part over this Book of four chunks, from this one on, and its reader. Of the second class first
-// what is put there.
+// An index of four chunks, from this one on, and a reader of it.
+fn index_from(alloc: Global, first: u32) -> Result<(Index, IndexReader, Eye), AllocError>
+    requires { first ≤ 3 }
+    ensures first { IfOk result (λ made. made.0.first ≡ first) }
+    ensures table { IfOk result (λ made. made.0.table ≡ replicate (first + 4) None) }
+    ensures eye { IfOk result (λ made. SeesIndex made.1 made.2) }
+{
+    let mut index = Index::new(alloc, first, 4)?;
+    let (nests, eye) = index.reader()?;
+    Ok((index, nests, eye))
+}
+
+// All of that, of a part over this Book and this index of its chunks, from this one on, and a reader. Of the second
+// class first what is put there.
+fn call_all_of<N: Name>(
+    rt: &impl Abort,
+    book: Book<N>,
+    index: Index,
+    first: u32,
+    reader: &mut WordReader<N, AnyRow>,
+    lanes: &mut [RawLane<N>],
+)
+    requires slots { N.table.slots ≡ 3 }
+    requires first { (first ≡ book.sheet.first) × (index.first ≡ first) }
+    requires table { index.table ≡ replicate (book.sheet.first + book.sheet.count) None }
+    requires new { book.sheet.history ≡ [] }
+{
+    let mut part = Part::new(book, index, SEED, 2, 1, 2, Some(10));
+    if first == 3 {
+        use_second(rt, &mut part);
+    }
+    call_all(rt, &mut part, lanes, reader);
+}
+
+// The same with a new index of the Book's four chunks, from this one on.
 fn call_all_over<N: Name, R: Abort>(
     rt: &R,
     alloc: Global,
@@ -445,14 +479,9 @@ fn call_all_over<N: Name, R: Abort>(
     requires first { (first ≡ book.sheet.first) × (first ≤ 3) }
     requires new { (book.sheet.history ≡ []) × (book.sheet.count ≡ 4) }
 {
-    let mut index = Index::new(alloc, first, 4)?;
-    let (nests, eye) = index.reader()?;
+    let (index, nests, eye) = index_from(alloc, first)?;
     let mut reader = WordReader::new(worker, heads, nests, eye);
-    let mut part = Part::new(book, index, SEED, 2, 1, 2, Some(10));
-    if first == 3 {
-        use_second(rt, &mut part);
-    }
-    call_all(rt, &mut part, lanes, &mut reader);
+    call_all_of(rt, book, index, first, &mut reader, lanes);
     Ok(())
 }
 
