@@ -3,6 +3,7 @@
 
 ghost use Rattle.bump_cache.specs.Opening.{IsNamed};
 
+use crate::expecting::*;
 use crate::model::items_in;
 use crate::stands::{Entry, Stand, config_of, next};
 use bump_cache::{CacheBlank, CacheConfig, Cause, Evicted, LogName, Name, Stats};
@@ -69,9 +70,9 @@ impl<N: Name + LogName> Small<N> {
             let Some(it) = self.stand.evict(rt, part, 9) else {
                 return;
             };
-            assert_eq!(rt; (it.value, it.cause), (it.key, Cause::Room));
-            assert_eq!(rt; self.stand.part_of(&it.key), part);
-            assert_eq!(rt; self.stand.get(0, &it.key, 9), None);
+            expect_eq!(rt; (it.value, it.cause), (it.key, Cause::Room));
+            expect_eq!(rt; self.stand.part_of(&it.key), part);
+            expect_eq!(rt; self.stand.get(0, &it.key, 9), None);
             if let Some(times) = told.get_mut(it.key as usize) {
                 *times = times.saturating_add(1);
             }
@@ -79,8 +80,8 @@ impl<N: Name + LogName> Small<N> {
         panic!(rt; "more is told of part {part} than was put")
     }
 
-    // Each item that is there is told once; the number behind the last part's is that of none.
-    fn check_all<R: Wait + Abort>(&mut self, rt: &R) {
+    // Puts all keys, and gets each of them twice: a 1 for each that is there then.
+    fn put_all<R: Wait + Abort>(&mut self, rt: &R) -> [u32; KEYS as usize] {
         let mut there = [0u32; KEYS as usize];
         for key in 0..KEYS {
             self.put_until(rt, key, 0, key);
@@ -90,15 +91,38 @@ impl<N: Name + LogName> Small<N> {
                 *times = u32::from(self.stand.peek(0, &(key as u64), KEYS).is_some());
             }
         }
+        there
+    }
+
+    // Evicts the items of each part; the number behind the last part's is that of none. How often each key is told.
+    fn evict_parts<R: Wait + Abort>(&mut self, rt: &R) -> [u32; KEYS as usize] {
         let mut told = [0u32; KEYS as usize];
         for part in 0..=self.parts {
             self.evict_all(rt, part, &mut told);
         }
-        assert_eq!(rt; told, there);
+        told
+    }
+
+    // Each item that is there is told once.
+    fn check_all<R: Wait + Abort>(&mut self, rt: &R) {
+        let there = self.put_all(rt);
+        let told = self.evict_parts(rt);
+        expect_eq!(rt; told, there);
         let stats = self.stand.stats(rt);
-        assert_eq!(rt; (items_in(&stats), stats.evicted()), (0, KEYS));
-        assert_eq!(rt; self.put_until(rt, 1, 0, 9), None);
-        assert_eq!(rt; self.stand.get(0, &1, 9), Some(1));
+        expect_eq!(rt; (items_in(&stats), stats.evicted()), (0, KEYS));
+        expect_eq!(rt; self.put_until(rt, 1, 0, 9), None);
+        expect_eq!(rt; self.stand.get(0, &1, 9), Some(1));
+    }
+
+    // The next eviction from the one part ends this key's item.
+    fn check_next<R: Wait + Abort>(&mut self, rt: &R, now: u64, key: u64, cause: Cause) {
+        expect(rt, "no such part", &self.stand.evict(rt, 1, now), &None);
+        let wanted = Evicted {
+            key,
+            value: key,
+            cause,
+        };
+        expect_eq!(rt; self.stand.evict(rt, 0, now), Some(wanted));
     }
 
     // All three are in COLD, and the first two expire at 50.
@@ -112,17 +136,11 @@ impl<N: Name + LogName> Small<N> {
             (50, 1, Cause::Expired),
             (50, 2, Cause::Room),
         ] {
-            assert_eq!(rt; self.stand.evict(rt, 1, now), None, "no such part");
-            let wanted = Evicted {
-                key,
-                value: key,
-                cause,
-            };
-            assert_eq!(rt; self.stand.evict(rt, 0, now), Some(wanted));
+            self.check_next(rt, now, key, cause);
         }
-        assert_eq!(rt; self.stand.evict(rt, 0, 50), None);
+        expect_eq!(rt; self.stand.evict(rt, 0, 50), None);
         let stats = self.stand.stats(rt);
-        assert_eq!(rt; (stats.evicted(), stats.reclaimed()), (2, 1));
+        expect_eq!(rt; (stats.evicted(), stats.reclaimed()), (2, 1));
     }
 
     // Makes room for a new key: its put does, or an eviction before it.
@@ -137,7 +155,12 @@ impl<N: Name + LogName> Small<N> {
             return self.put_until(rt, key, 0, now);
         }
         let evicted = self.stand.evict(rt, 0, now);
-        assert_eq!(rt; self.put_until(rt, key, 0, now), None, "there was room");
+        expect(
+            rt,
+            "there was room",
+            &self.put_until(rt, key, 0, now),
+            &None,
+        );
         evicted
     }
 
@@ -151,19 +174,20 @@ impl<N: Name + LogName> Small<N> {
         }
     }
 
+    // Fills the cache. Where it isn't tended some of its items expire.
+    fn fill<R: Wait + Abort>(&mut self, rt: &R, seed: &mut u64, tends: bool) {
+        for key in 0..ITEMS {
+            let expires = if tends || next(seed) % 2 == 0 { 0 } else { 13 };
+            self.put_until(rt, key, expires, key);
+        }
+    }
+
     // Fills the cache, and makes room for new keys.
     fn make_room<R: Wait + Abort>(&mut self, rt: &R, from: u64, by_puts: bool) -> Made {
         let mut seed = from;
         let mut evicted = [None; ROUNDS];
         let tends = from % 2 == 0;
-        for key in 0..ITEMS {
-            let expires = if tends || next(&mut seed) % 2 == 0 {
-                0
-            } else {
-                13
-            };
-            self.put_until(rt, key, expires, key);
-        }
+        self.fill(rt, &mut seed, tends);
         for (round, it) in evicted.iter_mut().enumerate() {
             let now = (round as u64).saturating_add(10);
             self.read(rt, &mut seed, now, tends);

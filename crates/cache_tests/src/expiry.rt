@@ -2,9 +2,11 @@
 
 ghost use Rattle.bump_cache.specs.Opening.{IsNamed};
 
+use crate::expecting::*;
 use crate::stands::{Entry, Stand, config_of};
 use bump_cache::{CacheBlank, CacheConfig, Cause, Evicted, LogName, Miss, Name, Put};
 use std::alloc::{AllocError, Global};
+use std::fmt::Debug;
 use std::marker::Brand;
 use std::process::Abort;
 use std::sync::Wait;
@@ -38,6 +40,11 @@ enum Case {
     ToldOfParts,
 }
 
+// What was told of a key at this time is what was wanted.
+fn expect_at<T: PartialEq + Debug>(rt: &impl Abort, key: u64, now: u64, told: &T, wanted: &T) {
+    assert_eq!(rt; told, wanted, "key {key} at {now}");
+}
+
 // A cache of a few items of one reader.
 #[derive(Drop)]
 struct Few<N: Name + LogName> {
@@ -62,18 +69,11 @@ impl<N: Name + LogName> Few<N> {
 
     fn expect<R: Wait + Abort>(&mut self, rt: &R, key: u64, now: u64, is_there: bool) {
         let wanted = if is_there { Some(key) } else { None };
-        assert_eq!(rt; self.stand.peek(0, &key, now), wanted, "key {key} at {now}");
-        assert_eq!(rt;
-            self.stand.contains(0, &key, now),
-            is_there,
-            "key {key} at {now}"
-        );
-        assert_eq!(rt; self.stand.get(0, &key, now), wanted, "key {key} at {now}");
-        assert_eq!(rt;
-            self.stand.look(rt, &key, now),
-            wanted,
-            "key {key} at {now}"
-        );
+        expect_at(rt, key, now, &self.stand.peek(0, &key, now), &wanted);
+        let is_found = self.stand.contains(0, &key, now);
+        expect_at(rt, key, now, &is_found, &is_there);
+        expect_at(rt, key, now, &self.stand.get(0, &key, now), &wanted);
+        expect_at(rt, key, now, &self.stand.look(rt, &key, now), &wanted);
     }
 
     fn check_ticks<R: Wait + Abort>(&mut self, rt: &R) {
@@ -91,23 +91,46 @@ impl<N: Name + LogName> Few<N> {
             self.put_until(rt, key, expires, 5);
             self.expect(rt, key, now, is_there);
             if !is_there {
-                assert_eq!(rt; self.stand.last_miss(0, &key), Some(Miss::Expired));
+                expect_eq!(rt; self.stand.last_miss(0, &key), Some(Miss::Expired));
             }
         }
         self.expect(rt, 5, 0, false);
-        assert_eq!(rt; self.stand.last_miss(0, &5), Some(Miss::Absent));
+        expect_eq!(rt; self.stand.last_miss(0, &5), Some(Miss::Absent));
     }
 
     fn check_untold<R: Wait + Abort>(&mut self, rt: &R) {
         self.put_until(rt, 1, 10, 5);
         self.put_until(rt, 2, 10, 5);
-        assert_eq!(rt; self.put_until(rt, 1, 20, 9).old, Some(1));
-        assert_eq!(rt; self.put_until(rt, 1, 20, 20).old, None);
-        assert_eq!(rt; self.stand.remove(rt, &2, 10), None);
-        assert_eq!(rt; self.stand.stats(rt).number_hot, 1);
-        assert_eq!(rt; self.stand.remove(rt, &1, 19), Some(1));
-        assert_eq!(rt; self.stand.remove(rt, &1, 19), None);
-        assert_eq!(rt; self.stand.stats(rt).number_hot, 0);
+        expect_eq!(rt; self.put_until(rt, 1, 20, 9).old, Some(1));
+        expect_eq!(rt; self.put_until(rt, 1, 20, 20).old, None);
+        self.check_removals(rt);
+    }
+
+    // The item of the key 2 has expired at 10, and that of the key 1 hasn't at 19.
+    fn check_removals<R: Wait + Abort>(&mut self, rt: &R) {
+        expect_eq!(rt; self.stand.remove(rt, &2, 10), None);
+        expect_eq!(rt; self.stand.stats(rt).number_hot, 1);
+        expect_eq!(rt; self.stand.remove(rt, &1, 19), Some(1));
+        expect_eq!(rt; self.stand.remove(rt, &1, 19), None);
+        expect_eq!(rt; self.stand.stats(rt).number_hot, 0);
+    }
+
+    // A put of a new key evicts this item.
+    fn check_evicted<R: Wait + Abort>(
+        &mut self,
+        rt: &R,
+        new: u64,
+        now: u64,
+        key: u64,
+        cause: Cause,
+    ) {
+        let evicted = self.put_until(rt, new, 0, now).evicted;
+        let wanted = Evicted {
+            key,
+            value: key,
+            cause,
+        };
+        expect_eq!(rt; evicted, Some(wanted));
     }
 
     // All are in COLD behind a tend. The last one there has expired when a put asks for room, and the others never do.
@@ -117,23 +140,11 @@ impl<N: Name + LogName> Few<N> {
             self.put_until(rt, key, expires, key);
         }
         self.stand.tend(rt, 10);
-        assert!(rt; self.stand.get(0, &0, 11).is_some());
-        let first = self.put_until(rt, 10, 0, 50).evicted;
-        let second = self.put_until(rt, 11, 0, 51).evicted;
-        let expired = Evicted {
-            key: 0,
-            value: 0,
-            cause: Cause::Expired,
-        };
-        let evicted = Evicted {
-            key: 1,
-            value: 1,
-            cause: Cause::Room,
-        };
-        assert_eq!(rt; first, Some(expired));
-        assert_eq!(rt; second, Some(evicted));
+        expect_that!(rt; self.stand.get(0, &0, 11).is_some());
+        self.check_evicted(rt, 10, 50, 0, Cause::Expired);
+        self.check_evicted(rt, 11, 51, 1, Cause::Room);
         let stats = self.stand.stats(rt);
-        assert_eq!(rt;
+        expect_eq!(rt;
             (
                 stats.reclaimed(),
                 stats.evicted(),
@@ -143,54 +154,78 @@ impl<N: Name + LogName> Few<N> {
         );
     }
 
-    // The ten items are at the first ten chunks, and each second one has expired.
-    fn check_sweep<R: Wait + Abort>(&mut self, rt: &R) {
+    // Puts ten items, of which each second one expires at 20, and the others at 30.
+    fn put_ten<R: Wait + Abort>(&mut self, rt: &R) {
         for key in 0..10 {
             self.put_until(rt, key, 20 + key % 2 * 10, 1);
         }
-        for (turn, swept) in [(1, 2), (2, 4), (3, 5), (4, 5)] {
-            self.stand.tend(rt, 20);
-            assert_eq!(rt;
-                self.stand.stats(rt).crawler_reclaimed(),
-                swept,
-                "turn {turn}"
-            );
-        }
+    }
+
+    // Of those the others are there at 20.
+    fn expect_odd<R: Wait + Abort>(&mut self, rt: &R) {
         for key in 0..10 {
             self.expect(rt, key, 20, key % 2 == 1);
         }
-        assert_eq!(rt; self.stand.stats(rt).expired_unfetched(), 5);
+    }
+
+    // Behind this tend so many have been found that had expired.
+    fn check_turn<R: Wait + Abort>(&mut self, rt: &R, turn: u32, swept: u64) {
+        self.stand.tend(rt, 20);
+        let found = self.stand.stats(rt).crawler_reclaimed();
+        assert_eq!(rt; found, swept, "turn {turn}");
+    }
+
+    // The ten items are at the first ten chunks, and each second one has expired.
+    fn check_sweep<R: Wait + Abort>(&mut self, rt: &R) {
+        self.put_ten(rt);
+        for (turn, swept) in [(1, 2), (2, 4), (3, 5), (4, 5)] {
+            self.check_turn(rt, turn, swept);
+        }
+        self.expect_odd(rt);
+        expect_eq!(rt; self.stand.stats(rt).expired_unfetched(), 5);
     }
 
     // The ten items are at the first ten of twelve chunks, and each second one has expired. A call looks at four: the
     // first one ends its looks before that of key 4.
     fn check_told<R: Wait + Abort>(&mut self, rt: &R) {
-        for key in 0..10 {
-            self.put_until(rt, key, 20 + key % 2 * 10, 1);
-        }
-        assert!(rt; self.stand.get(0, &6, 19).is_some());
-        assert_eq!(rt; self.stand.take_expired(rt, 0, 19), None);
+        self.put_ten(rt);
+        expect_that!(rt; self.stand.get(0, &6, 19).is_some());
+        self.expect_told_none(rt, 19);
         for key in [4, 6, 8, 0, 2] {
-            let expired = Evicted {
-                key,
-                value: key,
-                cause: Cause::Expired,
-            };
-            assert_eq!(rt; self.stand.take_expired(rt, 0, 20), Some(expired));
+            self.expect_told(rt, key, 20);
         }
         for _ in 0..3 {
-            assert_eq!(rt; self.stand.take_expired(rt, 0, 29), None);
+            self.expect_told_none(rt, 29);
         }
-        assert_eq!(rt; self.stand.take_expired(rt, 1, 30), None, "no such part");
-        for key in 0..10 {
-            self.expect(rt, key, 20, key % 2 == 1);
-        }
+        let of_none = self.stand.take_expired(rt, 1, 30);
+        expect(rt, "no such part", &of_none, &None);
+        self.expect_odd(rt);
+        self.check_told_counts(rt);
+    }
+
+    // This key's item is the next one that has expired.
+    fn expect_told<R: Wait + Abort>(&mut self, rt: &R, key: u64, now: u64) {
+        let expired = Evicted {
+            key,
+            value: key,
+            cause: Cause::Expired,
+        };
+        expect_eq!(rt; self.stand.take_expired(rt, 0, now), Some(expired));
+    }
+
+    // Nothing more has expired.
+    fn expect_told_none<R: Wait + Abort>(&mut self, rt: &R, now: u64) {
+        expect_eq!(rt; self.stand.take_expired(rt, 0, now), None);
+    }
+
+    // Five were told, of which one had been found by a get.
+    fn check_told_counts<R: Wait + Abort>(&mut self, rt: &R) {
         let stats = self.stand.stats(rt);
-        assert_eq!(rt;
+        expect_eq!(rt;
             (stats.crawler_reclaimed(), stats.expired_unfetched()),
             (5, 4)
         );
-        assert_eq!(rt; (stats.evicted(), stats.reclaimed()), (0, 0));
+        expect_eq!(rt; (stats.evicted(), stats.reclaimed()), (0, 0));
     }
 
     // Takes what has expired of a part, and counts how often each of so many keys is told.
@@ -199,8 +234,8 @@ impl<N: Name + LogName> Few<N> {
             let Some(it) = self.stand.take_expired(rt, part, now) else {
                 return;
             };
-            assert_eq!(rt; (it.value, it.cause), (it.key, Cause::Expired));
-            assert_eq!(rt; self.stand.part_of(&it.key), part);
+            expect_eq!(rt; (it.value, it.cause), (it.key, Cause::Expired));
+            expect_eq!(rt; self.stand.part_of(&it.key), part);
             if let Some(times) = told.get_mut(it.key as usize) {
                 *times = times.saturating_add(1);
             }
@@ -217,13 +252,18 @@ impl<N: Name + LogName> Few<N> {
         for part in 0..=PARTS {
             self.take_all(rt, part, 30, &mut told);
         }
-        for (key, times) in told.iter().enumerate() {
-            let wanted = if key % 3 == 2 { 0 } else { 1 };
-            assert_eq!(rt; *times, wanted, "key {key}");
-        }
-        assert_eq!(rt; self.stand.stats(rt).crawler_reclaimed(), 20);
+        check_thirds(rt, &told);
+        expect_eq!(rt; self.stand.stats(rt).crawler_reclaimed(), 20);
         self.stand.tend(rt, 30);
-        assert_eq!(rt; self.stand.stats(rt).crawler_reclaimed(), 20);
+        expect_eq!(rt; self.stand.stats(rt).crawler_reclaimed(), 20);
+    }
+}
+
+// Of three keys in a row the first two are told once, and the third never.
+fn check_thirds(rt: &impl Abort, told: &[u32]) {
+    for (key, times) in told.iter().enumerate() {
+        let wanted = if key % 3 == 2 { 0 } else { 1 };
+        assert_eq!(rt; *times, wanted, "key {key}");
     }
 }
 

@@ -2,6 +2,7 @@
 
 ghost use Rattle.bump_cache.specs.Opening.{IsNamed};
 
+use crate::expecting::*;
 use crate::stands::{Stand, config_of};
 use bump_cache::{CacheBlank, LogName, Name, Put};
 use std::alloc::{AllocError, Global};
@@ -43,43 +44,57 @@ impl<N: Name + LogName> Busy<N> {
         )
     }
 
-    // Puts all items, and reads them.
-    fn fill<R: Wait + Abort>(&mut self, rt: &R) {
+    // The key has this.
+    fn expect_value<R: Abort>(&mut self, rt: &R, key: u64, wanted: Option<u64>) {
+        expect_eq!(rt; self.stand.peek(0, &key, 2), wanted);
+    }
+
+    // So many items went from COLD to WARM.
+    fn expect_moved<R: Wait + Abort>(&mut self, rt: &R, wanted: u64) {
+        expect_eq!(rt; self.stand.stats(rt).flow.cold_to_warm, wanted);
+    }
+
+    // Puts all items, which a tend moves to COLD.
+    fn put_all<R: Wait + Abort>(&mut self, rt: &R) {
         for key in 0..ITEMS {
-            assert!(rt; self.stand.put(rt, key, key, 0).is_ok());
+            expect_that!(rt; self.stand.put(rt, key, key, 0).is_ok());
         }
         self.stand.tend(rt, 0);
-        assert_eq!(rt; u64::from(self.stand.stats(rt).number_cold), ITEMS);
+        expect_eq!(rt; u64::from(self.stand.stats(rt).number_cold), ITEMS);
+    }
+
+    // Reads each twice.
+    fn read_all<R: Abort>(&mut self, rt: &R) {
         for key in 0..ITEMS {
-            assert_eq!(rt; self.stand.get(0, &key, 1), Some(key));
-            assert_eq!(rt; self.stand.get(0, &key, 1), Some(key));
+            expect_eq!(rt; self.stand.get(0, &key, 1), Some(key));
+            expect_eq!(rt; self.stand.get(0, &key, 1), Some(key));
         }
-        assert_eq!(rt; self.stand.bumps_dropped(), 0);
+        expect_eq!(rt; self.stand.bumps_dropped(), 0);
     }
 
     // Ten keys are removed, whose chunks their bumps hold, which are the last ones. The first put takes the spare chunk,
     // and the second finds none: so it applies all bumps.
     fn check_anew<R: Wait + Abort>(&mut self, rt: &R) {
         for key in 90..ITEMS {
-            assert_eq!(rt; self.stand.remove(rt, &key, 2), Some(key));
+            expect_eq!(rt; self.stand.remove(rt, &key, 2), Some(key));
         }
-        assert!(rt; self.put_anew(rt, 50, 7));
-        assert_eq!(rt; self.stand.stats(rt).flow.cold_to_warm, 0);
-        assert!(rt; self.put_anew(rt, 51, 7));
+        expect_that!(rt; self.put_anew(rt, 50, 7));
+        self.expect_moved(rt, 0);
+        expect_that!(rt; self.put_anew(rt, 51, 7));
         // those of the ten keys and of the first one's old item find it gone
-        assert_eq!(rt; self.stand.stats(rt).flow.cold_to_warm, 89);
+        self.expect_moved(rt, 89);
         for key in 52..60 {
-            assert!(rt; self.put_anew(rt, key, 7));
+            expect_that!(rt; self.put_anew(rt, key, 7));
         }
-        assert_eq!(rt; self.stand.peek(0, &50, 2), Some(57));
-        assert_eq!(rt; self.stand.peek(0, &51, 2), Some(58));
-        assert_eq!(rt; self.stand.peek(0, &90, 2), None);
+        self.expect_value(rt, 50, Some(57));
+        self.expect_value(rt, 51, Some(58));
+        self.expect_value(rt, 90, None);
     }
 
     // The first put takes the spare chunk. For the second one is evicted, whose chunk its bump holds: so it applies all
     // bumps.
     fn check_new<R: Wait + Abort>(&mut self, rt: &R) {
-        assert!(rt; self.put_anew(rt, 99, 7));
+        expect_that!(rt; self.put_anew(rt, 99, 7));
         let put = self.stand.put(rt, 1_000, 7, 0);
         let Ok(
             Put {
@@ -90,10 +105,10 @@ impl<N: Name + LogName> Busy<N> {
         else {
             panic!(rt; "one is evicted, and there is room")
         };
-        assert_eq!(rt; self.stand.peek(0, &evicted.key, 2), None);
-        assert_eq!(rt; self.stand.peek(0, &1_000, 2), Some(7));
-        assert_eq!(rt; self.stand.peek(0, &99, 2), Some(106));
-        assert_eq!(rt; self.stand.stats(rt).evicted(), 1);
+        self.expect_value(rt, evicted.key, None);
+        self.expect_value(rt, 1_000, Some(7));
+        self.expect_value(rt, 99, Some(106));
+        expect_eq!(rt; self.stand.stats(rt).evicted(), 1);
     }
 }
 
@@ -109,7 +124,8 @@ fn run<N: Name + LogName, R: Wait + Abort>(
     let mut busy = Busy {
         stand: Stand::<N, u64, u64>::open(alloc, rt, blank)?,
     };
-    busy.fill(rt);
+    busy.put_all(rt);
+    busy.read_all(rt);
     match case {
         Case::Anew => busy.check_anew(rt),
         Case::New => busy.check_new(rt),

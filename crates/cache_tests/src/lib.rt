@@ -9,6 +9,8 @@ mod changes;
 #[cfg(test)]
 mod evictions;
 #[cfg(test)]
+mod expecting;
+#[cfg(test)]
 mod expiry;
 #[cfg(test)]
 mod held_chunks;

@@ -459,17 +459,8 @@ impl Lists {
         self.linked().saturating_add(held) >= self.chunks
     }
 
-    /// Puts a key for which there is a chunk, and which expires then or never (0). It tells which key is evicted.
-    pub fn put(&mut self, key: u64, expires: u64, now: u64) -> Result<Option<u64>, AllocError> {
-        let has_turn = self.puts.saturating_add(1) == LOOKS;
-        if has_turn {
-            self.drain(PUT_BUMPS, now)?;
-        }
-        let evicted = self.evict_where_full(key, now)?;
-        if self.is_out_of_chunks() {
-            self.drain(self.ring, now)?;
-        }
-        self.take(key);
+    // A new item goes to the front of TEMP or HOT.
+    fn link(&mut self, key: u64, expires: u64, now: u64) -> Result<(), AllocError> {
         let item = Item {
             number: self.placed,
             key,
@@ -484,6 +475,21 @@ impl Lists {
             self.hot.push_front(item)?;
         }
         self.placed = self.placed.saturating_add(1);
+        Ok(())
+    }
+
+    /// Puts a key for which there is a chunk, and which expires then or never (0). It tells which key is evicted.
+    pub fn put(&mut self, key: u64, expires: u64, now: u64) -> Result<Option<u64>, AllocError> {
+        let has_turn = self.puts.saturating_add(1) == LOOKS;
+        if has_turn {
+            self.drain(PUT_BUMPS, now)?;
+        }
+        let evicted = self.evict_where_full(key, now)?;
+        if self.is_out_of_chunks() {
+            self.drain(self.ring, now)?;
+        }
+        self.take(key);
+        self.link(key, expires, now)?;
         self.puts = self.puts.saturating_add(1);
         if has_turn {
             self.puts = 0;

@@ -3,6 +3,7 @@
 
 ghost use Rattle.bump_cache.specs.Opening.{IsNamed};
 
+use crate::expecting::*;
 use crate::stands::{SEED, Stand};
 use bump_cache::{CacheBlank, CacheConfig, CacheFault, LogName, Name};
 use std::alloc::Global;
@@ -70,6 +71,19 @@ fn wrong_behind<N: Name + LogName, W: Wait>(
 }
 
 // Puts all keys three times, with a tend before the last time. Each time each reader gets each key.
+fn check_puts<N: Name + LogName, R: Wait + Abort>(
+    rt: &R,
+    stand: &mut Stand<N, u64, u64>,
+    keys: u64,
+    readers: u32,
+) {
+    expect_eq!(rt; wrong_behind(rt, stand, keys, readers, 1), 0);
+    expect_eq!(rt; wrong_behind(rt, stand, keys, readers, 2), 0);
+    stand.tend(rt, 3);
+    expect_eq!(rt; wrong_behind(rt, stand, keys, readers, 4), 0);
+}
+
+// Most of the parts have keys, and each reader gets all.
 fn run<N: Name + LogName, R: Wait + Abort>(
     rt: &R,
     alloc: Global,
@@ -82,14 +96,11 @@ fn run<N: Name + LogName, R: Wait + Abort>(
     let mut stand = Stand::<N, u64, u64>::open(alloc, rt, blank)?;
     let keys = u64::from(parts).saturating_mul(u64::from(KEYS));
     let with_keys = parts_with_keys(&stand, keys);
-    assert!(rt; with_keys.saturating_mul(8) >= (parts as usize).saturating_mul(7));
-    assert_eq!(rt; wrong_behind(rt, &mut stand, keys, readers, 1), 0);
-    assert_eq!(rt; wrong_behind(rt, &mut stand, keys, readers, 2), 0);
-    stand.tend(rt, 3);
-    assert_eq!(rt; wrong_behind(rt, &mut stand, keys, readers, 4), 0);
+    expect_that!(rt; with_keys.saturating_mul(8) >= (parts as usize).saturating_mul(7));
+    check_puts(rt, &mut stand, keys, readers);
     let gets = keys.saturating_mul(u64::from(readers)).saturating_mul(3);
-    assert_eq!(rt; stand.hits_and_misses(), (gets, 0));
-    assert_eq!(rt; stand.get(readers as usize, &1, 4), None);
+    expect_eq!(rt; stand.hits_and_misses(), (gets, 0));
+    expect_eq!(rt; stand.get(readers as usize, &1, 4), None);
     Ok(())
 }
 
@@ -127,32 +138,41 @@ fn fault_of(items: u32, spare: u32, parts: u32, readers: u32) -> Option<CacheFau
     config.fault()
 }
 
+// They have this one, or none.
+fn expect_fault(
+    rt: &impl Abort,
+    items: u32,
+    spare: u32,
+    parts: u32,
+    readers: u32,
+    wanted: Option<CacheFault>,
+) {
+    expect_eq!(rt; fault_of(items, spare, parts, readers), wanted);
+}
+
 #[test]
 fn parts_and_readers_have_bounds(rt: HostRuntime) {
-    assert_eq!(rt; fault_of(256, 1, 256, 64), None);
-    assert_eq!(rt; fault_of(257, 1, 257, 1), Some(CacheFault::Parts));
-    assert_eq!(rt; fault_of(255, 1, 256, 1), Some(CacheFault::Parts));
-    assert_eq!(rt; fault_of(300, 1, 0, 1), Some(CacheFault::Parts));
-    assert_eq!(rt; fault_of(300, 1, 256, 65), Some(CacheFault::Readers));
-    assert_eq!(rt; fault_of(300, 1, 1, 65), Some(CacheFault::Readers));
-    assert_eq!(rt; fault_of(300, 1, 256, 0), Some(CacheFault::Readers));
-    assert_eq!(rt; fault_of(300, 1, 256, u32::MAX), Some(CacheFault::Readers));
+    expect_fault(&rt, 256, 1, 256, 64, None);
+    expect_fault(&rt, 257, 1, 257, 1, Some(CacheFault::Parts));
+    expect_fault(&rt, 255, 1, 256, 1, Some(CacheFault::Parts));
+    expect_fault(&rt, 300, 1, 0, 1, Some(CacheFault::Parts));
+    expect_fault(&rt, 300, 1, 256, 65, Some(CacheFault::Readers));
+    expect_fault(&rt, 300, 1, 1, 65, Some(CacheFault::Readers));
+    expect_fault(&rt, 300, 1, 256, 0, Some(CacheFault::Readers));
+    expect_fault(&rt, 300, 1, 256, u32::MAX, Some(CacheFault::Readers));
 }
 
 #[test]
 fn items_and_chunks_have_bounds(rt: HostRuntime) {
-    assert_eq!(rt; fault_of(127_999_999, 1, 1, 1), None);
-    assert_eq!(rt; fault_of(127_999_744, 1, 256, 64), None);
-    assert_eq!(rt; fault_of(127_999_745, 1, 256, 64), Some(CacheFault::Spare));
-    assert_eq!(rt; fault_of(128_000_000, 1, 1, 1), Some(CacheFault::Spare));
-    assert_eq!(rt; fault_of(128_000_000, 0, 1, 1), Some(CacheFault::Spare));
-    assert_eq!(rt; fault_of(128_000_001, 1, 1, 1), Some(CacheFault::Items));
-    assert_eq!(rt; fault_of(u32::MAX, 1, 1, 1), Some(CacheFault::Items));
-    assert_eq!(rt; fault_of(64_000_000, 250_000, 256, 64), None);
-    assert_eq!(rt;
-        fault_of(64_000_001, 250_000, 256, 64),
-        Some(CacheFault::Spare)
-    );
+    expect_fault(&rt, 127_999_999, 1, 1, 1, None);
+    expect_fault(&rt, 127_999_744, 1, 256, 64, None);
+    expect_fault(&rt, 127_999_745, 1, 256, 64, Some(CacheFault::Spare));
+    expect_fault(&rt, 128_000_000, 1, 1, 1, Some(CacheFault::Spare));
+    expect_fault(&rt, 128_000_000, 0, 1, 1, Some(CacheFault::Spare));
+    expect_fault(&rt, 128_000_001, 1, 1, 1, Some(CacheFault::Items));
+    expect_fault(&rt, u32::MAX, 1, 1, 1, Some(CacheFault::Items));
+    expect_fault(&rt, 64_000_000, 250_000, 256, 64, None);
+    expect_fault(&rt, 64_000_001, 250_000, 256, 64, Some(CacheFault::Spare));
     // multiplied by the parts it is 2^32
-    assert_eq!(rt; fault_of(256, 16_777_216, 256, 64), Some(CacheFault::Spare));
+    expect_fault(&rt, 256, 16_777_216, 256, 64, Some(CacheFault::Spare));
 }

@@ -2,9 +2,11 @@
 
 ghost use Rattle.bump_cache.specs.Opening.{IsNamed};
 
+use crate::expecting::*;
 use crate::stands::{Entry, Stand, config_of};
 use bump_cache::{CacheBlank, CacheConfig, LogName, Miss, Name};
 use std::alloc::{AllocError, Global};
+use std::fmt::Debug;
 use std::marker::Brand;
 use std::ops::Range;
 use std::process::Abort;
@@ -52,7 +54,7 @@ impl<N: Name + LogName> Small<N> {
     fn put<R: Wait + Abort>(&mut self, rt: &R, key: u64, expires: u64) {
         let entry = Entry { key, value: key };
         let put = self.stand.put_until(rt, &entry, expires, self.now);
-        assert!(rt; put.is_ok());
+        expect_that!(rt; put.is_ok());
         if self.holds_one {
             self.zero = None;
             self.one = None;
@@ -87,35 +89,43 @@ impl<N: Name + LogName> Small<N> {
         }
     }
 
+    // What a read of a key is to find, and why nothing.
+    fn wanted(&self, key: u64) -> (Option<u64>, Miss) {
+        match self.expires(key) {
+            Some(at) if at == 0 || self.now < at => (Some(key), Miss::Absent),
+            Some(_) => (None, Miss::Expired),
+            None => (None, Miss::Absent),
+        }
+    }
+
+    // What a read of this kind finds.
+    fn read(&mut self, read: u32, key: u64) -> Option<u64> {
+        match read {
+            0 => self.stand.get(0, &key, self.now),
+            1 => self.stand.peek(0, &key, self.now),
+            _ => self.stand.contains(0, &key, self.now).then_some(key),
+        }
+    }
+
     // Each read of a key finds what is there, and where it finds nothing it says why. A read of another key of its part
     // comes before each, so that what was said before is another answer.
     fn check<R: Wait + Abort>(&mut self, rt: &R, key: u64) {
-        let expires = self.expires(key);
-        let is_there = expires.is_some_and(|at| at == 0 || self.now < at);
-        let wanted = if is_there { Some(key) } else { None };
-        let miss = if expires.is_some() {
-            Miss::Expired
-        } else {
-            Miss::Absent
-        };
-        assert_eq!(rt; self.stand.look(rt, &key, self.now), wanted);
+        let (wanted, told) = self.wanted(key);
+        expect_eq!(rt; self.stand.look(rt, &key, self.now), wanted);
         let never_put = self.never_put(key);
         for read in 0..3 {
-            assert!(rt; !self.stand.contains(0, &never_put, self.now));
-            let found = match read {
-                0 => self.stand.get(0, &key, self.now),
-                1 => self.stand.peek(0, &key, self.now),
-                _ => self.stand.contains(0, &key, self.now).then_some(key),
-            };
-            assert_eq!(rt; found, wanted, "read {read} of key {key}");
-            let told = if is_there { Miss::Absent } else { miss };
-            assert_eq!(rt;
-                self.stand.last_miss(0, &key),
-                Some(told),
-                "read {read} of key {key}"
-            );
+            expect_that!(rt; !self.stand.contains(0, &never_put, self.now));
+            let found = self.read(read, key);
+            expect_read(rt, read, key, &found, &wanted);
+            let why = self.stand.last_miss(0, &key);
+            expect_read(rt, read, key, &why, &Some(told));
         }
     }
+}
+
+// What a read of this kind came to is what was wanted.
+fn expect_read<T: PartialEq + Debug>(rt: &impl Abort, read: u32, key: u64, came: &T, wanted: &T) {
+    assert_eq!(rt; came, wanted, "read {read} of key {key}");
 }
 
 // Makes the calls of a sequence, and reads behind each.

@@ -238,19 +238,24 @@ impl Model {
         self.has(key, now).map(|had| had.value)
     }
 
-    /// Whether the statistics add up, and tell what the calls came to.
-    pub fn agrees(&self, stats: &Stats) -> bool {
-        let flow = stats.flow;
-        adds_up(stats)
-            && items_in(stats) == self.map.len() as u64
-            && sum(&[flow.linked, flow.linked_temp]) == self.placed
-            && stats.evicted() == self.evicted
+    // Whether the statistics tell what was evicted, and what had expired.
+    fn has_ended(&self, stats: &Stats) -> bool {
+        stats.evicted() == self.evicted
             && stats.direct_reclaims() == self.evicted
             && stats.evicted_unfetched() == self.unfetched
             && stats.reclaimed() == self.reclaimed
             && stats.crawler_reclaimed() == self.swept
             && stats.expired_unfetched() == self.expired_unfetched
             && sum(&[stats.evicted_unfetched(), stats.evicted_active()]) <= stats.evicted()
+    }
+
+    /// Whether the statistics add up, and tell what the calls came to.
+    pub fn agrees(&self, stats: &Stats) -> bool {
+        let flow = stats.flow;
+        adds_up(stats)
+            && items_in(stats) == self.map.len() as u64
+            && sum(&[flow.linked, flow.linked_temp]) == self.placed
+            && self.has_ended(stats)
             && stats.moves_to_cold == sum(&[flow.hot_to_cold, flow.warm_to_cold])
             && stats.moves_to_warm == sum(&[flow.hot_to_warm, flow.cold_to_warm])
             && stats.moves_within_lru == flow.warm_to_warm

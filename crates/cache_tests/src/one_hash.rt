@@ -2,6 +2,7 @@
 
 ghost use Rattle.bump_cache.specs.Opening.{IsNamed};
 
+use crate::expecting::*;
 use crate::stands::{SEED, Stand};
 use bump_cache::{CacheBlank, CacheConfig, LogName, Name, Seed};
 use std::alloc::{AllocError, Global};
@@ -64,6 +65,57 @@ fn count(at: &mut u64, right: bool) {
     *at = at.saturating_add(u64::from(!right));
 }
 
+// Puts these keys, which are new.
+fn put_all<N: Name + LogName, W: Wait>(
+    rt: &W,
+    stand: &mut Stand<N, u64, u64>,
+    keys: &[u64],
+    put_ones: usize,
+    wrong: &mut u64,
+) {
+    for key in keys.iter().take(put_ones) {
+        let put = stand.put(rt, *key, *key ^ 1, 0);
+        let is_new = put.is_ok_and(|did| did.old.is_none() && did.evicted.is_none());
+        count(wrong, is_new);
+    }
+}
+
+// Gets all keys.
+fn get_all<N: Name + LogName>(
+    stand: &mut Stand<N, u64, u64>,
+    keys: &[u64],
+    put_ones: usize,
+    wrong: &mut u64,
+) {
+    for (at, key) in keys.iter().enumerate() {
+        let wanted = if at < put_ones { Some(*key ^ 1) } else { None };
+        count(wrong, stand.get(0, key, 1) == wanted);
+    }
+}
+
+// Removes a key.
+fn remove<N: Name + LogName, W: Wait>(
+    rt: &W,
+    stand: &mut Stand<N, u64, u64>,
+    key: u64,
+    wrong: &mut u64,
+) {
+    count(wrong, stand.remove(rt, &key, 1) == Some(key ^ 1));
+    count(wrong, stand.get(0, &key, 1).is_none());
+}
+
+// Puts a key anew.
+fn put_anew<N: Name + LogName, W: Wait>(
+    rt: &W,
+    stand: &mut Stand<N, u64, u64>,
+    key: u64,
+    wrong: &mut u64,
+) {
+    let put = stand.put(rt, key, key, 0);
+    count(wrong, put.is_ok_and(|did| did.old == Some(key ^ 1)));
+    count(wrong, stand.get(0, &key, 1) == Some(key));
+}
+
 // How many calls on a cache answer something wrong: so many of the keys are put, and all got; each second one is removed
 // and not found any more; and the others are put anew.
 fn count_wrong<N: Name + LogName, W: Wait>(
@@ -73,23 +125,13 @@ fn count_wrong<N: Name + LogName, W: Wait>(
     put_ones: usize,
 ) -> u64 {
     let mut wrong = 0u64;
-    for key in keys.iter().take(put_ones) {
-        let put = stand.put(rt, *key, *key ^ 1, 0);
-        let is_new = put.is_ok_and(|did| did.old.is_none() && did.evicted.is_none());
-        count(&mut wrong, is_new);
-    }
-    for (at, key) in keys.iter().enumerate() {
-        let wanted = if at < put_ones { Some(*key ^ 1) } else { None };
-        count(&mut wrong, stand.get(0, key, 1) == wanted);
-    }
+    put_all(rt, stand, keys, put_ones, &mut wrong);
+    get_all(stand, keys, put_ones, &mut wrong);
     for (at, key) in keys.iter().take(put_ones).enumerate() {
         if at % 2 == 0 {
-            count(&mut wrong, stand.remove(rt, key, 1) == Some(*key ^ 1));
-            count(&mut wrong, stand.get(0, key, 1).is_none());
+            remove(rt, stand, *key, &mut wrong);
         } else {
-            let put = stand.put(rt, *key, *key, 0);
-            count(&mut wrong, put.is_ok_and(|did| did.old == Some(*key ^ 1)));
-            count(&mut wrong, stand.get(0, key, 1) == Some(*key));
+            put_anew(rt, stand, *key, &mut wrong);
         }
     }
     wrong
@@ -112,7 +154,7 @@ fn run<N: Name + LogName, W: Wait>(
 #[test]
 fn keys_of_one_hash_are_told_apart(rt: HostRuntime) -> Result<(), Fail> {
     let alloc = rt.alloc();
-    assert_eq!(rt; ONE_HASH.hash_one(1), ONE_HASH.hash_one(2));
+    expect_eq!(&rt; ONE_HASH.hash_one(1), ONE_HASH.hash_one(2));
     for (seed, hashes, items) in [
         (ONE_HASH, Hashes::Any, 1_000),
         (SEED, Hashes::Any, 10_000),
@@ -120,7 +162,7 @@ fn keys_of_one_hash_are_told_apart(rt: HostRuntime) -> Result<(), Fail> {
         (SEED, Hashes::OneTag, 200),
     ] {
         let keys = keys_of(alloc, seed, hashes, items as usize)?;
-        assert_eq!(rt; keys.len(), items as usize + MORE);
+        expect_eq!(&rt; keys.len(), items as usize + MORE);
         let blank = CacheBlank::<u64, u64>::new(alloc, &CacheConfig::new(items, 1, seed))?;
         let wrong = run::<Brand, _>(&rt, alloc, blank, keys.as_slice(), items as usize)?;
         assert_eq!(rt; wrong, 0, "of {items} keys");

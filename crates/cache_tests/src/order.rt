@@ -2,12 +2,14 @@
 
 ghost use Rattle.bump_cache.specs.Opening.{IsNamed};
 
+use crate::expecting::*;
 use crate::lists::Lists;
 use crate::model::items_in;
 use crate::stands::{Entry, Stand, config_of, next};
 use bump_cache::{CacheBlank, CacheConfig, LogName, Name, Put};
 use std::alloc::{AllocError, Global};
 use std::marker::Brand;
+use std::process::Abort;
 use std::sync::Wait;
 use std::test::Fail;
 
@@ -224,27 +226,57 @@ impl<N: Name + LogName> Pair<N> {
         Ok(evicted)
     }
 
-    // A put of a fresh key evicts one item, whatever was read.
-    fn read_twice<W: Wait>(&mut self, rt: &W) -> Result<(), AllocError> {
-        let evicted = self.put_all(rt, 0, 1_000)?;
-        self.note(evicted == 0);
+    // So many items have been evicted, and there are 1,000.
+    fn look_at_evicted<W: Wait>(&mut self, rt: &W, evicted: u64) {
+        self.look(rt);
+        let stats = self.stand.stats(rt);
+        self.note(stats.evicted() == evicted);
+        self.note(items_in(&stats) == 1_000);
+    }
+
+    // Gets each of 1,000 keys twice.
+    fn get_twice(&mut self) -> Result<(), AllocError> {
         for _ in 0..2 {
             for key in 0..1_000 {
                 self.get(key)?;
             }
         }
+        Ok(())
+    }
+
+    // A put of a fresh key evicts one item, whatever was read.
+    fn read_twice<W: Wait>(&mut self, rt: &W) -> Result<(), AllocError> {
+        let evicted = self.put_all(rt, 0, 1_000)?;
+        self.note(evicted == 0);
+        self.get_twice()?;
         let first = self.put(rt, 1_000)?;
         self.note(first.is_some());
-        self.look(rt);
-        let stats = self.stand.stats(rt);
-        self.note(stats.evicted() == 1);
+        self.look_at_evicted(rt, 1);
         let evicted = self.put_all(rt, 1_001, 2_001)?;
         self.note(evicted == 1_000);
-        self.look(rt);
-        let stats = self.stand.stats(rt);
-        self.note(stats.evicted() == 1_001);
-        self.note(items_in(&stats) == 1_000);
+        self.look_at_evicted(rt, 1_001);
         Ok(())
+    }
+
+    // All keys below 40 are in COLD, and got from the last one down, twice each.
+    fn get_from_last<W: Wait>(&mut self, rt: &W) -> Result<(), AllocError> {
+        let stats = self.stand.stats(rt);
+        self.note(stats.number_cold == 40);
+        for key in (0..40).rev() {
+            self.get(key)?;
+            self.get(key)?;
+        }
+        Ok(())
+    }
+
+    // The other ones are in WARM.
+    fn look_at_saved<W: Wait>(&mut self, rt: &W) {
+        let stats = self.stand.stats(rt);
+        self.note(stats.number_warm == 39 && stats.evicted_active() == 0);
+        for key in 0..39 {
+            let seen = self.stand.peek(0, &key, self.now);
+            self.note(seen == Some(key));
+        }
     }
 
     // All are in COLD, and the ones that were put last are read first. The first put has no turn, but COLD's last item is
@@ -252,20 +284,10 @@ impl<N: Name + LogName> Pair<N> {
     fn save<W: Wait>(&mut self, rt: &W) -> Result<(), AllocError> {
         self.put_all(rt, 0, 40)?;
         self.tend(rt)?;
-        let stats = self.stand.stats(rt);
-        self.note(stats.number_cold == 40);
-        for key in (0..40).rev() {
-            self.get(key)?;
-            self.get(key)?;
-        }
+        self.get_from_last(rt)?;
         let first = self.put(rt, 40)?;
         self.note(first == Some(39));
-        let stats = self.stand.stats(rt);
-        self.note(stats.number_warm == 39 && stats.evicted_active() == 0);
-        for key in 0..39 {
-            let seen = self.stand.peek(0, &key, self.now);
-            self.note(seen == Some(key));
-        }
+        self.look_at_saved(rt);
         self.put_all(rt, 41, 80)?;
         self.look(rt);
         Ok(())
@@ -309,6 +331,41 @@ fn wrong_in<W: Wait>(rt: &W, alloc: Global, config: &CacheConfig, case: Case) ->
     Ok(run::<Brand, W>(rt, alloc, blank, config, case)?)
 }
 
+// Random calls on such a cache, of which gets are so many of 64, are as in the model.
+fn check_random<W: Wait + Abort>(
+    rt: &W,
+    alloc: Global,
+    config: &CacheConfig,
+    gets: u64,
+) -> Result<(), Fail> {
+    let case = Case::Random {
+        calls: 2_000,
+        gets,
+        keys: u64::from(config.items) * 3 / 2 + 2,
+    };
+    let wrong = wrong_in(rt, alloc, config, case)?;
+    expect_none_wrong(rt, config, wrong);
+    Ok(())
+}
+
+// Nothing was otherwise than in the model.
+fn expect_none_wrong(rt: &impl Abort, config: &CacheConfig, wrong: u64) {
+    let CacheConfig {
+        items,
+        hot,
+        warm,
+        hot_age,
+        warm_age,
+        ring,
+        ..
+    } = *config;
+    assert_eq!(rt;
+        wrong,
+        0,
+        "of {items} items, {hot} and {warm} percent, {hot_age:?} and {warm_age:?}, {ring} bumps"
+    );
+}
+
 #[test]
 fn items_are_evicted_in_the_models_order(rt: HostRuntime) -> Result<(), Fail> {
     for (items, shares, ages, ring, gets) in [
@@ -330,17 +387,7 @@ fn items_are_evicted_in_the_models_order(rt: HostRuntime) -> Result<(), Fail> {
             warm_age,
             ..config_of(items, ring.saturating_add(1), hot, warm, ring)
         };
-        let case = Case::Random {
-            calls: 2_000,
-            gets,
-            keys: u64::from(items) * 3 / 2 + 2,
-        };
-        let wrong = wrong_in(&rt, rt.alloc(), &config, case)?;
-        assert_eq!(rt;
-            wrong,
-            0,
-            "of {items} items, {hot} and {warm} percent, {hot_age:?} and {warm_age:?}, {ring} bumps"
-        );
+        check_random(&rt, rt.alloc(), &config, gets)?;
     }
     Ok(())
 }
@@ -395,13 +442,13 @@ fn items_grow_old_as_in_the_model(rt: HostRuntime) -> Result<(), Fail> {
 #[test]
 fn a_put_evicts_one(rt: HostRuntime) -> Result<(), Fail> {
     let config = config_of(1_000, 16, 20, 40, 8_192);
-    assert_eq!(rt; wrong_in(&rt, rt.alloc(), &config, Case::Read)?, 0);
+    expect_eq!(&rt; wrong_in(&rt, rt.alloc(), &config, Case::Read)?, 0);
     Ok(())
 }
 
 #[test]
 fn an_eviction_applies_the_bumps_of_a_held_item(rt: HostRuntime) -> Result<(), Fail> {
     let config = config_of(40, 40, 0, 100, 64);
-    assert_eq!(rt; wrong_in(&rt, rt.alloc(), &config, Case::Held)?, 0);
+    expect_eq!(&rt; wrong_in(&rt, rt.alloc(), &config, Case::Held)?, 0);
     Ok(())
 }

@@ -3,6 +3,7 @@
 
 ghost use Rattle.bump_cache.specs.Opening.{IsNamed};
 
+use crate::expecting::*;
 use crate::stands::SEED;
 use bump_cache::{
     Cache, CacheBlank, CacheConfig, CacheFault, CacheReader, Changer, Full, HeldItem, LogName,
@@ -40,6 +41,13 @@ impl<N: Name + LogName> Small<N> {
         let put = self.cache.put(rt, &mut self.changer.me, &key, &value, 1);
         if put.is_err() {
             self.refused = self.refused.saturating_add(1);
+        }
+    }
+
+    // Puts so many keys from this one on.
+    fn put_range<W: Wait>(&mut self, rt: &W, from: u64, count: u64) {
+        for key in 0..count {
+            self.put(rt, from.saturating_add(key), 1);
         }
     }
 
@@ -100,6 +108,26 @@ fn hold_each<'a, N: Name + LogName>(
     Ok(held)
 }
 
+// Puts these keys anew where bumps wait, and where each reader holds an item, too; and then as many new ones as there are
+// items.
+fn put_anew<N: Name + LogName, W: Wait>(
+    rt: &W,
+    alloc: Global,
+    small: &mut Small<N>,
+    readers: &mut [CacheReader<N, u64, u64>],
+    keys: &[u64],
+    items: u64,
+) -> Result<(), Fail> {
+    get_all(readers, keys);
+    small.put_all(rt, keys, TIMES);
+    get_all(readers, keys);
+    let held = hold_each(alloc, readers, keys)?;
+    small.put_all(rt, keys, TIMES);
+    small.put_range(rt, MOST_KEYS, items);
+    drop(held);
+    Ok(())
+}
+
 // A small cache of this configuration is filled, with more keys than it has items; bumps wait, and each reader holds an
 // item. How many puts of keys that are there were refused.
 fn run<N: Name + LogName, R: Wait + Abort>(
@@ -120,23 +148,13 @@ fn run<N: Name + LogName, R: Wait + Abort>(
         changer: Changer::new(caller),
         refused: 0,
     };
-    for key in 0..items.saturating_mul(4) {
-        small.put(rt, key, 1);
-    }
+    small.put_range(rt, 0, items.saturating_mul(4));
     let Some(reader) = readers.first_mut() else {
         panic!(rt; "there is a reader")
     };
     let keys = keys_there(alloc, reader, MOST_KEYS)?;
-    assert!(rt; !keys.is_empty());
-    get_all(&mut readers, &keys);
-    small.put_all(rt, &keys, TIMES);
-    get_all(&mut readers, &keys);
-    let held = hold_each(alloc, &mut readers, &keys)?;
-    small.put_all(rt, &keys, TIMES);
-    for key in 0..items {
-        small.put(rt, MOST_KEYS.saturating_add(key), 1);
-    }
-    drop(held);
+    expect_that!(rt; !keys.is_empty());
+    put_anew(rt, alloc, &mut small, &mut readers, &keys, items)?;
     Ok(small.refused)
 }
 
@@ -157,30 +175,71 @@ fn refused_in<W: Wait + Abort>(
     run::<Brand, W>(rt, alloc, blank, u64::from(items))
 }
 
+// None of them is refused there.
+fn expect_none_refused<W: Wait + Abort>(
+    rt: &W,
+    alloc: Global,
+    items: u32,
+    parts: u32,
+    readers: u32,
+) -> Result<(), Fail> {
+    let refused = refused_in(rt, alloc, items, parts, readers)?;
+    assert_eq!(rt;
+        refused,
+        0,
+        "{items} items, {parts} parts, {readers} readers"
+    );
+    Ok(())
+}
+
 #[test]
 fn a_key_that_is_there_can_be_put(rt: HostRuntime) -> Result<(), Fail> {
     let alloc = rt.alloc();
     for items in 1..MOST_ITEMS + 1 {
         for parts in 1..items.min(16) + 1 {
             for readers in [1, 2, 64 / parts] {
-                let refused = refused_in(&rt, alloc, items, parts, readers)?;
-                assert_eq!(rt;
-                    refused,
-                    0,
-                    "{items} items, {parts} parts, {readers} readers"
-                );
+                expect_none_refused(&rt, alloc, items, parts, readers)?;
             }
         }
     }
     for (items, parts, readers) in [(100, 4, 1), (20, 20, 64), (300, 256, 2)] {
-        let refused = refused_in(&rt, alloc, items, parts, readers)?;
-        assert_eq!(rt;
-            refused,
-            0,
-            "{items} items, {parts} parts, {readers} readers"
-        );
+        expect_none_refused(&rt, alloc, items, parts, readers)?;
     }
     Ok(())
+}
+
+// The key can be put once more; then a put of it is refused, and a set, too, and it keeps what it has.
+fn expect_kept<N: Name + LogName, R: Wait + Abort>(
+    rt: &R,
+    small: &mut Small<N>,
+    other: &mut CacheReader<N, u64, u64>,
+) {
+    small.put(rt, 1, 11);
+    expect_eq!(rt; small.refused, 0);
+    small.put(rt, 1, 12);
+    expect_eq!(rt; small.refused, 1);
+    let set = small.cache.set(rt, &mut small.changer.me, &1, &12, 0, 1);
+    expect_that!(rt; set == Err(Full { evicted: false }));
+    expect_eq!(rt; other.get(&1, 1), Some(11));
+}
+
+// While one reader holds an item that the key had, the key keeps what it has; when that is given back it can be put.
+fn hold_one<N: Name + LogName, R: Wait + Abort>(
+    rt: &R,
+    small: &mut Small<N>,
+    one: &mut CacheReader<N, u64, u64>,
+    other: &mut CacheReader<N, u64, u64>,
+) {
+    small.put(rt, 1, 10);
+    let Some(mut first) = one.get_with(&1, 1) else {
+        panic!(rt; "the key has a value")
+    };
+    expect_kept(rt, small, other);
+    expect_eq!(rt; first.value(), 10);
+    drop(first);
+    small.put(rt, 1, 13);
+    expect_eq!(rt; small.refused, 1);
+    expect_eq!(rt; other.get(&1, 1), Some(13));
 }
 
 // In a cache of one item and one spare chunk for two readers one holds an item that the key had: as many as there are
@@ -205,22 +264,7 @@ fn hold_too_much<N: Name + LogName, R: Wait + Abort>(
     let (Some(mut other), Some(mut one)) = (readers.pop(), readers.pop()) else {
         panic!(rt; "there are two readers")
     };
-    small.put(rt, 1, 10);
-    let Some(mut first) = one.get_with(&1, 1) else {
-        panic!(rt; "the key has a value")
-    };
-    small.put(rt, 1, 11);
-    assert_eq!(rt; small.refused, 0);
-    small.put(rt, 1, 12);
-    assert_eq!(rt; small.refused, 1);
-    let set = small.cache.set(rt, &mut small.changer.me, &1, &12, 0, 1);
-    assert!(rt; set == Err(Full { evicted: false }));
-    assert_eq!(rt; other.get(&1, 1), Some(11));
-    assert_eq!(rt; first.value(), 10);
-    drop(first);
-    small.put(rt, 1, 13);
-    assert_eq!(rt; small.refused, 1);
-    assert_eq!(rt; other.get(&1, 1), Some(13));
+    hold_one(rt, &mut small, &mut one, &mut other);
     Ok(())
 }
 
@@ -249,9 +293,9 @@ fn a_part_has_a_spare_chunk(rt: HostRuntime) {
     for parts in [1, 2, 16, 256] {
         for readers in 1..65 {
             let most = 128_000_000 - parts * (readers + 1);
-            assert_eq!(rt; fault_of(most, parts, readers), None);
-            assert_eq!(rt; fault_of(most + 1, parts, readers), Some(CacheFault::Spare));
-            assert_eq!(rt;
+            expect_eq!(&rt; fault_of(most, parts, readers), None);
+            expect_eq!(&rt; fault_of(most + 1, parts, readers), Some(CacheFault::Spare));
+            expect_eq!(&rt;
                 fault_of(128_000_000, parts, readers),
                 Some(CacheFault::Spare)
             );
@@ -261,5 +305,5 @@ fn a_part_has_a_spare_chunk(rt: HostRuntime) {
         spare: 0,
         ..CacheConfig::new(10, 1, SEED)
     };
-    assert_eq!(rt; none.fault(), Some(CacheFault::Spare));
+    expect_eq!(&rt; none.fault(), Some(CacheFault::Spare));
 }

@@ -2,6 +2,7 @@
 ghost use Rattle.std.specs.Prelude.{◌+◌, ◌≤◌};
 ghost use Rattle.bump_cache.specs.Opening.{IsNamed};
 
+use crate::expecting::*;
 use crate::model::{Model, answer_of};
 use crate::numbered::{Numbered, number_of};
 use crate::stands::{Entry, SEED, Stand, config_of, next};
@@ -224,7 +225,7 @@ fn wrong_small_calls<K: Numbered, V: Numbered, W: Wait>(
 #[test]
 fn each_call_comes_to_what_a_plain_map_has(rt: HostRuntime) -> Result<(), Fail> {
     let alloc = rt.alloc();
-    assert_eq!(rt; wrong_small_calls::<u64, u64, _>(&rt, alloc, CALLS)?, 0);
+    expect_eq!(&rt; wrong_small_calls::<u64, u64, _>(&rt, alloc, CALLS)?, 0);
     Ok(())
 }
 
@@ -233,15 +234,15 @@ fn pairs_and_strings_are_keys_and_values(rt: HostRuntime) -> Result<(), Fail> {
     let alloc = rt.alloc();
     let count = CALLS / 10;
     let wrong = wrong_small_calls::<(u64, u32), u64, _>(&rt, alloc, count)?;
-    assert_eq!(rt; wrong, 0, "of pairs");
+    expect(&rt, "of pairs", &wrong, &0);
     let wrong = wrong_small_calls::<Bytes<1>, Bytes<3>, _>(&rt, alloc, count)?;
-    assert_eq!(rt; wrong, 0, "of short strings");
+    expect(&rt, "of short strings", &wrong, &0);
     let wrong = wrong_small_calls::<Bytes<4>, (u64, u32), _>(&rt, alloc, count)?;
-    assert_eq!(rt; wrong, 0, "of strings of four words");
+    expect(&rt, "of strings of four words", &wrong, &0);
     let wrong = wrong_small_calls::<Bytes<32>, Bytes<32>, _>(&rt, alloc, count / 10)?;
-    assert_eq!(rt; wrong, 0, "of strings of 32 words");
+    expect(&rt, "of strings of 32 words", &wrong, &0);
     let wrong = wrong_small_calls::<u64, Bytes<63>, _>(&rt, alloc, count / 10)?;
-    assert_eq!(rt; wrong, 0, "of the longest strings");
+    expect(&rt, "of the longest strings", &wrong, &0);
     Ok(())
 }
 
@@ -303,6 +304,6 @@ fn a_million_items(rt: HostRuntime) -> Result<(), Fail> {
         expires: false,
     };
     let wrong = wrong_calls::<u64, u64, _>(&rt, rt.alloc(), &config, calls)?;
-    assert_eq!(rt; wrong, 0);
+    expect_eq!(&rt; wrong, 0);
     Ok(())
 }

@@ -3,6 +3,7 @@
 
 ghost use Rattle.bump_cache.specs.Opening.{IsNamed};
 
+use crate::expecting::*;
 use crate::numbered::{Numbered, number_of};
 use crate::stands::{Stand, config_of};
 use bump_cache::{Bytes, CacheBlank, CacheRefusal, LogName, Name, TooLong};
@@ -17,6 +18,25 @@ type Call = &'static str;
 // So many calls are made of each kind.
 const CALLS: u64 = 200;
 
+// Whether a put is right, and gets and a removal behind it.
+fn is_right<N: Name + LogName, W: Wait>(
+    rt: &W,
+    stand: &mut Stand<N, (u64, u32), Bytes<2>>,
+    now: u64,
+) -> Result<bool, TooLong> {
+    let key = <(u64, u32)>::of(now % 15)?;
+    let put = stand.put(rt, key, Bytes::of(now)?, now);
+    let got = stand.get(0, &key, now);
+    let again = stand.get(0, &<(u64, u32)>::of(now % 4)?, now);
+    let removed = if now % 7 == 0 {
+        number_of(&stand.remove(rt, &key, now))
+    } else {
+        Some(now)
+    };
+    let is_right = put.is_ok() && number_of(&got) == Some(now) && removed == Some(now);
+    Ok(is_right && !number_of(&again).is_some_and(|number| number > now))
+}
+
 // Calls of each kind on a cache of ten items, with keys of which there are more. It tells how much was wrong.
 fn check<N: Name + LogName, W: Wait>(
     rt: &W,
@@ -24,17 +44,7 @@ fn check<N: Name + LogName, W: Wait>(
 ) -> Result<u64, TooLong> {
     let mut wrong = 0u64;
     for now in 0..CALLS {
-        let key = <(u64, u32)>::of(now % 15)?;
-        let put = stand.put(rt, key, Bytes::of(now)?, now);
-        let got = stand.get(0, &key, now);
-        let again = stand.get(0, &<(u64, u32)>::of(now % 4)?, now);
-        let removed = if now % 7 == 0 {
-            number_of(&stand.remove(rt, &key, now))
-        } else {
-            Some(now)
-        };
-        let is_right = put.is_ok() && number_of(&got) == Some(now) && removed == Some(now);
-        if !is_right || number_of(&again).is_some_and(|number| number > now) {
+        if !is_right(rt, stand, now)? {
             wrong = wrong.saturating_add(1);
         }
         if now % 5 == 0 {
@@ -86,7 +96,7 @@ fn a_refused_allocation_opens_no_cache(rt: HostRuntime) -> Result<(), Fail> {
             run(&rt, alloc)?
         }
     };
-    assert_eq!(rt; wrong, 0);
+    expect_eq!(&rt; wrong, 0);
     if Box::new(alloc, 0u8).is_err() {
         eprintln!(rt; "no allocation was left")?;
     }

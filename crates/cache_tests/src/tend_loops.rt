@@ -2,6 +2,7 @@
 
 ghost use Rattle.bump_cache.specs.Opening.{IsNamed};
 
+use crate::expecting::*;
 use crate::tended::{EXPIRY, KEYS, LOOKS, Stand, config, open_filled, reclaimed};
 use bump_cache::{Cache, CacheBlank, Changer, LogName, Name};
 use std::alloc::{AllocError, Global};
@@ -83,7 +84,7 @@ fn the_loop_that_sleeps_tends_once_a_pause(rt: HostRuntime) -> Result<(), Fail> 
     let blank = CacheBlank::<u64, u64>::new(rt.alloc(), &config())?;
     let told = run_each::<Brand, HostRuntime>(&rt, rt.alloc(), blank, EXPIRY)?;
     // Each tend looks at ten chunks, and the keys are in the first ones.
-    assert_eq!(rt; told, [KEYS, 3, 21, 0]);
+    expect_eq!(&rt; told, [KEYS, 3, 21, 0]);
     Ok(())
 }
 
@@ -92,7 +93,7 @@ fn what_expires_after_the_clock_outlives_the_loop(rt: HostRuntime) -> Result<(),
     let blank = CacheBlank::<u64, u64>::new(rt.alloc(), &config())?;
     let told = run_each::<Brand, HostRuntime>(&rt, rt.alloc(), blank, EXPIRY - 3)?;
     // The third tend is one tick before the entries expire.
-    assert_eq!(rt; told, [0, 3, 21, 0]);
+    expect_eq!(&rt; told, [0, 3, 21, 0]);
     Ok(())
 }
 
@@ -101,7 +102,7 @@ fn each_tend_is_at_what_the_clock_has_then(rt: HostRuntime) -> Result<(), Fail> 
     let blank = CacheBlank::<u64, u64>::new(rt.alloc(), &config())?;
     let told = run_each::<Brand, HostRuntime>(&rt, rt.alloc(), blank, EXPIRY - 1)?;
     // The first tend is too early for the ten chunks that it looks at; the second one ends the entries in the next ten.
-    assert_eq!(rt; told, [LOOKS.into(), 3, 21, 0]);
+    expect_eq!(&rt; told, [LOOKS.into(), 3, 21, 0]);
     Ok(())
 }
 
@@ -168,6 +169,6 @@ fn tend<N: Name + LogName, W: Wait>(
 fn the_loop_that_never_sleeps_tends_until_it_is_told_to_stop(rt: HostRuntime) -> Result<(), Fail> {
     let blank = CacheBlank::<u64, u64>::new(rt.alloc(), &config())?;
     let ended = run_until::<Brand, HostRuntime>(&rt, rt.alloc(), blank)?;
-    assert_eq!(rt; ended, KEYS);
+    expect_eq!(&rt; ended, KEYS);
     Ok(())
 }

@@ -2,6 +2,7 @@
 
 ghost use Rattle.bump_cache.specs.Opening.{IsNamed};
 
+use crate::expecting::*;
 use crate::stands::{Entry, config_of, put, time_of};
 use bump_cache::{
     Bytes, Cache, CacheBlank, CacheReader, Changer, LogName, Name, Opened, ReaderCounts, open,
@@ -29,6 +30,30 @@ fn published(counts: &ReaderCounts) -> (u64, u64, u64, u64) {
     )
 }
 
+// Each look-up of a text finds what was put under it.
+fn look_up_text<N: Name, R: Abort>(rt: &R, reader: &mut CacheReader<N, Bytes<2>, u64>) {
+    expect_eq!(rt; reader.get_text("fourteen bytes", 1), Some(14));
+    expect_eq!(rt; reader.get_text("fourteen byte", 1), None);
+    expect_that!(rt; reader.contains_text("fourteen bytes", 1));
+    expect_that!(rt; !reader.contains_text("", 1));
+}
+
+// And so does each one of bytes.
+fn look_up_bytes<N: Name, R: Abort>(rt: &R, reader: &mut CacheReader<N, Bytes<2>, u64>) {
+    expect_eq!(rt; reader.get_bytes(&[0, 255, 0], 1), Some(3));
+    expect_eq!(rt; reader.get_bytes(&[0, 255], 1), None);
+    expect_that!(rt; reader.contains_bytes(&[0, 255, 0], 1));
+    expect_that!(rt; !reader.contains_bytes(&[0, 255, 0, 0], 1));
+}
+
+// Nothing is found under a string that is too long.
+fn look_up_long<N: Name, R: Abort>(rt: &R, reader: &mut CacheReader<N, Bytes<2>, u64>) {
+    expect_eq!(rt; reader.get_text(LONG, 1), None);
+    expect_eq!(rt; reader.get_bytes(LONG.as_bytes(), 1), None);
+    expect_that!(rt; !reader.contains_text(LONG, 1));
+    expect_that!(rt; !reader.contains_bytes(LONG.as_bytes(), 1));
+}
+
 // Each look-up finds what was put under the string, and nothing under one that is too long.
 fn look_up<N: Name, R: Abort>(
     rt: &R,
@@ -37,23 +62,14 @@ fn look_up<N: Name, R: Abort>(
 ) -> Result<(), Fail> {
     let counts = ReaderCounts::new(alloc)?;
     let others = counts.try_clone()?;
-    assert_eq!(rt; reader.get_text("fourteen bytes", 1), Some(14));
-    assert_eq!(rt; reader.get_text("fourteen byte", 1), None);
-    assert_eq!(rt; reader.get_bytes(&[0, 255, 0], 1), Some(3));
-    assert_eq!(rt; reader.get_bytes(&[0, 255], 1), None);
-    assert!(rt; reader.contains_text("fourteen bytes", 1));
-    assert!(rt; !reader.contains_text("", 1));
-    assert!(rt; reader.contains_bytes(&[0, 255, 0], 1));
-    assert!(rt; !reader.contains_bytes(&[0, 255, 0, 0], 1));
-    assert_eq!(rt; published(&others), (0, 0, 0, 0));
+    look_up_text(rt, reader);
+    look_up_bytes(rt, reader);
+    expect_eq!(rt; published(&others), (0, 0, 0, 0));
     reader.publish(&counts);
-    assert_eq!(rt; published(&others), (2, 2, 0, 0));
-    assert_eq!(rt; reader.get_text(LONG, 1), None);
-    assert_eq!(rt; reader.get_bytes(LONG.as_bytes(), 1), None);
-    assert!(rt; !reader.contains_text(LONG, 1));
-    assert!(rt; !reader.contains_bytes(LONG.as_bytes(), 1));
+    expect_eq!(rt; published(&others), (2, 2, 0, 0));
+    look_up_long(rt, reader);
     reader.publish(&counts);
-    assert_eq!(rt; published(&others), (2, 2, 0, 0));
+    expect_eq!(rt; published(&others), (2, 2, 0, 0));
     Ok(())
 }
 
@@ -105,6 +121,20 @@ fn remove_beside_tends<N: Name + LogName + Send + Sync, R: Threads + Wait + Cloc
     removed
 }
 
+// Puts two strings.
+fn fill<N: Name + LogName, R: Wait + Abort>(
+    rt: &R,
+    cache: &Cache<N, Bytes<2>, u64>,
+    changer: &mut Changer<N>,
+) -> Result<(), Fail> {
+    for (key, value) in [("fourteen bytes".as_bytes(), 14), (&[0, 255, 0], 3)] {
+        let key = Bytes::new(key)?;
+        let entry = Entry { key, value };
+        expect_that!(rt; put(rt, cache, changer, &entry, 0).is_ok());
+    }
+    Ok(())
+}
+
 fn run<N: Name + LogName + Send + Sync, R: Threads + Wait + Clock + Abort + Sync>(
     rt: &R,
     alloc: Global,
@@ -119,18 +149,14 @@ fn run<N: Name + LogName + Send + Sync, R: Threads + Wait + Clock + Abort + Sync
     } = open::<N, Bytes<2>, u64, R>(alloc, rt, blank)?;
     let tender = Changer::new(me.another());
     let mut changer = Changer::new(me);
-    for (key, value) in [("fourteen bytes".as_bytes(), 14), (&[0, 255, 0], 3)] {
-        let key = Bytes::new(key)?;
-        let entry = Entry { key, value };
-        assert!(rt; put(rt, &cache, &mut changer, &entry, 0).is_ok());
-    }
+    fill(rt, &cache, &mut changer)?;
     let Some(reader) = readers.first_mut() else {
         panic!(rt; "there is a reader")
     };
     look_up(rt, alloc, reader)?;
     let removed = remove_beside_tends(rt, &cache, changer, tender);
-    assert_eq!(rt; removed, [Some(14), None, None, Some(3), None]);
-    assert!(rt; !reader.contains_text("fourteen bytes", 3));
+    expect_eq!(rt; removed, [Some(14), None, None, Some(3), None]);
+    expect_that!(rt; !reader.contains_text("fourteen bytes", 3));
     Ok(())
 }
 

@@ -2,6 +2,7 @@
 
 ghost use Rattle.bump_cache.specs.Opening.{IsNamed};
 
+use crate::expecting::*;
 use crate::model::adds_up;
 use crate::stands::{Entry, config_of, next, put, remove, time_of};
 use bump_cache::{
@@ -9,6 +10,7 @@ use bump_cache::{
 };
 use std::alloc::{AllocError, Global};
 use std::marker::Brand;
+use std::process::Abort;
 use std::sync::Wait;
 use std::sync::atomic::{AtomicBool, AtomicU64, Ordering};
 use std::test::Fail;
@@ -81,6 +83,25 @@ fn count(at: &mut u64, is_so: bool) {
     *at = at.saturating_add(u64::from(is_so));
 }
 
+// A reader gets a key that is always there, which had the value of this number before.
+fn read_staying<N: Name + LogName>(
+    reader: &mut CacheReader<N, u64, Value>,
+    key: u64,
+    now: u64,
+    newest: &mut u64,
+    seen: &mut Seen,
+) {
+    match reader.get(&key, now) {
+        Some(value) => {
+            let number = number_in(key, &value);
+            count(&mut seen.wrong, number == 0);
+            count(&mut seen.older, number < *newest);
+            *newest = number;
+        }
+        None => count(&mut seen.missing, true),
+    }
+}
+
 // A reader's thread: it gets in turn a key that is always there and another one.
 fn read<N: Name + LogName>(mut reader: CacheReader<N, u64, Value>) -> Seen {
     let mut last = [0u64; STAYING as usize];
@@ -93,15 +114,7 @@ fn read<N: Name + LogName>(mut reader: CacheReader<N, u64, Value>) -> Seen {
     for now in 0..GETS / 2 {
         let key = next(&mut seed) % STAYING;
         if let Some(newest) = last.get_mut(key as usize) {
-            match reader.get(&key, now) {
-                Some(value) => {
-                    let number = number_in(key, &value);
-                    count(&mut seen.wrong, number == 0);
-                    count(&mut seen.older, number < *newest);
-                    *newest = number;
-                }
-                None => count(&mut seen.missing, true),
-            }
+            read_staying(&mut reader, key, now, newest, &mut seen);
         }
         let other = next_other(&mut seed);
         if let Some(value) = reader.get(&other, now) {
@@ -128,6 +141,28 @@ fn put_staying<N: Name + LogName, W: Wait>(
     refused
 }
 
+// The writer puts the value of this number under a key.
+fn write_one<N: Name + LogName, W: Wait>(
+    rt: &W,
+    cache: &Cache<N, u64, Value>,
+    changer: &mut Changer<N>,
+    key: u64,
+    number: u64,
+    wrote: &mut Wrote,
+) {
+    let entry = Entry {
+        key,
+        value: value_of(key, number),
+    };
+    match put(rt, cache, changer, &entry, number) {
+        Ok(did) => {
+            let evicted = did.evicted.map(|lost| lost.key);
+            count(&mut wrote.evicted, evicted.is_some_and(|key| key < STAYING));
+        }
+        Err(_) => count(&mut wrote.refused, true),
+    }
+}
+
 // The writer's thread: it puts in turn a key that is always there and another one, and removes others, until the readers
 // are done.
 fn write<N: Name + LogName, W: Wait>(
@@ -150,17 +185,7 @@ fn write<N: Name + LogName, W: Wait>(
         turn = turn.saturating_add(1);
         for key in [turn % STAYING, next_other(&mut seed)] {
             number = number.saturating_add(1);
-            let entry = Entry {
-                key,
-                value: value_of(key, number),
-            };
-            match put(rt, cache, &mut changer, &entry, number) {
-                Ok(did) => {
-                    let evicted = did.evicted.map(|lost| lost.key);
-                    count(&mut wrote.evicted, evicted.is_some_and(|key| key < STAYING));
-                }
-                Err(_) => count(&mut wrote.refused, true),
-            }
+            write_one(rt, cache, &mut changer, key, number, &mut wrote);
         }
         if turn % 3 == 0 {
             remove(rt, cache, &mut changer, &next_other(&mut seed), number);
@@ -207,6 +232,21 @@ fn run_threads<N: Name + LogName + Send + Sync, R: Threads + Wait + Sync>(
     told
 }
 
+// What all readers came to.
+fn sum_of_all(seen: &[Seen]) -> Seen {
+    let mut all = Seen {
+        wrong: 0,
+        missing: 0,
+        older: 0,
+    };
+    for one in seen {
+        all.wrong = all.wrong.saturating_add(one.wrong);
+        all.missing = all.missing.saturating_add(one.missing);
+        all.older = all.older.saturating_add(one.older);
+    }
+    all
+}
+
 // All of it under the names that the blank's table and log have: what the readers and the writer came to, and whether the
 // statistics add up.
 fn run<N: Name + LogName + Send + Sync, R: Threads + Wait + Sync>(
@@ -226,18 +266,13 @@ fn run<N: Name + LogName + Send + Sync, R: Threads + Wait + Sync>(
     let refused = put_staying(rt, &cache, &mut writer);
     let (seen, mut wrote) = run_threads(rt, &cache, readers, writer, tender);
     wrote.refused = wrote.refused.saturating_add(refused);
-    let mut all = Seen {
-        wrong: 0,
-        missing: 0,
-        older: 0,
-    };
-    for one in &seen? {
-        all.wrong = all.wrong.saturating_add(one.wrong);
-        all.missing = all.missing.saturating_add(one.missing);
-        all.older = all.older.saturating_add(one.older);
-    }
     let stats = cache.stats(rt, &mut me);
-    Ok((all, wrote, adds_up(&stats)))
+    Ok((sum_of_all(&seen?), wrote, adds_up(&stats)))
+}
+
+// There were none of these beside so many readers.
+fn expect_none(rt: &impl Abort, what: &str, readers: u32, count: u64) {
+    assert_eq!(rt; count, 0, "{what}, of {readers} readers");
 }
 
 #[test]
@@ -252,13 +287,13 @@ fn readers_beside_a_writer_get_what_was_put(rt: HostRuntime) -> Result<(), Fail>
         };
         let blank = CacheBlank::<u64, Value>::new(rt.alloc(), &config)?;
         let (seen, wrote, add_up) = run::<Brand, _>(&rt, rt.alloc(), blank)?;
-        assert_eq!(rt; seen.wrong, 0, "wrong values, of {readers} readers");
-        assert_eq!(rt; seen.older, 0, "older values, of {readers} readers");
-        assert_eq!(rt; wrote.refused, 0, "puts beside {readers} readers");
+        expect_none(&rt, "wrong values", readers, seen.wrong);
+        expect_none(&rt, "older values", readers, seen.older);
+        expect_none(&rt, "refused puts", readers, wrote.refused);
         if wrote.evicted == 0 {
-            assert_eq!(rt; seen.missing, 0, "of {readers} readers");
+            expect_none(&rt, "missing values", readers, seen.missing);
         }
-        assert!(rt; add_up);
+        expect_that!(&rt; add_up);
     }
     Ok(())
 }
