@@ -13,4 +13,5 @@ pub mod NewParts
 pub mod NewReaders
 pub mod ChangingLemmas
 pub mod VisitLemmas
+pub mod RetainLemmas
 pub mod EndingLemmas

@@ -10,6 +10,7 @@ pub mod Changing
 pub mod Sums
 pub mod Tending
 pub mod Visiting
+pub mod Retaining
 pub mod Ending
 pub mod Caches
 pub mod Bytes

@@ -78,3 +78,42 @@ pub struct Full {
     /// Whether an item was evicted to make room all the same.
     pub evicted: bool,
 }
+
+/// An item as `Cache::retain` shows it.
+#[derive(Clone, Copy, Debug, PartialEq, Eq, Drop)]
+pub struct Item<K, V> {
+    /// The key.
+    pub key: K,
+
+    /// The value that was put under it.
+    pub value: V,
+
+    /// When it expires, in the caller's ticks, or 0 if it never does.
+    pub expires: u64,
+}
+
+/// What a place of a part came to, of which `Cache::retain` asks.
+#[derive(Clone, Copy, Debug, PartialEq, Eq, Drop)]
+pub(crate) enum Asked {
+    /// The part has no such place.
+    NoPlace,
+
+    /// There is no item, or one that has expired: it wasn't asked of.
+    Empty,
+
+    /// There is an item, and it stays.
+    Stays,
+
+    /// There was an item, and it ended.
+    Ended,
+}
+
+/// What `Cache::retain` came to.
+#[derive(Clone, Copy, Debug, PartialEq, Eq, Drop)]
+pub struct Retained {
+    /// How many items ended.
+    pub ended: u32,
+
+    /// The place from which the next call goes on; or None, where the part's last place was looked at.
+    pub next: Option<u32>,
+}

@@ -20,13 +20,14 @@ mod numbered;
 mod opening;
 mod pairs;
 mod readers;
+mod retaining;
 mod setting;
 mod states;
 mod statistics;
 mod tending;
 mod visiting;
 
-pub use answers::{Added, Cause, Evicted, Full, GotOrPut, NoRoom, Put};
+pub use answers::{Added, Cause, Evicted, Full, GotOrPut, Item, NoRoom, Put, Retained};
 pub use blanks::CacheBlank;
 pub use bump_heads::Name;
 pub use bump_rules::{Accounts, ClassConfig, Classes, Config};
