@@ -41,6 +41,8 @@ mod random_calls;
 #[cfg(test)]
 mod refused_memory;
 #[cfg(test)]
+mod retained;
+#[cfg(test)]
 mod sets;
 #[cfg(test)]
 mod stands;

@@ -3,8 +3,8 @@ ghost use Rattle.std.specs.Prelude.{◌≡◌, length};
 ghost use Rattle.bump_cache.specs.Opening.{IsNamed};
 
 use bump_cache::{
-    Cache, CacheBlank, CacheConfig, CacheReader, Changer, Evicted, Full, LogName, Miss, Name,
-    NoRoom, Opened, Packed, Put, Seed, Stats, open,
+    Cache, CacheBlank, CacheConfig, CacheReader, Changer, Evicted, Full, Item, LogName, Miss, Name,
+    NoRoom, Opened, Packed, Put, Retained, Seed, Stats, open,
 };
 use std::alloc::{AllocError, Global};
 use std::sync::Wait;
@@ -140,6 +140,27 @@ impl<N: Name + LogName, K: Packed, V: Packed> Stand<N, K, V> {
     /// Evicts the item of a part whose turn it is, and tells it.
     pub fn evict<W: Wait>(&mut self, rt: &W, part: u32, now: u64) -> Option<Evicted<K, V>> {
         self.cache.evict(rt, &mut self.changer.me, part, now)
+    }
+
+    /// Asks a closure of so many places of a part, and ends the items that it doesn't keep.
+    pub fn retain<W: Wait, F: FnMut(&Item<K, V>) -> bool>(
+        &mut self,
+        rt: &W,
+        part: u32,
+        from: u32,
+        looks: u32,
+        now: u64,
+        mut keep: F,
+    ) -> Retained
+        requires { F.IsAlwaysCallable keep }
+    {
+        let me = &mut self.changer.me;
+        self.cache.retain(rt, me, part, from, looks, now, &mut keep)
+    }
+
+    /// How many parts there are.
+    pub fn parts(&self) -> u32 {
+        self.cache.parts()
     }
 
     /// The part of a key.

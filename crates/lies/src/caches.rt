@@ -3,6 +3,7 @@ ghost use Rattle.bump_cache.specs.Caches.{part_in};
 ghost use Rattle.bump_cache.specs.Changing.{Adds, CallsOnHad, ChangesWhereSome, GetsOrPuts, IfGot, RefusesAnew, RefusesNew, ReplacesWhereSome, TellsFound, TouchesWhereSome};
 ghost use Rattle.bump_cache.specs.Ending.{EvictsOfPart, TakesOfPart};
 ghost use Rattle.bump_cache.specs.Putting.{PutsValue, RefusesValue, RemovesValue};
+ghost use Rattle.bump_cache.specs.Retaining.{AsksOfPart};
 ghost use Rattle.bump_cache.specs.Setting.{PutsWords, RefusesWords};
 ghost use Rattle.bump_cache.specs.States.{from_of, part_called, to_of, now_of};
 ghost use Rattle.bump_cache.specs.Tending.{SumsUpParts, TendsParts, TendsUntilOver};
@@ -14,8 +15,8 @@ ghost use Rattle.std.specs.Fn.{CalledAt};
 ghost use Rattle.std.specs.Prelude.{◌≡◌, ◌+◌, ◌<◌, ◌≤◌, ◌↔◌, IfSome, IfOk, IfErr, None, IfNone, IsNone};
 
 use bump_cache::{
-    Added, Cache, CacheState, Caller, Evicted, Full, GotOrPut, LogName, Name, NoRoom, Packed, Put,
-    Stats,
+    Added, Cache, CacheState, Caller, Evicted, Full, GotOrPut, Item, LogName, Name, NoRoom, Packed,
+    Put, Retained, Stats,
 };
 use std::sync::Wait;
 
@@ -325,6 +326,28 @@ pub fn for_each<N: Name + LogName, K: Packed, V: Packed, W: Wait, F: FnMut(K, V,
     ensures parts { me.new.parts ≡ me.old.parts }
 {
     cache.for_each(rt, me, now, visit)
+}
+
+/// Asks of items, some at a time, whether they stay.
+pub fn retain<N: Name + LogName, K: Packed, V: Packed, W: Wait, F: FnMut(&Item<K, V>) -> bool>(
+    cache: &Cache<N, K, V>,
+    rt: &W,
+    me: &mut Caller<N, CacheState>,
+    part: u32,
+    from: u32,
+    looks: u32,
+    now: u64,
+    keep: &mut F,
+) -> Retained
+    requires part { 0 < me.old.parts }
+    requires callable { F.IsAlwaysCallable keep.old }
+    ensures absent { cache.now.parts ≤ part → (result.ended ≡ 0) × (result.next ≡ None) × (me.new ≡ me.old)
+        × (keep.new ≡ keep.old) }
+    ensures asks { part < cache.now.parts → AsksOfPart K.fits K.as_words V.fits V.as_words (CalledAt F.FnMut) part from
+        looks now result keep.old keep.new me.old me.new }
+    ensures callable { F.IsAlwaysCallable keep.new }
+{
+    cache.retain(rt, me, part, from, looks, now, keep)
 }
 
 /// Tends each part.
